@@ -1,0 +1,3 @@
+pub mod Natives
+pub mod Funcs
+pub mod Shapes

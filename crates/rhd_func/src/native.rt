@@ -1,0 +1,53 @@
+//! Natives are known by what they say of themselves and by the relation of their trait.
+
+ghost use Rattle.std.specs.Prelude.{IfOk, ◌≡◌};
+ghost use Rattle.std.specs.Option.{option_copied};
+
+use crate::request::{NativeCallContext, NativeStep};
+use rhd_value::{Dynamic, OutOfMemory, TypeTag, Values};
+use std::alloc::Global;
+
+/// A function of the host program.
+pub trait PluginFunc: Drop {
+    ghost use Rattle.std.specs.Prelude.{List, Option};
+    ghost use Rattle.rhd_value.specs.Tree.{Tree};
+    ghost use Rattle.rhd_func.specs.Natives.{NativeInfo};
+    ghost use Rattle.rhd_func.specs.declared.request.NativeStep.{NativeStep};
+    ghost use Rattle.rhd_func.specs.declared.request.NativeCallContext.{NativeCallContext};
+
+    /// What it says of itself.
+    ghost info: { Self → NativeInfo };
+
+    /// With this context, first argument by reference and further arguments it may take this step.
+    ghost allows_call: { Self → Option NativeCallContext → Option Tree → List Tree → NativeStep → Type 0 };
+
+    /// Answers every list of arguments: outside its kinds it fails by a fault of its own.
+    fn call(
+        &self,
+        alloc: Global,
+        ctx: Option<&NativeCallContext>,
+        first: Option<Dynamic>,
+        args: Values,
+    ) -> Result<NativeStep, OutOfMemory>
+        ensures { IfOk result (λ step. allows_call self.now (option_copied ctx.entry) first args step) };
+
+    /// The types of its parameters.
+    fn param_types(&self) -> &[TypeTag]
+        ensures { result.now ≡ (info self.now).types };
+
+    /// Whether it takes its first argument by reference.
+    fn is_method_call(&self) -> bool
+        ensures { result ≡ (info self.now).is_method };
+
+    /// Whether it is handed the context of the call.
+    fn has_context(&self) -> bool
+        ensures { result ≡ (info self.now).has_context };
+
+    /// Whether it may be called on a constant.
+    fn is_pure(&self) -> bool
+        ensures { result ≡ (info self.now).is_pure };
+
+    /// Whether it may answer otherwise the next time.
+    fn is_volatile(&self) -> bool
+        ensures { result ≡ (info self.now).is_volatile };
+}

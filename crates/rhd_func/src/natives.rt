@@ -1,0 +1,86 @@
+//! The table of natives.
+
+ghost use Rattle.std.specs.Prelude.{◌≡◌, ◌<◌, ◌+◌, ◌^◌, ◌++◌, ◌∷◌, [], IfOk, IfErr, OnOk, length, slice_get, Some};
+ghost use Rattle.std.specs.Option.{option_copied};
+ghost use Rattle.rhd_func.specs.Natives.{StartAllowed};
+
+use crate::native::PluginFunc;
+use crate::request::{NativeCallContext, NativeStep};
+use rhd_value::{Dynamic, FnId, OutOfMemory, Values};
+use std::alloc::Global;
+
+/// Natives by number, counted from 0.
+#[derive(Drop)]
+pub struct Natives {
+    pub items: Vec<Box<dyn PluginFunc>>,
+}
+
+/// The step of one native.
+fn call_box(
+    native: &Box<dyn PluginFunc>,
+    alloc: Global,
+    ctx: Option<&NativeCallContext>,
+    first: Option<Dynamic>,
+    args: Values,
+) -> Result<NativeStep, OutOfMemory>
+    ensures { IfOk result (λ step. allows_call native.now (option_copied ctx.entry) first args step) }
+{
+    native.call(alloc, ctx, first, args)
+}
+
+impl Natives {
+    pub fn new(alloc: Global) -> Natives
+        ensures { result.items.items ≡ [] }
+    {
+        Natives {
+            items: Vec::new(alloc),
+        }
+    }
+
+    /// Puts a native last, and answers its number. Where memory ran out, hands the native back.
+    pub fn push(
+        &mut self,
+        _alloc: Global,
+        f: Box<dyn PluginFunc>,
+    ) -> Result<FnId, (OutOfMemory, Box<dyn PluginFunc>)>
+        requires { length self.old.items.items + 1 < 2 ^ 32 }
+        ensures number { IfOk result (λ id. id.0 ≡ length self.old.items.items) }
+        ensures ok { OnOk result (self.new.items.items ≡ self.old.items.items ++ f ∷ []) }
+        ensures err { IfErr result (λ e. (self.new.items.items ≡ self.old.items.items) × (e.1 ≡ f)) }
+    {
+        let id = FnId(self.items.len() as u32);
+        match self.items.push(f) {
+            Ok(()) => Ok(id),
+            Err(failed) => Err((OutOfMemory, failed.value)),
+        }
+    }
+
+    /// The native of a number; none where it isn't held.
+    pub fn get(&self, id: FnId) -> Option<&Box<dyn PluginFunc>>
+        ensures { option_copied result ≡ slice_get self.now.items.items id.0 }
+    {
+        self.items.get(id.0 as usize)
+    }
+
+    /// How many natives are held.
+    pub fn len(&self) -> usize
+        ensures { result ≡ length self.now.items.items }
+    {
+        self.items.len()
+    }
+
+    /// Calls the native of a number.
+    pub fn start(
+        &self,
+        alloc: Global,
+        id: FnId,
+        ctx: Option<&NativeCallContext>,
+        first: Option<Dynamic>,
+        args: Values,
+    ) -> Result<NativeStep, OutOfMemory>
+        requires { id.0 < length self.now.items.items }
+        ensures { IfOk result (StartAllowed allows_call self.now.items.items id (option_copied ctx.entry) first args) }
+    {
+        call_box(&self.items[id.0 as usize], alloc, ctx, first, args)
+    }
+}

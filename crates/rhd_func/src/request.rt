@@ -1,0 +1,88 @@
+//! What a call asks for, and what a native is told and answers.
+
+ghost use Rattle.std.specs.Prelude.{IfOk, ◌≡◌};
+
+use rhd_value::{Dynamic, EvalAltResult, OutOfMemory, Position, Text, Values};
+use std::alloc::Global;
+
+/// The arguments of a call.
+#[derive(Drop)]
+pub enum CallShape {
+    /// All by value.
+    Plain(Values),
+}
+
+/// A call that is asked for.
+#[derive(Drop)]
+pub enum CallRequest {
+    /// A call by name.
+    Named {
+        name: Text,
+        /// Whether only natives may answer.
+        native_only: bool,
+        shape: CallShape,
+        pos: Position,
+    },
+}
+
+impl CallShape {
+    /// Equal arguments.
+    pub fn dup(&self, alloc: Global) -> Result<CallShape, OutOfMemory>
+        ensures { IfOk result (λ shape. shape ≡ self.now) }
+    {
+        match self {
+            CallShape::Plain(args) => Ok(CallShape::Plain(args.dup(alloc)?)),
+        }
+    }
+}
+
+impl CallRequest {
+    /// An equal request.
+    pub fn dup(&self, alloc: Global) -> Result<CallRequest, OutOfMemory>
+        ensures { IfOk result (λ request. request ≡ self.now) }
+    {
+        match self {
+            CallRequest::Named {
+                name,
+                native_only,
+                shape,
+                pos,
+            } => Ok(CallRequest::Named {
+                name: name.dup(alloc)?,
+                native_only: *native_only,
+                shape: shape.dup(alloc)?,
+                pos: *pos,
+            }),
+        }
+    }
+}
+
+/// What a native made of its call. A first argument that was given is given back.
+#[derive(Drop)]
+pub enum NativeStep {
+    Done {
+        answer: Dynamic,
+        first: Option<Dynamic>,
+    },
+    Failed {
+        fault: EvalAltResult,
+        first: Option<Dynamic>,
+    },
+}
+
+/// What a native may know of the call.
+#[derive(Drop)]
+pub struct NativeCallContext {
+    /// The name by which it is called.
+    pub name: Text,
+    /// The source of the function.
+    pub source: Option<Text>,
+    /// The source of the caller.
+    pub call_source: Option<Text>,
+    /// The position of the call.
+    pub pos: Position,
+    /// How many calls are open, this one included.
+    pub level: u32,
+    /// The tag of the run.
+    pub tag: Dynamic,
+}

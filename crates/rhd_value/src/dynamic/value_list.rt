@@ -1,0 +1,58 @@
+//! Lists of values.
+
+ghost use Rattle.std.specs.Prelude.{◌≡◌, ◌++◌, ◌∷◌, [], length, if◌then◌else◌, is_ok, slice_get};
+ghost use Rattle.std.specs.Option.{option_copied};
+ghost use Rattle.rhd_value.specs.Firsts.{first_and_rest};
+
+use super::{Dynamic, Values};
+use crate::memory::OutOfMemory;
+use std::alloc::Global;
+
+impl Values {
+    pub fn new(alloc: Global) -> Values
+        ensures { result ≡ [] }
+    {
+        Values {
+            items: Vec::new(alloc),
+        }
+    }
+
+    /// Puts a value last.
+    pub fn push(&mut self, value: Dynamic) -> Result<(), OutOfMemory>
+        ensures { self.new ≡ (if is_ok result then self.old ++ value ∷ [] else self.old) }
+    {
+        self.items.push(value)?;
+        Ok(())
+    }
+
+    pub fn len(&self) -> usize
+        ensures { result ≡ length self.now }
+    {
+        self.items.len()
+    }
+
+    /// The value at a place, counted from 0; none where there is nothing.
+    pub fn get(&self, at: usize) -> Option<&Dynamic>
+        ensures { option_copied result ≡ slice_get self.now at }
+    {
+        self.items.get(at)
+    }
+
+    pub fn as_slice(&self) -> &[Dynamic]
+        ensures { result.now ≡ self.now }
+    {
+        self.items.as_slice()
+    }
+
+    /// Takes the first value off; none where there is nothing, and then the list stays.
+    pub fn split_first(self) -> (Option<Dynamic>, Values)
+        ensures { (result.0, result.1) ≡ first_and_rest self }
+    {
+        let mut items = self.items;
+        if items.is_empty() {
+            return (None, Values { items });
+        }
+        let first = items.remove(0);
+        (Some(first), Values { items })
+    }
+}

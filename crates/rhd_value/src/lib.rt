@@ -1,0 +1,16 @@
+//! Values with their marks, faults, and the small types that they are made of.
+#![tactic(auto)]
+
+mod dynamic;
+mod fault;
+mod lists;
+mod memory;
+mod tag;
+mod text;
+
+pub use dynamic::{Dynamic, Entries, FnPtr, Value, Values};
+pub use fault::EvalAltResult;
+pub use lists::{Texts, Types};
+pub use memory::OutOfMemory;
+pub use tag::{FnId, FnPtrType, Marks, Position, TypeTag};
+pub use text::Text;

@@ -1,0 +1,157 @@
+//! Lists of texts and of types.
+
+ghost use Rattle.std.specs.Prelude.{◌≡◌, ◌++◌, ◌∷◌, [], length, if◌then◌else◌, is_ok, IfOk, slice_get, nat_eq};
+ghost use Rattle.std.specs.Option.{option_copied};
+ghost use Rattle.std.specs.Cmp.{partial_equiv_from_equiv};
+ghost use Rattle.std.specs.Cmp.Lexicographic.{pointwise, nat_list_eq_equiv};
+ghost use Rattle.std.proofs.lemmas.Cmp.{lists_equiv};
+
+use crate::memory::OutOfMemory;
+use crate::tag::TypeTag;
+use crate::text::Text;
+use std::alloc::Global;
+use std::marker::Model;
+
+/// Texts in order. Contracts see the list of them.
+#[derive(Drop)]
+pub struct Texts {
+    items: Vec<Text>,
+}
+
+impl Model for Texts {
+    ghost use Rattle.std.specs.Prelude.{ℕ, List};
+
+    ghost Value = { List (List ℕ) };
+
+    ghost view = { λ a. a.items.items };
+}
+
+impl Texts {
+    pub fn new(alloc: Global) -> Texts
+        ensures { result ≡ [] }
+    {
+        Texts {
+            items: Vec::new(alloc),
+        }
+    }
+
+    /// Puts a text last.
+    pub fn push(&mut self, text: Text) -> Result<(), OutOfMemory>
+        ensures { self.new ≡ (if is_ok result then self.old ++ text ∷ [] else self.old) }
+    {
+        self.items.push(text)?;
+        Ok(())
+    }
+
+    pub fn len(&self) -> usize
+        ensures { result ≡ length self.now }
+    {
+        self.items.len()
+    }
+
+    /// The text at a place, counted from 0; none where there is nothing.
+    pub fn get(&self, at: usize) -> Option<&Text>
+        ensures { option_copied result ≡ slice_get self.now at }
+    {
+        self.items.get(at)
+    }
+
+    pub fn as_slice(&self) -> &[Text]
+        ensures { result.now ≡ self.now }
+    {
+        self.items.as_slice()
+    }
+
+    /// An equal list.
+    pub fn dup(&self, alloc: Global) -> Result<Texts, OutOfMemory>
+        ensures { IfOk result (λ texts. texts ≡ self.now) }
+    {
+        let mut texts = Texts::new(alloc);
+        for text in &self.items {
+            texts.push(text.dup(alloc)?)?;
+        }
+        Ok(texts)
+    }
+}
+
+impl PartialEq for Texts {
+    ghost eq = { pointwise (pointwise nat_eq) };
+
+    ghost laws = { partial_equiv_from_equiv (lists_equiv nat_list_eq_equiv) };
+
+    fn eq(&self, other: &Texts) -> bool {
+        self.as_slice() == other.as_slice()
+    }
+}
+
+impl Eq for Texts {
+    ghost laws = { lists_equiv nat_list_eq_equiv };
+}
+
+/// Types in order. Contracts see the list of them.
+#[derive(Drop)]
+pub struct Types {
+    items: Vec<TypeTag>,
+}
+
+impl Model for Types {
+    ghost use Rattle.std.specs.Prelude.{List};
+    ghost use Rattle.rhd_value.specs.declared.tag.TypeTag.{TypeTag};
+
+    ghost Value = { List TypeTag };
+
+    ghost view = { λ a. a.items.items };
+}
+
+impl Types {
+    pub fn new(alloc: Global) -> Types
+        ensures { result ≡ [] }
+    {
+        Types {
+            items: Vec::new(alloc),
+        }
+    }
+
+    /// A list of these types.
+    pub fn from_slice(alloc: Global, tags: &[TypeTag]) -> Result<Types, OutOfMemory>
+        ensures { IfOk result (λ types. types ≡ tags.now) }
+    {
+        Ok(Types {
+            items: Vec::from_slice(alloc, tags)?,
+        })
+    }
+
+    /// Puts a type last.
+    pub fn push(&mut self, tag: TypeTag) -> Result<(), OutOfMemory>
+        ensures { self.new ≡ (if is_ok result then self.old ++ tag ∷ [] else self.old) }
+    {
+        self.items.push(tag)?;
+        Ok(())
+    }
+
+    pub fn len(&self) -> usize
+        ensures { result ≡ length self.now }
+    {
+        self.items.len()
+    }
+
+    /// The type at a place, counted from 0; none where there is nothing.
+    pub fn get(&self, at: usize) -> Option<TypeTag>
+        ensures { result ≡ slice_get self.now at }
+    {
+        self.items.get(at).copied()
+    }
+
+    pub fn as_slice(&self) -> &[TypeTag]
+        ensures { result.now ≡ self.now }
+    {
+        self.items.as_slice()
+    }
+
+    /// An equal list.
+    pub fn dup(&self, alloc: Global) -> Result<Types, OutOfMemory>
+        ensures { IfOk result (λ types. types ≡ self.now) }
+    {
+        Types::from_slice(alloc, &self.items)
+    }
+}
