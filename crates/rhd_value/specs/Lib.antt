@@ -1,3 +1,4 @@
+pub mod Same
 pub mod Tree
 pub mod Codes
 pub mod Views

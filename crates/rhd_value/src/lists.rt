@@ -5,6 +5,7 @@ ghost use Rattle.std.specs.Option.{option_copied};
 ghost use Rattle.std.specs.Cmp.{partial_equiv_from_equiv};
 ghost use Rattle.std.specs.Cmp.Lexicographic.{pointwise, nat_list_eq_equiv};
 ghost use Rattle.std.proofs.lemmas.Cmp.{lists_equiv};
+ghost use Rattle.rhd_value.specs.Same.{types_eq, types_eq_equiv};
 
 use crate::memory::OutOfMemory;
 use crate::tag::TypeTag;
@@ -154,4 +155,18 @@ impl Types {
     {
         Types::from_slice(alloc, &self.items)
     }
+}
+
+impl PartialEq for Types {
+    ghost eq = { types_eq };
+
+    ghost laws = { partial_equiv_from_equiv types_eq_equiv };
+
+    fn eq(&self, other: &Types) -> bool {
+        self.as_slice() == other.as_slice()
+    }
+}
+
+impl Eq for Types {
+    ghost laws = { types_eq_equiv };
 }

@@ -1,10 +1,14 @@
 //! Plain data beside the values.
 
+ghost use Rattle.std.specs.Prelude.{◌≡◌};
+ghost use Rattle.std.specs.Cmp.{partial_equiv_from_equiv};
+ghost use Rattle.rhd_value.specs.Same.{tag_number, tag_argument, tag_eq, tag_eq_equiv};
+
 /// The type of a value, or of a parameter.
 ///
 /// The first nine are the kinds of values, where a custom type has a number. The last three are
 /// types of parameters alone: any value, and a text in two of Rust's forms.
-#[derive(Clone, Copy, PartialEq, Eq, Debug)]
+#[derive(Clone, Copy, Debug)]
 pub enum TypeTag {
     Unit,
     Bool,
@@ -18,6 +22,52 @@ pub enum TypeTag {
     Dynamic,
     Str,
     StdString,
+}
+
+impl TypeTag {
+    /// The place of the type in the list of types, counted from 0.
+    fn number(self) -> u8
+        ensures { result ≡ tag_number self }
+    {
+        match self {
+            TypeTag::Unit => 0,
+            TypeTag::Bool => 1,
+            TypeTag::Int => 2,
+            TypeTag::Char => 3,
+            TypeTag::Text => 4,
+            TypeTag::Array => 5,
+            TypeTag::Map => 6,
+            TypeTag::FnPtr => 7,
+            TypeTag::Custom(_) => 8,
+            TypeTag::Dynamic => 9,
+            TypeTag::Str => 10,
+            TypeTag::StdString => 11,
+        }
+    }
+
+    /// The number of a custom type, and 0 of any other.
+    fn argument(self) -> u32
+        ensures { result ≡ tag_argument self }
+    {
+        match self {
+            TypeTag::Custom(number) => number,
+            _ => 0,
+        }
+    }
+}
+
+impl PartialEq for TypeTag {
+    ghost eq = { tag_eq };
+
+    ghost laws = { partial_equiv_from_equiv tag_eq_equiv };
+
+    fn eq(&self, other: &TypeTag) -> bool {
+        self.number() == other.number() && self.argument() == other.argument()
+    }
+}
+
+impl Eq for TypeTag {
+    ghost laws = { tag_eq_equiv };
 }
 
 /// What is said of a value beside its contents.

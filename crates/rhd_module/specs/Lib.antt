@@ -1,0 +1,4 @@
+pub mod Keys
+pub mod Tree
+pub mod Shown
+pub mod Registered

@@ -1,0 +1,54 @@
+-- How a declaration is put into a module.
+use Rattle.std.specs.Prelude.{ℕ, Bool, false, not, ◌&&◌, ◌||◌, ◌==◌, List, [], ◌∷◌, length, map, nat_eq, if◌then◌else◌, Option, None, codes}
+use Rattle.std.specs.List.{starts_with}
+use Rattle.rhd_value.specs.Tree.{Bytes}
+use Rattle.rhd_value.specs.Same.{text_eq}
+use Rattle.rhd_value.specs.declared.tag.FnId.{FnId}
+use Rattle.rhd_value.specs.declared.tag.TypeTag.{TypeTag}
+use Rattle.rhd_value.specs.declared.tag.TypeTag.TheVariants as tags
+use Rattle.rhd_func.specs.Natives.{NativeInfo}
+use Rattle.rhd_func.specs.declared.access.FnAccess.TheVariants.{Public}
+use Rattle.rhd_func.specs.declared.access.FnNamespace.TheVariants.{Global}
+use Rattle.rhd_func.specs.declared.func.RhaiFunc.{RhaiFunc}
+use Rattle.rhd_func.specs.declared.func.RhaiFunc.TheVariants.{Pure, Method}
+use Rattle.rhd_module.specs.declared.key.Key.{Key}
+use Rattle.rhd_module.specs.declared.key.Key.TheVariants.{Native}
+use Rattle.rhd_module.specs.declared.declaration.Declaration.{Declaration}
+use Rattle.rhd_module.specs.Keys.{key_eq}
+use Rattle.rhd_module.specs.Tree.{ModuleTree, Pairs}
+
+-- an equal key keeps its place and gets the new declaration; else the pair goes last
+abbrev pub put : Key → Declaration → Pairs → Pairs
+put k d [] = (k, d) ∷ []
+put k d (p ∷ ps) = if key_eq k p.0 then (p.0, d) ∷ ps else p ∷ put k d ps
+
+-- the module with a declaration put in
+abbrev pub with_decl : Key → Declaration → ModuleTree → ModuleTree
+with_decl k d m = record m { own = record m.own { eager = put k d m.own.eager } }
+
+-- a parameter type as keys have it
+abbrev pub mapped : TypeTag → TypeTag
+mapped tags.Str = tags.Text
+mapped tags.StdString = tags.Text
+mapped t = t
+
+-- the first type of a method stays
+abbrev pub mapped_types : Bool → List TypeTag → List TypeTag
+mapped_types is_method [] = []
+mapped_types is_method (t ∷ ts) = (if is_method then t else mapped t) ∷ map mapped ts
+
+-- the key of a native under a name
+abbrev pub native_key : Bytes → NativeInfo → Key
+native_key name info = Native None name (mapped_types info.is_method info.types)
+
+-- whether a native of this name and number of parameters is pure where nothing else is said
+abbrev pub pure_by_name : Bytes → ℕ → Bool
+pure_by_name name params = not ((starts_with nat_eq name (codes "set$") && (params == 2)) || (text_eq name (codes "index$set$") && (params == 3)))
+
+-- a native that is a method is called as one
+abbrev pub native_func : Bytes → NativeInfo → FnId → RhaiFunc
+native_func name info id = if info.is_method then Method id info.has_context (pure_by_name name (length info.types)) false else Pure id info.has_context (pure_by_name name (length info.types)) false
+
+-- what is said of a native that is registered
+abbrev pub native_decl : Bytes → NativeInfo → FnId → Declaration
+native_decl name info id = record { func = native_func name info id; namespace = Global; access = Public }

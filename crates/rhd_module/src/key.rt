@@ -1,0 +1,170 @@
+//! What a function is found by.
+
+ghost use Rattle.std.specs.Prelude.{◌≡◌, ◌++◌, IfOk, length};
+ghost use Rattle.std.specs.Cmp.{partial_equiv_from_equiv};
+ghost use Rattle.std.specs.Hash as fed;
+ghost use Rattle.rhd_module.specs.Keys.{path_eq, key_eq, key_eq_equiv, key_name, key_params, key_input, key_alike};
+
+use rhd_value::{OutOfMemory, Text, Texts, Types};
+use std::alloc::Global;
+use std::hash::{Hash, Hasher};
+
+/// The key of a function: its name, and what tells it from others of that name.
+///
+/// A path is none for no namespace, else the names after the first.
+#[derive(Drop)]
+pub enum Key {
+    /// A script, by its number of parameters.
+    Script {
+        path: Option<Texts>,
+        name: Text,
+        params: u64,
+    },
+    /// A script method of a type.
+    Typed {
+        path: Option<Texts>,
+        name: Text,
+        params: u64,
+        this_type: Text,
+    },
+    /// A native, by the types of its parameters.
+    Native {
+        path: Option<Texts>,
+        name: Text,
+        types: Types,
+    },
+}
+
+fn same_path(a: &Option<Texts>, b: &Option<Texts>) -> bool
+    ensures { result ≡ path_eq a.now b.now }
+{
+    match a {
+        None => b.is_none(),
+        Some(names) => match b {
+            None => false,
+            Some(others) => names == others,
+        },
+    }
+}
+
+fn dup_path(alloc: Global, path: &Option<Texts>) -> Result<Option<Texts>, OutOfMemory>
+    ensures { IfOk result (λ made. made ≡ path.now) }
+{
+    match path {
+        None => Ok(None),
+        Some(names) => Ok(Some(names.dup(alloc)?)),
+    }
+}
+
+impl Key {
+    /// An equal key.
+    pub fn dup(&self, alloc: Global) -> Result<Key, OutOfMemory>
+        ensures { IfOk result (λ key. key ≡ self.now) }
+    {
+        match self {
+            Key::Script { path, name, params } => Ok(Key::Script {
+                path: dup_path(alloc, path)?,
+                name: name.dup(alloc)?,
+                params: *params,
+            }),
+            Key::Typed {
+                path,
+                name,
+                params,
+                this_type,
+            } => Ok(Key::Typed {
+                path: dup_path(alloc, path)?,
+                name: name.dup(alloc)?,
+                params: *params,
+                this_type: this_type.dup(alloc)?,
+            }),
+            Key::Native { path, name, types } => Ok(Key::Native {
+                path: dup_path(alloc, path)?,
+                name: name.dup(alloc)?,
+                types: types.dup(alloc)?,
+            }),
+        }
+    }
+
+    /// The name of the function.
+    pub fn name(&self) -> &Text
+        ensures { result.now ≡ key_name self.now }
+    {
+        match self {
+            Key::Script { name, .. } => name,
+            Key::Typed { name, .. } => name,
+            Key::Native { name, .. } => name,
+        }
+    }
+
+    /// The number of parameters, without an object.
+    pub fn num_params(&self) -> u64
+        ensures { result ≡ key_params self.now }
+    {
+        match self {
+            Key::Script { params, .. } => *params,
+            Key::Typed { params, .. } => *params,
+            Key::Native { types, .. } => types.len() as u64,
+        }
+    }
+}
+
+impl PartialEq for Key {
+    ghost eq = { key_eq };
+
+    ghost laws = { partial_equiv_from_equiv key_eq_equiv };
+
+    fn eq(&self, other: &Key) -> bool {
+        match self {
+            Key::Script { path, name, params } => match other {
+                Key::Script {
+                    path: path2,
+                    name: name2,
+                    params: params2,
+                } => same_path(path, path2) && (*name == *name2 && *params == *params2),
+                _ => false,
+            },
+            Key::Typed {
+                path,
+                name,
+                params,
+                this_type,
+            } => match other {
+                Key::Typed {
+                    path: path2,
+                    name: name2,
+                    params: params2,
+                    this_type: type2,
+                } => {
+                    same_path(path, path2)
+                        && (*name == *name2 && (*params == *params2 && *this_type == *type2))
+                }
+                _ => false,
+            },
+            Key::Native { path, name, types } => match other {
+                Key::Native {
+                    path: path2,
+                    name: name2,
+                    types: types2,
+                } => same_path(path, path2) && (*name == *name2 && *types == *types2),
+                _ => false,
+            },
+        }
+    }
+}
+
+impl Eq for Key {
+    ghost laws = { key_eq_equiv };
+}
+
+/// By the name and the number of parameters.
+impl Hash for Key {
+    ghost hash_input = { key_input };
+
+    ghost respects_eq = { key_alike };
+
+    fn hash<H: Hasher>(&self, state: &mut H) {
+        self.name().as_str().hash(state);
+        self.num_params().hash(state);
+    }
+}

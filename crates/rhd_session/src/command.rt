@@ -1,0 +1,66 @@
+//! What a session is told to do.
+
+ghost use Rattle.std.specs.Prelude.{◌≡◌, ◌++◌, ◌∷◌, [], length, if◌then◌else◌, is_ok};
+
+use rhd_func::CallRequest;
+use rhd_value::{FnId, OutOfMemory, Text};
+use std::alloc::Global;
+use std::marker::Model;
+
+/// One thing to do.
+#[derive(Drop)]
+pub enum Command {
+    /// Registers a native under a name, for all calls.
+    RegisterFn { name: Text, id: FnId },
+    /// Makes a call.
+    Call(CallRequest),
+}
+
+/// Commands in order. Contracts see the list of them.
+#[derive(Drop)]
+pub struct Commands {
+    items: Vec<Command>,
+}
+
+impl Model for Commands {
+    ghost use Rattle.std.specs.Prelude.{List};
+    ghost use Rattle.std.specs.Coded.{coded_list};
+    ghost use Rattle.rhd_session.specs.declared.command.Command.{Command};
+    ghost use Rattle.rhd_session.specs.contracts.command.Command as command;
+
+    ghost Value = { List Command };
+
+    ghost coded = { coded_list command.the_row.coded };
+
+    ghost view = { λ a. a.items.items };
+}
+
+impl Commands {
+    pub fn new(alloc: Global) -> Commands
+        ensures { result ≡ [] }
+    {
+        Commands {
+            items: Vec::new(alloc),
+        }
+    }
+
+    /// Puts a command last.
+    pub fn push(&mut self, command: Command) -> Result<(), OutOfMemory>
+        ensures { self.new ≡ (if is_ok result then self.old ++ command ∷ [] else self.old) }
+    {
+        self.items.push(command)?;
+        Ok(())
+    }
+
+    pub fn len(&self) -> usize
+        ensures { result ≡ length self.now }
+    {
+        self.items.len()
+    }
+
+    pub fn as_slice(&self) -> &[Command]
+        ensures { result.now ≡ self.now }
+    {
+        self.items.as_slice()
+    }
+}

@@ -1,0 +1,17 @@
+//! What a search gives.
+
+use rhd_func::RhaiFunc;
+
+/// Where a function was found. A number is a place in its list, counted from 0.
+#[derive(Clone, Copy, PartialEq, Eq, Debug)]
+pub enum Layer {
+    /// A module whose functions all calls find.
+    Global(u64),
+}
+
+/// A function, and where it was found.
+#[derive(Drop)]
+pub struct Pick {
+    pub layer: Layer,
+    pub func: RhaiFunc,
+}
