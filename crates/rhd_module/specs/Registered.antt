@@ -1,11 +1,11 @@
 -- How a declaration is put into a module.
-use Rattle.std.specs.Prelude.{ℕ, Bool, false, not, ◌&&◌, ◌||◌, ◌==◌, List, [], ◌∷◌, length, map, nat_eq, if◌then◌else◌, Option, None, codes}
+use Rattle.std.specs.Prelude.{ℕ, Bool, false, not, true, ◌&&◌, ◌||◌, ◌==◌, List, [], ◌∷◌, length, map, nat_eq, if◌then◌else◌, Option, None, codes}
 use Rattle.std.specs.List.{starts_with}
 use Rattle.rhd_value.specs.Tree.{Bytes}
 use Rattle.rhd_value.specs.Same.{text_eq}
 use Rattle.rhd_value.specs.declared.tag.FnId.{FnId}
 use Rattle.rhd_value.specs.declared.tag.TypeTag.{TypeTag}
-use Rattle.rhd_value.specs.declared.tag.TypeTag.TheVariants as tags
+use Rattle.rhd_value.specs.Kinds.{map_type}
 use Rattle.rhd_func.specs.Natives.{NativeInfo}
 use Rattle.rhd_func.specs.declared.access.FnAccess.TheVariants.{Public}
 use Rattle.rhd_func.specs.declared.access.FnNamespace.TheVariants.{Global}
@@ -26,16 +26,10 @@ put k d (p ∷ ps) = if key_eq k p.0 then (p.0, d) ∷ ps else p ∷ put k d ps
 abbrev pub with_decl : Key → Declaration → ModuleTree → ModuleTree
 with_decl k d m = record m { own = record m.own { eager = put k d m.own.eager } }
 
--- a parameter type as keys have it
-abbrev pub mapped : TypeTag → TypeTag
-mapped tags.Str = tags.Text
-mapped tags.StdString = tags.Text
-mapped t = t
-
--- the first type of a method stays
+-- the types of a native as keys have them; the first type of a method stays
 abbrev pub mapped_types : Bool → List TypeTag → List TypeTag
 mapped_types is_method [] = []
-mapped_types is_method (t ∷ ts) = (if is_method then t else mapped t) ∷ map mapped ts
+mapped_types is_method (t ∷ ts) = map_type (not is_method) t ∷ map (map_type true) ts
 
 -- the key of a native under a name
 abbrev pub native_key : Bytes → NativeInfo → Key

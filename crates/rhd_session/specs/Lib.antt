@@ -1,0 +1,17 @@
+pub mod Engine
+pub mod World
+pub mod Searched
+pub mod Asks
+pub mod Display
+pub mod NotFound
+pub mod Plans
+pub mod Received
+pub mod Ends
+pub mod Decisions
+pub mod Entered
+pub mod Seen
+pub mod Runs
+pub mod Commands
+pub mod Answered
+pub mod Start
+pub mod Objects

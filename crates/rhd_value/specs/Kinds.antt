@@ -1,5 +1,5 @@
 -- What kind a value is of, its name, and values that are made anew.
-use Rattle.std.specs.Prelude.{ℤ, Bool, false, ◌++◌, Option, None, Some, codes, decimal}
+use Rattle.std.specs.Prelude.{ℤ, Bool, true, false, ◌++◌, Option, None, Some, codes, decimal}
 use Rattle.rhd_value.specs.declared.tag.TypeTag.{TypeTag}
 use Rattle.rhd_value.specs.declared.tag.TypeTag.TheVariants as tags
 use Rattle.rhd_value.specs.declared.tag.Marks.{Marks}
@@ -38,6 +38,12 @@ type_name tags.StdString = codes "String"
 abbrev pub type_text : TypeTag → Bytes
 type_text tags.Text = codes "ImmutableString"
 type_text t = type_name t
+
+-- the type that a parameter's type stands for in a key
+abbrev pub map_type : Bool → TypeTag → TypeTag
+map_type true tags.Str = tags.Text
+map_type true tags.StdString = tags.Text
+map_type map t = t
 
 abbrev pub int_in : Kind → Option ℤ
 int_in (integer z) = Some z

@@ -2,6 +2,7 @@
 
 ghost use Rattle.std.specs.Prelude.{◌≡◌};
 ghost use Rattle.std.specs.Cmp.{partial_equiv_from_equiv};
+ghost use Rattle.rhd_value.specs.Kinds.{map_type};
 ghost use Rattle.rhd_value.specs.Same.{tag_number, tag_argument, tag_eq, tag_eq_equiv};
 
 /// The type of a value, or of a parameter.
@@ -68,6 +69,17 @@ impl PartialEq for TypeTag {
 
 impl Eq for TypeTag {
     ghost laws = { tag_eq_equiv };
+}
+
+/// The type that a parameter's type stands for in a key: where `map` is true, the text types
+/// of Rust are the type of texts.
+pub fn map_type(map: bool, tag: TypeTag) -> TypeTag
+    ensures { result ≡ map_type map tag }
+{
+    match tag {
+        TypeTag::Str | TypeTag::StdString if map => TypeTag::Text,
+        _ => tag,
+    }
 }
 
 /// What is said of a value beside its contents.

@@ -1,0 +1,79 @@
+//! How a native is declared.
+
+ghost use Rattle.std.specs.Prelude.{◌≡◌, IfOk, length, not, true, map};
+ghost use Rattle.rhd_value.specs.Kinds.{map_type};
+ghost use Rattle.rhd_module.specs.Registered.{mapped_types, native_key, native_decl, native_func, pure_by_name};
+
+use crate::declaration::Declaration;
+use crate::key::Key;
+use rhd_func::{FnAccess, FnNamespace, PluginFunc, RhaiFunc};
+use rhd_value::{FnId, OutOfMemory, Text, TypeTag, Types, map_type};
+use std::alloc::Global;
+
+/// The types of a native as keys have them.
+fn mapped_types(alloc: Global, types: &[TypeTag], is_method: bool) -> Result<Types, OutOfMemory>
+    ensures { IfOk result (λ mapped. mapped ≡ mapped_types is_method types.now) }
+{
+    let mut mapped = Types::new(alloc);
+    let [first, others @ ..] = types else {
+        return Ok(mapped);
+    };
+    mapped.push(map_type(!is_method, *first))?;
+    for tag in others {
+        mapped.push(map_type(true, *tag))?;
+    }
+    Ok(mapped)
+}
+
+/// Whether a native of this name and number of parameters is pure where nothing else is said.
+fn is_pure_by_name(name: &Text, params: usize) -> bool
+    ensures { result ≡ pure_by_name name.now params }
+{
+    let name = name.as_str();
+    !((name.as_bytes().starts_with(b"set$") && params == 2)
+        || (name == "index$set$" && params == 3))
+}
+
+/// The key of a native under a name.
+pub fn native_key(
+    alloc: Global,
+    name: &Text,
+    native: &Box<dyn PluginFunc>,
+) -> Result<Key, OutOfMemory>
+    ensures { IfOk result (λ key. key ≡ native_key name.now (info native.now)) }
+{
+    Ok(Key::Native {
+        path: None,
+        name: name.dup(alloc)?,
+        types: mapped_types(alloc, native.param_types(), native.is_method_call())?,
+    })
+}
+
+/// What is said of a native that is registered under a name: it is found by all calls, and a
+/// native that is a method is called as one.
+pub fn native_declaration(name: &Text, native: &Box<dyn PluginFunc>, id: FnId) -> Declaration
+    ensures { result ≡ native_decl name.now (info native.now) id }
+{
+    let is_pure = is_pure_by_name(name, native.param_types().len());
+    let has_context = native.has_context();
+    let func = if native.is_method_call() {
+        RhaiFunc::Method {
+            func: id,
+            has_context,
+            is_pure,
+            is_volatile: false,
+        }
+    } else {
+        RhaiFunc::Pure {
+            func: id,
+            has_context,
+            is_pure,
+            is_volatile: false,
+        }
+    };
+    Declaration {
+        func,
+        namespace: FnNamespace::Global,
+        access: FnAccess::Public,
+    }
+}

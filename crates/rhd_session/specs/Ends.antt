@@ -1,0 +1,23 @@
+-- How a call ends: its answer, and whose it is.
+use Rattle.std.specs.Prelude.{Option, Result, Ok, Err}
+use Rattle.rhd_value.specs.Tree.{Tree}
+use Rattle.rhd_value.specs.declared.fault.EvalAltResult.{EvalAltResult}
+use Rattle.rhd_func.specs.declared.request.NativeStep.{NativeStep}
+use Rattle.rhd_func.specs.declared.request.NativeStep.TheVariants.{Done, Failed}
+use Rattle.rhd_session.specs.declared.node.Whose.{Whose}
+use Rattle.rhd_session.specs.declared.node.Whose.TheVariants.{Call, Called}
+use Rattle.rhd_session.specs.Plans.{Plan}
+
+pub record End : Type 0 where
+  pub answer : Result Tree EvalAltResult
+  pub whose : Whose
+  pub first_after : Option Tree
+
+-- a fault of the call itself
+abbrev pub failed : Option Tree → EvalAltResult → End
+failed first fault = record { answer = Err fault; whose = Call; first_after = first }
+
+-- how a call ends with the last step of its function: its answer or its fault, unchanged
+abbrev pub end_of : Plan → NativeStep → End
+end_of plan (Done v back) = record { answer = Ok v; whose = Called; first_after = plan.given }
+end_of plan (Failed fault back) = record { answer = Err fault; whose = Called; first_after = plan.given }
