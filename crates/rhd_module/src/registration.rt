@@ -2,6 +2,7 @@
 
 ghost use Rattle.std.specs.Prelude.{◌≡◌, IfOk, length, not, true, map};
 ghost use Rattle.rhd_value.specs.Kinds.{map_type};
+ghost use Rattle.rhd_func.specs.Funcs.{native_of};
 ghost use Rattle.rhd_module.specs.Registered.{mapped_types, native_key, native_decl, native_func, pure_by_name};
 
 use crate::declaration::Declaration;
@@ -52,7 +53,8 @@ pub fn native_key(
 /// What is said of a native that is registered under a name: it is found by all calls, and a
 /// native that is a method is called as one.
 pub fn native_declaration(name: &Text, native: &Box<dyn PluginFunc>, id: FnId) -> Declaration
-    ensures { result ≡ native_decl name.now (info native.now) id }
+    ensures declared { result ≡ native_decl name.now (info native.now) id }
+    ensures number { native_of result.func ≡ id }
 {
     let is_pure = is_pure_by_name(name, native.param_types().len());
     let has_context = native.has_context();

@@ -17,7 +17,11 @@ pub record End : Type 0 where
 abbrev pub failed : Option Tree → EvalAltResult → End
 failed first fault = record { answer = Err fault; whose = Call; first_after = first }
 
+-- the answer or the fault of a last step
+abbrev pub answer_of : NativeStep → Result Tree EvalAltResult
+answer_of (Done v back) = Ok v
+answer_of (Failed fault back) = Err fault
+
 -- how a call ends with the last step of its function: its answer or its fault, unchanged
 abbrev pub end_of : Plan → NativeStep → End
-end_of plan (Done v back) = record { answer = Ok v; whose = Called; first_after = plan.given }
-end_of plan (Failed fault back) = record { answer = Err fault; whose = Called; first_after = plan.given }
+end_of plan step = record { answer = answer_of step; whose = Called; first_after = plan.given }

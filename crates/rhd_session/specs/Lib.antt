@@ -15,3 +15,5 @@ pub mod Commands
 pub mod Answered
 pub mod Start
 pub mod Objects
+pub mod Held
+pub mod Of

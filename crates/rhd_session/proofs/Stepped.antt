@@ -1,0 +1,29 @@
+-- A step that a native takes, and the node that it makes of a call.
+use Rattle.std.proofs.Common.{◌≡◌, ℕ, List, IfOk, subst, sym}
+use Rattle.std.specs.Prelude.{Option, Result, Some}
+use Rattle.std.proofs.lemmas.Result.{IfOk-weaker}
+use Rattle.rhd_value.specs.Tree.{Tree}
+use Rattle.rhd_value.specs.declared.tag.FnId.{FnId}
+use Rattle.rhd_func.specs.declared.func.RhaiFunc.{RhaiFunc}
+use Rattle.rhd_func.specs.declared.request.NativeStep.{NativeStep}
+use Rattle.rhd_func.specs.declared.request.NativeCallContext.{NativeCallContext}
+use Rattle.rhd_func.specs.Funcs.{native_of, has_context}
+use Rattle.rhd_session.specs.World.{Objects}
+use Rattle.rhd_session.specs.Received.{Received}
+use Rattle.rhd_session.specs.Entered.{context_if}
+use Rattle.rhd_session.specs.Runs.{Starts, native_starts}
+
+pub starts : {E : Type 0} (o : Objects) (r : Result NativeStep E) (func : RhaiFunc) (ctx : NativeCallContext) (received : Received) (id : FnId) (handed : Option NativeCallContext)
+    → id ≡ native_of func → handed ≡ context_if (has_context func) ctx → IfOk r (o.native_starts id handed received.first received.args) → IfOk r (Starts o ctx func received)
+starts o r func ctx received id handed i h s =
+    IfOk-weaker r (o.native_starts id handed received.first received.args) (Starts o ctx func received) (λ step allowed.
+    native_starts
+    (subst (λ (x : FnId). o.native_starts x (context_if (has_context func) ctx) received.first received.args step) i
+    (subst (λ (x : Option NativeCallContext). o.native_starts id x received.first received.args step) h allowed))) s
+
+-- the same of an equal context, and of equal arguments
+pub starts_on : {E : Type 0} (o : Objects) (r : Result NativeStep E) (func : RhaiFunc) (ctx other : NativeCallContext) (received same : Received)
+    → ctx ≡ other → received.first ≡ same.first → received.args ≡ same.args → IfOk r (Starts o ctx func received) → IfOk r (Starts o other func same)
+starts_on o r func ctx other received same c first args s =
+    let all : received ≡ same = λ i. record { first = first i; args = args i } in
+    subst (λ (x : Received). IfOk r (Starts o other func x)) all (subst (λ (x : NativeCallContext). IfOk r (Starts o x func received)) c s)
