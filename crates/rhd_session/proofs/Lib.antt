@@ -1,3 +1,5 @@
 pub mod Registers
 pub mod HeldLaws
 pub mod Stepped
+pub mod Found
+pub mod Lists

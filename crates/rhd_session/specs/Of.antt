@@ -1,8 +1,10 @@
--- The world of a session.
+-- The world and the frame of a session.
 use Rattle.std.specs.Prelude.{[], ◌∷◌}
 use Rattle.rhd_func.specs.declared.natives.Natives.{Natives}
 use Rattle.rhd_func.specs.Natives.{NativeInfo}
+use Rattle.rhd_session.specs.Engine.{Frame}
 use Rattle.rhd_session.specs.World.{World}
+use Rattle.rhd_session.specs.Start.{start_frame}
 use Rattle.rhd_session.specs.Objects.{infos_of}
 use Rattle.rhd_session.specs.declared.session.Session.{Session}
 
@@ -12,3 +14,7 @@ natives_of session = session.natives
 
 unfoldable pub world_of : {X : Type 0} {F : X → Type 0} → ((x : X) × F x → NativeInfo) → Session X F → World
 world_of info session = record { engine = record { globals = session.global ∷ []; natives = infos_of info session.natives } }
+
+-- the frame in which its commands are done
+abbrev pub frame_of : {X : Type 0} {F : X → Type 0} → Session X F → Frame
+frame_of session = start_frame

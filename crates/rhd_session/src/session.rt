@@ -43,7 +43,7 @@ pub struct Session {
 }
 
 impl Session {
-    ghost use Rattle.rhd_session.specs.Of.{natives_of, world_of};
+    ghost use Rattle.rhd_session.specs.Of.{natives_of, world_of, frame_of};
 
     /// A session in which nothing is registered.
     #[tactic(auto, unfolding(crate::specs::Of::world_of))]
@@ -89,6 +89,57 @@ impl Session {
         };
         self.global.set_fn(key, declaration)?;
         Ok(Reply::Done)
+    }
+
+    /// Answers one command.
+    fn perform(&mut self, alloc: Global, command: &Command) -> Result<Reply, OutOfMemory>
+        ensures replied { IfOk result (λ reply. Replied (objects_of allows_call (natives_of self.old)) (world_of info self.old) start_frame command.now reply (world_of info self.new) start_frame) }
+        ensures failed { OnErr result (world_of info self.new ≡ world_of info self.old) }
+        ensures natives { natives_of self.new ≡ natives_of self.old }
+    {
+        match command {
+            Command::RegisterFn { name, id } => self.register(alloc, name, *id),
+            Command::Call(request) => {
+                let request = request.dup(alloc)?;
+                Ok(Reply::Called(self.call(alloc, request, 1)?))
+            }
+        }
+    }
+
+    /// Answers commands in order. Where memory runs out, the commands before are done.
+    pub fn run(&mut self, alloc: Global, commands: &[Command]) -> Result<Replies, Stopped>
+        ensures answered { IfOk result (λ replies. Answered (objects_of allows_call (natives_of self.old)) (world_of info self.old) (frame_of self.old) commands.now replies (world_of info self.new) (frame_of self.new)) }
+        ensures stopped { IfErr result (λ stopped. Answered (objects_of allows_call (natives_of self.old)) (world_of info self.old) (frame_of self.old) (take (length stopped.replies) commands.now) stopped.replies (world_of info self.new) (frame_of self.new)) }
+        ensures natives { natives_of self.new ≡ natives_of self.old }
+    {
+        let mut replies = Vec::new(alloc);
+        for command in commands {
+            if replies.reserve(1).is_err() {
+                return Err(Stopped {
+                    replies: Replies::from_vec(replies),
+                });
+            }
+            match self.perform(alloc, command) {
+                Ok(reply) => replies.push_reserved(reply),
+                Err(_) => {
+                    return Err(Stopped {
+                        replies: Replies::from_vec(replies),
+                    });
+                }
+            }
+        }
+        Ok(Replies::from_vec(replies))
+    }
+
+    /// Makes a call at a level.
+    fn call(&self, alloc: Global, request: CallRequest, level: u32) -> Result<CallNode, OutOfMemory>
+        ensures { IfOk result (Runs (objects_of allows_call (natives_of self.now)) (world_of info self.now) start_frame level request) }
+    {
+        let key = key_of(alloc, name_of(&request), shape_of(&request))?;
+        match find(&self.global, &key) {
+            Some(pick) => self.run_picked(alloc, request, level, pick),
+            None => missing(alloc, request, level),
+        }
     }
 
     /// Runs the function that is picked for a call by name.
