@@ -16,7 +16,7 @@ use rhd_value::{Dynamic, OutOfMemory};
 use std::alloc::Global;
 use values::push_value;
 
-/// Puts a value at the end, as it is written.
+/// Puts a value at the end, as it is written: its marks, and then its kind in one line.
 pub fn print_value(alloc: Global, value: &Dynamic, out: &mut Vec<u8>) -> Result<(), OutOfMemory>
     ensures ok { OnOk result (out.new.items ≡ out.old.items ++ spelled value.now) }
     ensures err { OnErr result (out.new.items ≡ out.old.items) }
@@ -26,9 +26,7 @@ pub fn print_value(alloc: Global, value: &Dynamic, out: &mut Vec<u8>) -> Result<
     Ok(out.extend_from_slice(&text)?)
 }
 
-/// Why a declaration was refused, by its number.
-///
-/// Want of memory is never a reply; it has a number here so that each fault has one.
+/// Puts the number of a refusal and its parts at the end.
 #[tactic(auto, unfolding(crate::specs::PrintedReplies::spelled_refusal))]
 fn push_refusal(alloc: Global, fault: &DeclFault, out: &mut Vec<u8>) -> Result<(), OutOfMemory>
     ensures { OnOk result (out.new.items ≡ out.old.items ++ spelled_refusal fault.now) }
@@ -44,7 +42,7 @@ fn push_refusal(alloc: Global, fault: &DeclFault, out: &mut Vec<u8>) -> Result<(
     }
 }
 
-/// The lines of a reply.
+/// The lines of a reply, by themselves.
 #[tactic(auto, unfolding(crate::specs::PrintedReplies::printed))]
 fn lines_of(alloc: Global, reply: &Reply) -> Result<Vec<u8>, OutOfMemory>
     ensures { IfOk result (λ lines. lines.items ≡ printed reply.now) }
@@ -62,7 +60,9 @@ fn lines_of(alloc: Global, reply: &Reply) -> Result<Vec<u8>, OutOfMemory>
     Ok(lines)
 }
 
-/// Puts the lines of a reply at the end.
+/// Puts the lines of a reply at the end. Each ends with a line feed.
+///
+/// A refusal for want of memory is never a reply, yet has a line, so that each reply has one.
 pub fn print_reply(alloc: Global, reply: &Reply, out: &mut Vec<u8>) -> Result<(), OutOfMemory>
     ensures ok { OnOk result (out.new.items ≡ out.old.items ++ printed reply.now) }
     ensures err { OnErr result (out.new.items ≡ out.old.items) }
