@@ -1,0 +1,2 @@
+pub mod PrintingWeights
+pub mod PrintingEntries

@@ -1,0 +1,74 @@
+-- How a reply is written: a line that ends with a line feed.
+use Rattle.std.specs.Prelude.{ℕ, List, [], ◌∷◌, ◌++◌, Option, Some, None, Result, Ok, Err, codes}
+use Rattle.std.specs.List.{flat_map}
+use Rattle.std.specs.Fmt.{decimal}
+use Rattle.rhd_value.specs.Tree.{Tree}
+use Rattle.rhd_value.specs.declared.fault.EvalAltResult.{EvalAltResult}
+use Rattle.rhd_value.specs.declared.fault.EvalAltResult.TheVariants.{ErrorFunctionNotFound, ErrorRuntime}
+use Rattle.rhd_func.specs.Funcs.{native_of}
+use Rattle.rhd_func.specs.declared.request.CallRequest.{CallRequest}
+use Rattle.rhd_func.specs.declared.request.CallRequest.TheVariants.{Named}
+use Rattle.rhd_module.specs.declared.fault.DeclFault.{DeclFault}
+use Rattle.rhd_module.specs.declared.fault.DeclFault.TheVariants.{UnknownNumber, OutOfMemory}
+use Rattle.rhd_session.specs.declared.pick.Layer.{Layer}
+use Rattle.rhd_session.specs.declared.pick.Layer.TheVariants.{Global}
+use Rattle.rhd_session.specs.declared.pick.Pick.{Pick}
+use Rattle.rhd_session.specs.declared.node.Whose.{Whose}
+use Rattle.rhd_session.specs.declared.node.Whose.TheVariants as whose
+use Rattle.rhd_session.specs.declared.node.CallNode.{CallNode}
+use Rattle.rhd_session.specs.declared.reply.Reply.{Reply}
+use Rattle.rhd_session.specs.declared.reply.Reply.TheVariants.{Done, Refused, Called}
+use Rattle.rhd_text.specs.PrintedTexts.{quoted}
+use Rattle.rhd_text.specs.PrintedValues.{spelled}
+
+-- the number of a fault and its parts
+unfoldable pub spelled_fault : EvalAltResult → List ℕ
+spelled_fault (ErrorFunctionNotFound text pos) = codes "1 " ++ quoted text
+spelled_fault (ErrorRuntime text pos) = codes "15 " ++ quoted text
+
+-- the number of a refusal and its parts
+unfoldable pub spelled_refusal : DeclFault → List ℕ
+spelled_refusal (UnknownNumber number length) = codes "4 " ++ decimal number ++ codes " " ++ decimal length
+spelled_refusal OutOfMemory = codes "5"
+
+-- what a call is called
+abbrev pub label : CallRequest → List ℕ
+label (Named name native_only shape pos) = name
+
+-- where a function was found
+unfoldable pub layer_text : Layer → List ℕ
+layer_text (Global n) = codes "global" ++ decimal n
+
+-- the function that was picked, if one was
+unfoldable pub pick_text : Option Pick → List ℕ
+pick_text None = codes "-"
+pick_text (Some p) = layer_text p.layer ++ codes "#" ++ decimal (native_of p.func).0
+
+-- whose the answer or the fault is
+abbrev pub whose_text : Whose → List ℕ
+whose_text whose.Call = codes "call"
+whose_text whose.Called = codes "called"
+
+-- the answer or the fault
+unfoldable pub result_text : Result Tree EvalAltResult → List ℕ
+result_text (Ok t) = codes "= " ++ spelled t
+result_text (Err fault) = codes "! " ++ spelled_fault fault
+
+-- the first argument by reference, if there is one
+unfoldable pub after_text : Option Tree → List ℕ
+after_text None = []
+after_text (Some t) = codes " & " ++ spelled t
+
+-- a call with its answer
+unfoldable pub node_line : CallNode → List ℕ
+node_line node = label node.call ++ codes " " ++ pick_text node.pick ++ codes " " ++ whose_text node.whose ++ codes " " ++ result_text node.answer ++ after_text node.first_after
+
+-- the line of a reply
+unfoldable pub printed : Reply → List ℕ
+printed Done = codes "ok" ++ 10 ∷ []
+printed (Refused fault) = codes "refused " ++ spelled_refusal fault ++ 10 ∷ []
+printed (Called node) = node_line node ++ 10 ∷ []
+
+-- the lines of replies
+abbrev pub all_printed : List Reply → List ℕ
+all_printed replies = flat_map printed replies

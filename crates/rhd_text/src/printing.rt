@@ -1,0 +1,85 @@
+//! Replies as text, one line for each.
+
+ghost use Rattle.std.specs.Prelude.{◌≡◌, ◌++◌, ◌≤◌, ℕ, length, take, OnOk, OnErr, IfOk};
+ghost use Rattle.rhd_text.specs.PrintedValues.{spelled};
+ghost use Rattle.rhd_text.specs.PrintedReplies.{spelled_refusal, printed, all_printed};
+
+mod nodes;
+mod quotes;
+mod values;
+
+use nodes::push_node_line;
+use quotes::push_number;
+use rhd_module::DeclFault;
+use rhd_session::Reply;
+use rhd_value::{Dynamic, OutOfMemory};
+use std::alloc::Global;
+use values::push_value;
+
+/// Puts a value at the end, as it is written: its marks, and then its kind in one line.
+pub fn print_value(alloc: Global, value: &Dynamic, out: &mut Vec<u8>) -> Result<(), OutOfMemory>
+    ensures ok { OnOk result (out.new.items ≡ out.old.items ++ spelled value.now) }
+    ensures err { OnErr result (out.new.items ≡ out.old.items) }
+{
+    let mut text = Vec::new(alloc);
+    push_value(alloc, value, &mut text)?;
+    Ok(out.extend_from_slice(&text)?)
+}
+
+/// Puts the number of a refusal and its parts at the end.
+#[tactic(auto, unfolding(crate::specs::PrintedReplies::spelled_refusal))]
+fn push_refusal(alloc: Global, fault: &DeclFault, out: &mut Vec<u8>) -> Result<(), OutOfMemory>
+    ensures { OnOk result (out.new.items ≡ out.old.items ++ spelled_refusal fault.now) }
+{
+    match fault {
+        DeclFault::UnknownNumber { number, length } => {
+            out.extend_from_slice(b"4 ")?;
+            push_number(alloc, *number, out)?;
+            out.extend_from_slice(b" ")?;
+            push_number(alloc, *length, out)
+        }
+        DeclFault::OutOfMemory => Ok(out.extend_from_slice(b"5")?),
+    }
+}
+
+/// The lines of a reply, by themselves.
+#[tactic(auto, unfolding(crate::specs::PrintedReplies::printed))]
+fn lines_of(alloc: Global, reply: &Reply) -> Result<Vec<u8>, OutOfMemory>
+    ensures { IfOk result (λ lines. lines.items ≡ printed reply.now) }
+{
+    let mut lines = Vec::new(alloc);
+    match reply {
+        Reply::Done => lines.extend_from_slice(b"ok")?,
+        Reply::Refused(fault) => {
+            lines.extend_from_slice(b"refused ")?;
+            push_refusal(alloc, fault, &mut lines)?;
+        }
+        Reply::Called(node) => push_node_line(alloc, node, &mut lines)?,
+    }
+    lines.push(b'\n')?;
+    Ok(lines)
+}
+
+/// Puts the lines of a reply at the end. Each ends with a line feed.
+///
+/// A refusal for want of memory is never a reply, yet has a line, so that each reply has one.
+pub fn print_reply(alloc: Global, reply: &Reply, out: &mut Vec<u8>) -> Result<(), OutOfMemory>
+    ensures ok { OnOk result (out.new.items ≡ out.old.items ++ printed reply.now) }
+    ensures err { OnErr result (out.new.items ≡ out.old.items) }
+{
+    let lines = lines_of(alloc, reply)?;
+    Ok(out.extend_from_slice(&lines)?)
+}
+
+/// Puts the lines of replies at the end, in order.
+///
+/// Where memory runs out, those of the first replies stand there, each reply's as a whole.
+pub fn print_replies(alloc: Global, replies: &[Reply], out: &mut Vec<u8>) -> Result<(), OutOfMemory>
+    ensures ok { OnOk result (out.new.items ≡ out.old.items ++ all_printed replies.now) }
+    ensures err { OnErr result ((n : ℕ) × (n ≤ length replies.now) × (out.new.items ≡ out.old.items ++ all_printed (take n replies.now))) }
+{
+    for reply in replies {
+        print_reply(alloc, reply, out)?;
+    }
+    Ok(())
+}

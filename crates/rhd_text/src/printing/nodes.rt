@@ -1,0 +1,119 @@
+//! The line of a call.
+
+ghost use Rattle.std.specs.Prelude.{◌≡◌, ◌++◌, OnOk};
+ghost use Rattle.rhd_text.specs.PrintedReplies.{spelled_fault, label, layer_text, pick_text, whose_text, result_text, after_text, node_line};
+
+use super::quotes::{push_number, push_quoted};
+use super::values::push_value;
+use rhd_func::CallRequest;
+use rhd_session::{CallNode, Layer, Pick, Whose};
+use rhd_value::{Dynamic, EvalAltResult, OutOfMemory};
+use std::alloc::Global;
+
+/// A fault by its number, without its position.
+#[tactic(auto, unfolding(crate::specs::PrintedReplies::spelled_fault))]
+fn push_fault(fault: &EvalAltResult, out: &mut Vec<u8>) -> Result<(), OutOfMemory>
+    ensures { OnOk result (out.new.items ≡ out.old.items ++ spelled_fault fault.now) }
+{
+    match fault {
+        EvalAltResult::ErrorFunctionNotFound(text, _) => {
+            out.extend_from_slice(b"1 ")?;
+            push_quoted(text.as_str(), out)
+        }
+        EvalAltResult::ErrorRuntime(text, _) => {
+            out.extend_from_slice(b"15 ")?;
+            push_quoted(text.as_str(), out)
+        }
+    }
+}
+
+fn push_label(call: &CallRequest, out: &mut Vec<u8>) -> Result<(), OutOfMemory>
+    ensures { OnOk result (out.new.items ≡ out.old.items ++ label call.now) }
+{
+    match call {
+        CallRequest::Named { name, .. } => { Ok(out.extend_from_slice(name.as_str().as_bytes())?) }
+    }
+}
+
+#[tactic(auto, unfolding(crate::specs::PrintedReplies::layer_text))]
+fn push_layer(alloc: Global, layer: Layer, out: &mut Vec<u8>) -> Result<(), OutOfMemory>
+    ensures { OnOk result (out.new.items ≡ out.old.items ++ layer_text layer) }
+{
+    match layer {
+        Layer::Global(number) => {
+            out.extend_from_slice(b"global")?;
+            push_number(alloc, number, out)
+        }
+    }
+}
+
+#[tactic(auto, unfolding(crate::specs::PrintedReplies::pick_text))]
+fn push_pick(alloc: Global, pick: &Option<Pick>, out: &mut Vec<u8>) -> Result<(), OutOfMemory>
+    ensures { OnOk result (out.new.items ≡ out.old.items ++ pick_text pick.now) }
+{
+    match pick {
+        None => Ok(out.extend_from_slice(b"-")?),
+        Some(pick) => {
+            push_layer(alloc, pick.layer, out)?;
+            out.extend_from_slice(b"#")?;
+            push_number(alloc, u64::from(pick.func.native().0), out)
+        }
+    }
+}
+
+fn push_whose(whose: Whose, out: &mut Vec<u8>) -> Result<(), OutOfMemory>
+    ensures { OnOk result (out.new.items ≡ out.old.items ++ whose_text whose) }
+{
+    match whose {
+        Whose::Call => Ok(out.extend_from_slice(b"call")?),
+        Whose::Called => Ok(out.extend_from_slice(b"called")?),
+    }
+}
+
+#[tactic(auto, unfolding(crate::specs::PrintedReplies::result_text))]
+fn push_result(
+    alloc: Global,
+    answer: &Result<Dynamic, EvalAltResult>,
+    out: &mut Vec<u8>,
+) -> Result<(), OutOfMemory>
+    ensures { OnOk result (out.new.items ≡ out.old.items ++ result_text answer.now) }
+{
+    match answer {
+        Ok(value) => {
+            out.extend_from_slice(b"= ")?;
+            push_value(alloc, value, out)
+        }
+        Err(fault) => {
+            out.extend_from_slice(b"! ")?;
+            push_fault(fault, out)
+        }
+    }
+}
+
+#[tactic(auto, unfolding(crate::specs::PrintedReplies::after_text))]
+fn push_after(alloc: Global, after: &Option<Dynamic>, out: &mut Vec<u8>) -> Result<(), OutOfMemory>
+    ensures { OnOk result (out.new.items ≡ out.old.items ++ after_text after.now) }
+{
+    match after {
+        None => Ok(()),
+        Some(value) => {
+            out.extend_from_slice(b" & ")?;
+            push_value(alloc, value, out)
+        }
+    }
+}
+
+/// A call with its answer, without the end of the line.
+#[tactic(auto, unfolding(crate::specs::PrintedReplies::node_line))]
+pub fn push_node_line(alloc: Global, node: &CallNode, out: &mut Vec<u8>) -> Result<(), OutOfMemory>
+    ensures { OnOk result (out.new.items ≡ out.old.items ++ node_line node.now) }
+{
+    push_label(&node.call, out)?;
+    out.extend_from_slice(b" ")?;
+    push_pick(alloc, &node.pick, out)?;
+    out.extend_from_slice(b" ")?;
+    push_whose(node.whose, out)?;
+    out.extend_from_slice(b" ")?;
+    push_result(alloc, &node.answer, out)?;
+    push_after(alloc, &node.first_after, out)
+}
