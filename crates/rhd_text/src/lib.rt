@@ -1,0 +1,20 @@
+//! Session texts: reading them.
+#![tactic(auto)]
+
+mod fault;
+mod forms;
+mod keyword;
+mod laws;
+mod line;
+mod lines;
+mod numbers;
+mod operands;
+mod place;
+mod reading;
+mod session;
+mod words;
+
+pub use fault::TextFault;
+pub use laws::{lines_are_read_as_they_are_written, texts_say_one_thing};
+pub use reading::read_text;
+pub use session::SessionText;
