@@ -1,5 +1,5 @@
 -- A reader and what it reads.
-use Rattle.std.proofs.Common.{◌≡◌, ℕ, Bool, true, false, cond, ◌&&◌, ◌||◌, not, List, Option, Some, None, refl, ap}
+use Rattle.std.proofs.Common.{◌≡◌, ℕ, Bool, true, false, cond, ◌&&◌, List, Option, Some, None, refl, ap}
 use Rattle.rhd_text.specs.Reading.{Parse, ◌>>=◌}
 use Rattle.rhd_text.specs.Spans.{Span}
 
@@ -25,14 +25,3 @@ cond_some false a c e = absurd cc
 pub and_parts : (a b : Bool) → (a && b) ≡ true → (a ≡ true) × (b ≡ true)
 and_parts true b e = (refl, e)
 and_parts false b e = absurd cc
-
-pub or_false : (a b : Bool) → (a || b) ≡ false → (a ≡ false) × (b ≡ false)
-or_false true b e = absurd cc
-or_false false b e = (refl, e)
-
-pub not_true : (a : Bool) → not a ≡ true → a ≡ false
-not_true true e = absurd cc
-not_true false e = refl
-
-pub not_both : (a : Bool) → a ≡ true → a ≡ false → ⊥
-not_both a t f = absurd cc

@@ -2,4 +2,8 @@ pub mod Loops
 pub mod LineLaws
 pub mod NumberLaws
 pub mod Agrees
+pub mod WordLaws
 pub mod ListLaws
+pub mod OperandLaws
+pub mod RowLaws
+pub mod SessionLaws

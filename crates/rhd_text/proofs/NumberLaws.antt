@@ -1,5 +1,5 @@
 -- What words of digits parse to, and which words are text.
-use Rattle.std.proofs.Common.{◌≡◌, ℕ, zero, suc, inl, inr, ◌^◌, ◌<◌, ◌≤◌, Bool, true, false, cond, ltb, leb, ◌&&◌, List, [], ◌∷◌, length, drop, get_or, Some, None, Result, Ok, Err, ℤ, pos, neg_ℤ, refl, sym, ap, arith, rules}
+use Rattle.std.proofs.Common.{◌≡◌, ℕ, zero, suc, inl, inr, ◌^◌, ◌<◌, ◌≤◌, Bool, true, false, cond, ltb, leb, List, [], ◌∷◌, length, drop, get_or, Some, None, Result, Ok, Err, ℤ, pos, neg_ℤ, refl, sym, ap, arith, rules}
 use Rattle.std.specs.List.{list_all}
 use Rattle.std.specs.Char.{is_ascii_digit, is_ascii_lowercase}
 use Rattle.std.specs.Result.{OkIff, result_ok}
@@ -12,6 +12,7 @@ use Rattle.std.proofs.lemmas.Str.{IsUtf8-from_ascii, IsUtf8-from_is_utf8, is_utf
 use Rattle.std.proofs.lemmas.Fmt.{IsAscii-from_digits}
 use Rattle.std.proofs.lemmas.Bool.{ltb-true, lt-ltb, le-ltb, le-leb, lt-leb, cases_lt}
 use Rattle.std.proofs.lemmas.Bool.Decides.{eqb_tells, nat_tests}
+use Rattle.rhd_text.proofs.Agrees.{and_parts}
 use Rattle.rhd_text.specs.Bytes.{is_name, is_digits, is_signed_digits, fitting_int}
 
 abbrev AreDigits : List ℕ → Type 0
@@ -19,10 +20,6 @@ AreDigits ds = list_all is_ascii_digit ds ≡ true
 
 own : IsNumeralModel AreDigits (digits_value 10)
 own = numerals_by_value _ (search rules)
-
-and_parts : (a b : Bool) → (a && b) ≡ true → (a ≡ true) × (b ≡ true)
-and_parts true b e = (refl, e)
-and_parts false b e = absurd cc
 
 pub digits_are_text : (w : List ℕ) → is_digits w ≡ true → IsUtf8 w
 digits_are_text w h = IsUtf8-from_ascii w (IsAscii-from_digits w (own.to w (and_parts (ltb 0 (length w)) (list_all is_ascii_digit w) h).1))

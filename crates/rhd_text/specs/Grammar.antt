@@ -7,7 +7,7 @@ use Rattle.rhd_text.specs.declared.line.Line.{Line}
 use Rattle.rhd_text.specs.declared.line.Line.TheVariants.{Skipped, Says}
 use Rattle.rhd_text.specs.declared.keyword.Keyword.{Keyword}
 use Rattle.rhd_text.specs.Rows.{Operand, NAME, NUM, INTS, Meaning, From, row, keyword}
-use Rattle.rhd_text.specs.Spans.{Span, ◌▸◌, blanks, bare, name, number, value, each}
+use Rattle.rhd_text.specs.Spans.{Span, blanks, bare, name, number, value, each}
 
 abbrev pub operand : (o : Operand) → Meaning o → Span
 operand NAME = name

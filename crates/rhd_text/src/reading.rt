@@ -45,11 +45,7 @@ fn read_lines(alloc: Global, bytes: &[u8], held: usize) -> Result<SessionText, T
 }
 
 /// The commands of a session text.
-pub fn read_text(
-    alloc: Global,
-    bytes: &[u8],
-    natives: &Natives,
-) -> Result<SessionText, TextFault>
+pub fn read_text(alloc: Global, bytes: &[u8], natives: &Natives) -> Result<SessionText, TextFault>
     requires { length bytes.now < 2 ^ 32 }
     // What it answers is what the bytes are.
     ensures reads { ReadsText (length natives.now.items.items) (lines bytes.now) result }
