@@ -9,6 +9,7 @@ use Rattle.rhd_text.specs.declared.keyword.Keyword.{Keyword}
 use Rattle.rhd_text.specs.Rows.{Operand, NAME, NUM, INTS, Meaning, From, row, keyword}
 use Rattle.rhd_text.specs.Spans.{Span, blanks, bare, name, number, value, each}
 
+-- how each kind of operand is written
 abbrev pub operand : (o : Operand) → Meaning o → Span
 operand NAME = name
 operand NUM = number

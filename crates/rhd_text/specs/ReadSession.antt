@@ -11,6 +11,7 @@ after_line held n t line = do
   l ← line_of held n line
   with_line t l
 
+-- goes on with what is said, or stops at line n
 abbrev pub next : ℕ → Option SessionText → (SessionText → Result SessionText ℕ) → Result SessionText ℕ
 next n None more = Err n
 next n (Some t) more = more t
@@ -20,5 +21,6 @@ abbrev pub text_from : ℕ → ℕ → SessionText → List (List ℕ) → Resul
 text_from held n t [] = Ok t
 text_from held n t (line ∷ more) = next n (after_line held n t line) (λ u. text_from held (n + 1) u more)
 
+-- what these lines say, or the number of the first bad one
 abbrev pub session_of : ℕ → List (List ℕ) → Result SessionText ℕ
 session_of held lines = text_from held 1 empty_text lines

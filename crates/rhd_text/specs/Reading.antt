@@ -4,6 +4,7 @@ use Rattle.std.specs.List.{prefix_len}
 use Rattle.rhd_value.specs.Tree.{Tree}
 use Rattle.rhd_text.specs.Bytes.{is_blank, is_word_byte, may_end, is_name, num_of, value_of}
 
+-- what is read first, and then with it
 infixl 10 ◌>>=◌
 abbrev pub ◌>>=◌ : {A B : Type 0} → Option A → (A → Option B) → Option B
 o >>= f = option_and_then f o
@@ -28,17 +29,20 @@ run_at bytes = let n = prefix_len is_word_byte bytes in if nat_lt 0 n && may_end
 unfoldable pub word_at : Parse (List ℕ)
 word_at bytes = run_at (skip_blanks bytes)
 
+-- the next word, if it is a name
 unfoldable pub name_at : Parse (List ℕ)
 name_at bytes = do
   w ← word_at bytes
   if is_name w.0 then Some w else None
 
+-- the number of the next word
 unfoldable pub num_at : Parse ℕ
 num_at bytes = do
   w ← word_at bytes
   n ← num_of w.0
   Some (n, w.1)
 
+-- the value of the next word
 unfoldable pub value_at : Parse Tree
 value_at bytes = do
   w ← word_at bytes

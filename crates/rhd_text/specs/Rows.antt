@@ -40,13 +40,16 @@ held_only place n c = if nat_lt n place.held then Some c else None
 abbrev pub position : Place → Position
 position place = record { line = place.line; column = 1 }
 
+-- how a keyword is spelled
 abbrev pub keyword : Keyword → List ℕ
 keyword Register = codes "register"
 keyword Call = codes "call"
 
+-- all keywords
 abbrev pub keywords : List Keyword
 keywords = Register ∷ Call ∷ []
 
+-- THE ROWS
 abbrev pub row : Keyword → Row
 row Register = record { operands = NAME ∷ NUM ∷ []; command = λ place f n. held_only place n (says.RegisterFn f (record { 0 = n })) }
 row Call = record { operands = NAME ∷ INTS ∷ []; command = λ place f args. Some (says.Call (Named f false (Plain args) (position place))) }

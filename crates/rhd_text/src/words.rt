@@ -82,12 +82,14 @@ pub fn word_at(bytes: &[u8]) -> Result<(&[u8], &[u8]), Stop>
     run_at(skip_blanks(bytes))
 }
 
+/// Whether all bytes are digits.
 pub fn all_digits(word: &[u8]) -> bool
     ensures { result ≡ list_all is_ascii_digit word.now }
 {
     word.iter().all(|b| b.is_ascii_digit())
 }
 
+/// Whether a word is a lower-case letter and digits.
 pub fn is_name(word: &[u8]) -> bool
     ensures { result ≡ is_name word.now }
 {
