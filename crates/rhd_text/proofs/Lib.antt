@@ -1,2 +1,11 @@
+pub mod Loops
+pub mod LineLaws
+pub mod NumberLaws
+pub mod Agrees
+pub mod WordLaws
+pub mod ListLaws
+pub mod OperandLaws
+pub mod RowLaws
+pub mod SessionLaws
 pub mod PrintingWeights
 pub mod PrintingEntries

@@ -1,3 +1,12 @@
+pub mod Bytes
+pub mod Rows
+pub mod Spans
+pub mod Grammar
+pub mod Session
+pub mod Reading
+pub mod ReadRows
+pub mod ReadSession
+pub mod Answers
 pub mod PrintedTexts
 pub mod PrintedValues
 pub mod PrintedReplies

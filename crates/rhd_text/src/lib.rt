@@ -1,6 +1,22 @@
-//! Replies as text.
+//! Session texts: reading them, and printing the replies.
 #![tactic(auto)]
 
+mod fault;
+mod forms;
+mod keyword;
+mod laws;
+mod line;
+mod lines;
+mod numbers;
+mod operands;
+mod place;
 mod printing;
+mod reading;
+mod session;
+mod words;
 
+pub use fault::TextFault;
+pub use laws::{lines_are_read_as_they_are_written, texts_say_one_thing};
 pub use printing::{print_replies, print_reply, print_value};
+pub use reading::read_text;
+pub use session::SessionText;

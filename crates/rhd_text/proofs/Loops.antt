@@ -1,0 +1,8 @@
+-- Reading one after the other, as a loop does.
+use Rattle.std.proofs.Common.{◌≡◌, ℕ, zero, suc, ◌-◌, ◌<◌, Bool, false, List, [], ◌∷◌, ◌++◌, Some, refl, arith}
+use Rattle.rhd_text.specs.Reading.{Parse, many}
+
+pub turn : {A : Type 0} (stop : List ℕ → Bool) (one : Parse A) (found : List A) (most : ℕ) (bytes : List ℕ) (x : A) (after : List ℕ) → 0 < most → stop bytes ≡ false → one bytes ≡ Some (x, after) → many stop one found most bytes ≡ many stop one (found ++ x ∷ []) (most - 1) after
+unfolding many
+turn stop one found zero bytes x after some more h = absurd (omega arith)
+turn stop one found (suc n) bytes x after some more h = let k : suc n - 1 ≡ n = omega arith in rw (k, more, h) refl

@@ -1,0 +1,112 @@
+-- Rows and lines: what is read is what is written.
+use Rattle.std.proofs.Common.{◌≡◌, ◌⊎◌, ℕ, Bool, true, false, cond, not, List, [], ◌∷◌, ◌++◌, Option, Some, None, refl, sym, ap, subst, ◌∙◌, inl, inr}
+use Rattle.std.specs.Str.{is_utf8, bytes_eq}
+use Rattle.std.proofs.lemmas.Slice.Eq.{bytes_eq-Decides}
+use Rattle.std.proofs.lemmas.Bool.{eqb-true}
+use Rattle.rhd_session.specs.declared.command.Command.{Command}
+use Rattle.rhd_text.specs.declared.place.Place.{Place}
+use Rattle.rhd_text.specs.declared.line.Line.{Line}
+use Rattle.rhd_text.specs.declared.line.Line.TheVariants.{Skipped, Says}
+use Rattle.rhd_text.specs.declared.keyword.Keyword.{Keyword}
+use Rattle.rhd_text.specs.declared.keyword.Keyword.TheVariants.{Register, Call}
+use Rattle.rhd_text.specs.Bytes.{is_blank}
+use Rattle.rhd_text.specs.Rows.{Operand, Meaning, From, row, keyword, keywords}
+use Rattle.rhd_text.specs.Spans.{blanks, bare}
+use Rattle.rhd_text.specs.Grammar.{operands, command, WrittenLine, IsLine}
+use Rattle.rhd_text.specs.Reading.{◌>>=◌, skip_blanks, is_end, word_at}
+use Rattle.rhd_text.specs.ReadRows.{operand_at, operands_at, row_at, keyword_in, keyword_of, begins_no_command, is_skipped, line_at, line_of}
+use Rattle.rhd_text.proofs.Agrees.{bind_some, same_some}
+use Rattle.rhd_text.proofs.WordLaws.{stops_nil, head_stop, skipped, skips_to, bare_agrees, bare_here, end_sound, end_complete}
+use Rattle.rhd_text.proofs.OperandLaws.{operand_agrees}
+
+-- ---- any row
+
+ended : {R : Type 0} (b : Bool) (o : Option R) (c : R) → cond b o None ≡ Some c → (b ≡ true) × (o ≡ Some c)
+ended true o c e = (refl, e)
+ended false o c e = absurd cc
+
+row_sound : {R : Type 0} (os : List Operand) (says : From os (Option R)) (c : R) (bytes : List ℕ) → operands_at os says bytes ≡ Some c → operands os says c bytes
+row_sound [] says c bytes e = let s = ended (is_end bytes) says c e in (end_sound bytes s.0, s.1)
+row_sound (o ∷ os) says c bytes e =
+    let a = bind_some (operand_at o bytes) (λ x. operands_at os (says x.0) x.1) c e in
+    (a.0.0, a.0.1, (operand_agrees o).sound a.0.0 bytes a.0.1 a.1, row_sound os (says a.0.0) c a.0.1 a.2)
+
+first_read : {R : Type 0} (o : Operand) (os : List Operand) (says : From (o ∷ os) (Option R)) (c : R) (x : Meaning o) (bytes rest : List ℕ) → operand_at o bytes ≡ Some (x, rest) → operands_at os (says x) rest ≡ Some c → operands_at (o ∷ os) says bytes ≡ Some c
+first_read o os says c x bytes rest e more = rw e more
+
+row_complete : {R : Type 0} (os : List Operand) (says : From os (Option R)) (c : R) (bytes : List ℕ) → operands os says c bytes → operands_at os says bytes ≡ Some c
+row_complete [] says c bytes w = rw (end_complete bytes w.0) w.1
+row_complete (o ∷ os) says c bytes w = first_read o os says c w.0 bytes w.1 ((operand_agrees o).complete w.0 bytes w.1 w.2) (row_complete os (says w.0) c w.1 w.3)
+
+-- ---- keywords: one line for each in both of `keyword_complete` and `keyword_shows`
+
+keyword_test : (b : Bool) (w : List ℕ) (j k : Keyword) (more : Option Keyword) → bytes_eq (keyword j) w ≡ b → cond b (Some j) more ≡ Some k → (more ≡ Some k → w ≡ keyword k) → w ≡ keyword k
+keyword_test true w j k more h e next = sym ((bytes_eq-Decides (keyword j) w).0 h) ∙ ap keyword (same_some j k e)
+keyword_test false w j k more h e next = next e
+
+keyword_found : (ks : List Keyword) (w : List ℕ) (k : Keyword) → keyword_in ks w ≡ Some k → w ≡ keyword k
+unfolding keyword_in
+keyword_found [] w k e = absurd cc
+keyword_found (j ∷ ks) w k e = keyword_test (bytes_eq (keyword j) w) w j k (keyword_in ks w) refl e (λ f. keyword_found ks w k f)
+
+keyword_sound : (w : List ℕ) (k : Keyword) → keyword_of w ≡ Some k → w ≡ keyword k
+keyword_sound w k e = keyword_found keywords w k e
+
+-- no earlier keyword is spelled so
+keyword_complete : (k : Keyword) → keyword_of (keyword k) ≡ Some k
+unfolding keyword_in
+keyword_complete Register = refl
+keyword_complete Call = refl
+
+-- a keyword begins no comment
+keyword_shows : (k : Keyword) (rest : List ℕ) → begins_no_command (keyword k ++ rest) ≡ false
+keyword_shows Register rest = refl
+keyword_shows Call rest = refl
+
+-- ---- a line
+
+skipped_sound : (s bytes : List ℕ) → blanks bytes s → begins_no_command s ≡ true → blanks bytes [] ⊎ ((comment : List ℕ) × blanks bytes (59 ∷ comment))
+skipped_sound [] bytes b e = inl b
+skipped_sound (x ∷ s) bytes b e = inr (s, subst (λ (y : ℕ). blanks bytes (y ∷ s)) (eqb-true x 59 e) b)
+
+not_skipped : (place : Place) (l : Line) (bytes : List ℕ) → (word_at bytes >>= λ w. keyword_of w.0 >>= λ k. row_at place k w.1 >>= λ c. Some (Says c)) ≡ Some l → WrittenLine place l bytes
+unfolding row_at
+not_skipped place l bytes e =
+    let a = bind_some (word_at bytes) (λ w. keyword_of w.0 >>= λ k. row_at place k w.1 >>= λ c. Some (Says c)) l e in
+    let b = bind_some (keyword_of a.0.0) (λ k. row_at place k a.0.1 >>= λ c. Some (Says c)) l a.2 in
+    let d = bind_some (row_at place b.0 a.0.1) (λ c. Some (Says c)) l b.2 in
+    let w = subst (λ (v : List ℕ). bare v bytes a.0.1) (keyword_sound a.0.0 b.0 b.1) (bare_agrees.sound a.0.0 bytes a.0.1 a.1) in
+    subst (λ (j : Line). WrittenLine place j bytes) (same_some (Says d.0) l d.2)
+    (b.0, a.0.1, w, row_sound (row b.0).operands ((row b.0).command place) d.0 a.0.1 d.1)
+
+line_cases : (t s : Bool) (held n : ℕ) (l : Line) (bytes : List ℕ) → is_utf8 bytes ≡ t → is_skipped bytes ≡ s → cond (not t) None (cond s (Some Skipped) (word_at bytes >>= λ w. keyword_of w.0 >>= λ k. row_at (record { held = held; line = n }) k w.1 >>= λ c. Some (Says c))) ≡ Some l → IsLine held n l bytes
+line_cases true true held n l bytes ht hs e = record {
+  text = ht;
+  written = subst (λ (j : Line). WrittenLine (record { held = held; line = n }) j bytes) (same_some Skipped l e) (skipped_sound (skip_blanks bytes) bytes (skipped bytes) hs);
+}
+line_cases true false held n l bytes ht hs e = record { text = ht; written = not_skipped (record { held = held; line = n }) l bytes e }
+line_cases false s held n l bytes ht hs e = absurd cc
+
+pub line_sound : (held n : ℕ) (l : Line) (bytes : List ℕ) → line_of held n bytes ≡ Some l → IsLine held n l bytes
+unfolding line_at
+line_sound held n l bytes e = line_cases (is_utf8 bytes) (is_skipped bytes) held n l bytes refl refl e
+
+skip_complete : (bytes : List ℕ) → blanks bytes [] ⊎ ((comment : List ℕ) × blanks bytes (59 ∷ comment)) → is_skipped bytes ≡ true
+skip_complete bytes (inl b) = ap begins_no_command (skips_to bytes [] b (stops_nil is_blank))
+skip_complete bytes (inr c) = ap begins_no_command (skips_to bytes (59 ∷ c.0) c.1 (head_stop 59 c.0 refl))
+
+command_complete : (place : Place) (c : Command) (bytes : List ℕ) → command place c bytes → (is_skipped bytes ≡ false) × ((word_at bytes >>= λ w. keyword_of w.0 >>= λ k. row_at place k w.1 >>= λ d. Some (Says d)) ≡ Some (Says c))
+unfolding row_at
+command_complete place c bytes w =
+    let h = bare_here (keyword w.0) bytes w.1 w.2 in (
+      ap begins_no_command h.2 ∙ keyword_shows w.0 w.1,
+      rw (bare_agrees.complete (keyword w.0) bytes w.1 w.2, keyword_complete w.0, row_complete (row w.0).operands ((row w.0).command place) c w.1 w.3) refl,
+    )
+
+written_complete : (place : Place) (l : Line) (bytes : List ℕ) → is_utf8 bytes ≡ true → WrittenLine place l bytes → line_at place bytes ≡ Some l
+unfolding line_at
+written_complete place Skipped bytes t w = rw (t, skip_complete bytes w) refl
+written_complete place (Says c) bytes t w = let k = command_complete place c bytes w in rw (t, k.0) k.1
+
+pub line_complete : (held n : ℕ) (l : Line) (bytes : List ℕ) → IsLine held n l bytes → line_of held n bytes ≡ Some l
+line_complete held n l bytes w = written_complete (record { held = held; line = n }) l bytes w.text w.written

@@ -1,0 +1,15 @@
+use Rattle.std.proofs.Common.{ℕ, length, subst}
+use Rattle.std.specs.Str.Lines.{lines}
+use Rattle.rhd_text.specs.ReadSession.{session_of}
+use Rattle.rhd_text.specs.Answers.{Reads}
+use Rattle.rhd_text.proofs.SessionLaws.{reads, reads_no_other, names_no_other}
+use Rattle.rhd_text.proofs.reading.read_text.Goals as goal
+
+pub returns-clause-reads : goal.returns-clause-reads
+returns-clause-reads g c = reads (length c.args.natives.now.items.items) (lines c.args.bytes.now) c.read_lines.result (subst (λ (h : ℕ). Reads c.read_lines.result (session_of h (lines c.args.bytes.now))) c.len.ensures c.read_lines.ensures)
+
+pub returns-clause-text : goal.returns-clause-text
+returns-clause-text g c = reads_no_other (length c.args.natives.now.items.items) (lines c.args.bytes.now) c.read_lines.result (subst (λ (h : ℕ). Reads c.read_lines.result (session_of h (lines c.args.bytes.now))) c.len.ensures c.read_lines.ensures)
+
+pub returns-clause-bad : goal.returns-clause-bad
+returns-clause-bad g c = names_no_other (length c.args.natives.now.items.items) (lines c.args.bytes.now) c.read_lines.result (subst (λ (h : ℕ). Reads c.read_lines.result (session_of h (lines c.args.bytes.now))) c.len.ensures c.read_lines.ensures)

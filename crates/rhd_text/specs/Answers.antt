@@ -1,0 +1,28 @@
+-- What the readers answer.
+use Rattle.std.specs.Prelude.{◌≡◌, ℕ, Option, Some, None, Result, Ok, Err}
+use Rattle.rhd_text.specs.declared.fault.TextFault.{TextFault}
+use Rattle.rhd_text.specs.declared.fault.TextFault.TheVariants.{BadLine, OutOfMemory}
+use Rattle.rhd_text.specs.declared.fault.Stop.{Stop}
+use Rattle.rhd_text.specs.declared.fault.Stop.TheVariants as stops
+use Rattle.rhd_text.specs.declared.session.SessionText.{SessionText}
+
+-- a reader stopped where its definition gives nothing, unless memory ran out
+abbrev pub Stops : {Y : Type 0} → Stop → Option Y → Type 0
+Stops stops.Bad read = read ≡ None
+Stops stops.Memory read = Unit {0}
+
+-- what a reader answered, seen by view, is what its definition gives, unless memory ran out
+abbrev pub Gives : {X Y : Type 0} → (X → Y) → Result X Stop → Option Y → Type 0
+Gives view (Ok x) read = read ≡ Some (view x)
+Gives view (Err e) read = Stops e read
+
+-- what a step made is what its definition gives, unless memory ran out
+abbrev pub StepGives : {X Y : Type 0} → Result X Stop → Y → Option Y → Type 0
+StepGives (Ok x) new step = step ≡ Some new
+StepGives (Err e) new step = Stops e step
+
+-- the reader's answer is what the lines say, unless memory ran out
+abbrev pub Reads : Result SessionText TextFault → Result SessionText ℕ → Type 0
+Reads (Ok t) said = said ≡ Ok t
+Reads (Err (BadLine n)) said = said ≡ Err n
+Reads (Err OutOfMemory) said = Unit {0}

@@ -1,0 +1,61 @@
+-- BYTES AND WORDS: which bytes part words, and what a word may say.
+use Rattle.std.specs.Prelude.{ℕ, ◌^◌, Bool, true, false, ◌&&◌, ◌||◌, not, List, [], ◌∷◌, length, drop, Option, Some, None, ℤ, pos, neg_ℤ, nat_le, nat_lt, ◌==◌, slice_index, if◌then◌else◌}
+use Rattle.std.specs.Option.{option_map}
+use Rattle.std.specs.List.{list_all}
+use Rattle.std.specs.Char.{is_ascii_digit, is_ascii_lowercase}
+use Rattle.std.specs.Str.Parse.{digits_value}
+use Rattle.rhd_value.specs.Tree.{Tree, integer}
+use Rattle.rhd_value.specs.Kinds.{plain}
+
+-- a space or a tab
+abbrev pub is_blank : ℕ → Bool
+is_blank b = b == 32 || b == 9
+
+-- ( ) [ ] { }
+abbrev pub is_bracket : ℕ → Bool
+is_bracket b = b == 40 || b == 41 || b == 91 || b == 93 || b == 123 || b == 125
+
+-- a byte of an unquoted word: no blank, no bracket and no quotation mark
+abbrev pub is_word_byte : ℕ → Bool
+is_word_byte b = not (is_blank b || is_bracket b || b == 34 || b == 39)
+
+-- what stands after a word: the end of the line, a blank or a bracket
+abbrev pub may_end : List ℕ → Bool
+may_end [] = true
+may_end (b ∷ bytes) = is_blank b || is_bracket b
+
+-- the first byte
+abbrev pub begins : ℕ → List ℕ → Bool
+begins b bytes = slice_index bytes 0 == b
+
+-- one lower-case letter, and digits, possibly none
+abbrev pub is_name : List ℕ → Bool
+is_name [] = false
+is_name (c ∷ cs) = is_ascii_lowercase c && list_all is_ascii_digit cs
+
+-- one digit or more
+abbrev pub is_digits : List ℕ → Bool
+is_digits w = nat_lt 0 (length w) && list_all is_ascii_digit w
+
+-- the number of 1 to 20 digits, where it is below 2 ^ 32
+unfoldable pub num_of : List ℕ → Option ℕ
+num_of w = if is_digits w && nat_le (length w) 20 && nat_lt (digits_value 10 w) (2 ^ 32) then Some (digits_value 10 w) else None
+
+-- digits, or `-` and digits
+abbrev pub is_signed_digits : List ℕ → Bool
+is_signed_digits w = if begins 45 w then is_digits (drop 1 w) else is_digits w
+
+-- the integer of such a word, where it has 64 bits
+abbrev pub fitting_int : List ℕ → Option ℤ
+fitting_int w =
+    if begins 45 w
+    then (if nat_le (digits_value 10 (drop 1 w)) (2 ^ 63) then Some (neg_ℤ (pos (digits_value 10 (drop 1 w)))) else None)
+    else (if nat_lt (digits_value 10 w) (2 ^ 63) then Some (pos (digits_value 10 w)) else None)
+
+-- the integer of any number of digits with or without `-`, where it has 64 bits
+unfoldable pub int_of : List ℕ → Option ℤ
+int_of w = if is_signed_digits w then fitting_int w else None
+
+-- the integer as a value without marks
+abbrev pub value_of : List ℕ → Option Tree
+value_of w = option_map (λ z. plain (integer z)) (int_of w)

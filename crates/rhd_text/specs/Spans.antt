@@ -1,0 +1,67 @@
+-- HOW THINGS ARE WRITTEN. A span says of some bytes, and of the bytes that are left, what is written between them.
+use Rattle.std.specs.Prelude.{◌≡◌, ◌⊎◌, ◌<◌, ℕ, true, List, [], ◌∷◌, ◌++◌, length, Option, Some}
+use Rattle.std.specs.List.{list_all}
+use Rattle.rhd_value.specs.Tree.{Tree}
+use Rattle.rhd_text.specs.Bytes.{is_blank, is_word_byte, may_end, is_name, num_of, value_of}
+
+-- of the bytes before, and the bytes left
+abbrev pub Span : Type 1
+Span = List ℕ → List ℕ → Type 0
+
+-- one after the other
+infixr 20 ◌▸◌
+abbrev pub ◌▸◌ : Span → Span → Span
+◌▸◌ p q bytes rest = (middle : List ℕ) × p bytes middle × q middle rest
+
+-- one or the other
+abbrev pub either : Span → Span → Span
+either p q bytes rest = p bytes rest ⊎ q bytes rest
+
+-- no byte
+abbrev pub nothing : Span
+nothing bytes rest = bytes ≡ rest
+
+-- this one byte
+abbrev pub byte : ℕ → Span
+byte b bytes rest = bytes ≡ b ∷ rest
+
+-- any number of blanks, possibly none
+abbrev pub blanks : Span
+blanks bytes rest = (gap : List ℕ) × (list_all is_blank gap ≡ true) × (bytes ≡ gap ++ rest)
+
+-- a bracket, and any blanks before it (those after it stand before what follows)
+abbrev pub bracket : ℕ → Span
+bracket b = blanks ▸ byte b
+
+-- ---- words
+
+-- a run of characters, after which stands the end of the line, a blank or a bracket
+abbrev pub run : List ℕ → Span
+run w bytes rest = (list_all is_word_byte w ≡ true) × (0 < length w) × (bytes ≡ w ++ rest) × (may_end rest ≡ true)
+
+-- an unquoted word
+abbrev pub bare : List ℕ → Span
+bare w = blanks ▸ run w
+
+-- an unquoted word that is a name
+abbrev pub name : List ℕ → Span
+name w bytes rest = (is_name w ≡ true) × bare w bytes rest
+
+-- an unquoted word that has this meaning
+abbrev pub meant : {A : Type 0} → (List ℕ → Option A) → A → Span
+meant of x bytes rest = (w : List ℕ) × (of w ≡ Some x) × bare w bytes rest
+
+-- the word of a number
+abbrev pub number : ℕ → Span
+number = meant num_of
+
+-- the word of a value
+abbrev pub value : Tree → Span
+value = meant value_of
+
+-- ---- lists
+
+-- elements one after the other
+abbrev pub each : {A : Type 0} → (A → Span) → List A → Span
+each one [] = nothing
+each one (x ∷ xs) = one x ▸ each one xs

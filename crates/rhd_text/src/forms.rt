@@ -1,0 +1,61 @@
+//! One function for each row of the table.
+
+ghost use Rattle.rhd_text.specs.declared.keyword.Keyword.TheVariants as keywords;
+ghost use Rattle.rhd_text.specs.ReadRows.{row_at};
+ghost use Rattle.rhd_text.specs.Answers.{Gives};
+
+use crate::fault::Stop;
+use crate::keyword::Keyword;
+use crate::numbers::num_at;
+use crate::operands::{name_at, values_at};
+use crate::place::Place;
+use crate::words::is_end;
+use rhd_func::{CallRequest, CallShape};
+use rhd_session::Command;
+use rhd_value::{FnId, Position};
+use std::alloc::Global;
+
+#[tactic(auto, unfolding(crate::specs::ReadRows::row_at))]
+fn register_at(alloc: Global, bytes: &[u8], place: Place) -> Result<Command, Stop>
+    ensures { Gives (λ x. x) result (row_at place keywords.Register bytes.now) }
+{
+    let (name, rest) = name_at(alloc, bytes)?;
+    let (number, rest) = num_at(rest)?;
+    if number as usize >= place.held || !is_end(rest) {
+        return Err(Stop::Bad);
+    }
+    Ok(Command::RegisterFn {
+        name,
+        id: FnId(number),
+    })
+}
+
+#[tactic(auto, unfolding(crate::specs::ReadRows::row_at))]
+fn call_at(alloc: Global, bytes: &[u8], place: Place) -> Result<Command, Stop>
+    ensures { Gives (λ x. x) result (row_at place keywords.Call bytes.now) }
+{
+    let (name, rest) = name_at(alloc, bytes)?;
+    let (args, rest) = values_at(alloc, rest)?;
+    if !is_end(rest) {
+        return Err(Stop::Bad);
+    }
+    Ok(Command::Call(CallRequest::Named {
+        name,
+        native_only: false,
+        shape: CallShape::Plain(args),
+        pos: Position {
+            line: place.line,
+            column: 1,
+        },
+    }))
+}
+
+/// The command of a line form, by what stands after its keyword.
+pub fn row_at(alloc: Global, keyword: Keyword, bytes: &[u8], place: Place) -> Result<Command, Stop>
+    ensures { Gives (λ x. x) result (row_at place keyword bytes.now) }
+{
+    match keyword {
+        Keyword::Register => register_at(alloc, bytes, place),
+        Keyword::Call => call_at(alloc, bytes, place),
+    }
+}

@@ -1,0 +1,56 @@
+//! What one line says.
+
+ghost use Rattle.std.specs.Prelude.{◌≡◌};
+ghost use Rattle.std.specs.Str.{is_utf8};
+ghost use Rattle.rhd_text.specs.ReadRows.{is_skipped, line_at};
+ghost use Rattle.rhd_text.specs.Answers.{Gives};
+
+use crate::fault::Stop;
+use crate::forms::row_at;
+use crate::keyword::keyword_of;
+use crate::place::Place;
+use crate::words::{skip_blanks, word_at};
+use rhd_session::Command;
+use std::alloc::Global;
+
+/// What one line is, where it is a line.
+#[derive(Drop)]
+pub enum Line {
+    Skipped,
+    Says(Command),
+}
+
+fn is_skipped(line: &[u8]) -> bool
+    ensures { result ≡ is_skipped line.now }
+{
+    match skip_blanks(line) {
+        [] => true,
+        [b';', ..] => true,
+        _ => false,
+    }
+}
+
+fn is_text(line: &[u8]) -> bool
+    ensures { result ≡ is_utf8 line.now }
+{
+    str::from_utf8(line).is_ok()
+}
+
+/// What a line says.
+#[tactic(auto, unfolding(crate::specs::ReadRows::line_at))]
+pub fn line_at(alloc: Global, line: &[u8], place: Place) -> Result<Line, Stop>
+    ensures { Gives (λ x. x) result (line_at place line.now) }
+{
+    if !is_text(line) {
+        return Err(Stop::Bad);
+    }
+    if is_skipped(line) {
+        return Ok(Line::Skipped);
+    }
+    let (word, rest) = word_at(line)?;
+    let Some(keyword) = keyword_of(word) else {
+        return Err(Stop::Bad);
+    };
+    let command = row_at(alloc, keyword, rest, place)?;
+    Ok(Line::Says(command))
+}

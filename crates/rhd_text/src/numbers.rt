@@ -1,0 +1,82 @@
+//! Numbers.
+
+ghost use Rattle.std.specs.Prelude.{◌≡◌, ◌^◌, nat_lt, if◌then◌else◌, true};
+ghost use Rattle.std.specs.Str.Parse.{digits_value};
+ghost use Rattle.rhd_text.specs.Bytes.{is_digits, is_signed_digits, fitting_int, num_of, int_of};
+ghost use Rattle.rhd_text.specs.Reading.{num_at};
+ghost use Rattle.rhd_text.specs.Answers.{Gives};
+
+use crate::fault::Stop;
+use crate::words::{all_digits, word_at};
+
+fn is_digits(word: &[u8]) -> bool
+    ensures { result ≡ is_digits word.now }
+{
+    !word.is_empty() && all_digits(word)
+}
+
+fn parse_u32(word: &[u8]) -> Option<u32>
+    requires { is_digits word.now ≡ true }
+    ensures { result ≡ (if nat_lt (digits_value 10 word.now) (2 ^ 32) then Some (digits_value 10 word.now) else None) }
+{
+    match str::from_utf8(word) {
+        Ok(text) => text.parse::<u32>().ok(),
+        Err(_) => None,
+    }
+}
+
+#[tactic(auto, unfolding(crate::specs::Bytes::num_of))]
+fn num_of(word: &[u8]) -> Option<u32>
+    ensures { result ≡ num_of word.now }
+{
+    if !is_digits(word) {
+        return None;
+    }
+    if word.len() > 20 {
+        return None;
+    }
+    parse_u32(word)
+}
+
+/// A number, and the bytes after it.
+#[tactic(auto, unfolding(crate::specs::Reading::num_at))]
+pub fn num_at(bytes: &[u8]) -> Result<(u32, &[u8]), Stop>
+    ensures { Gives (λ x. (x.0, x.1.now)) result (num_at bytes.now) }
+{
+    let (word, rest) = word_at(bytes)?;
+    let Some(number) = num_of(word) else {
+        return Err(Stop::Bad);
+    };
+    Ok((number, rest))
+}
+
+fn parse_i64(word: &[u8]) -> Option<i64>
+    requires { is_signed_digits word.now ≡ true }
+    ensures { result ≡ fitting_int word.now }
+{
+    match str::from_utf8(word) {
+        Ok(text) => text.parse::<i64>().ok(),
+        Err(_) => None,
+    }
+}
+
+fn is_signed_digits(word: &[u8]) -> bool
+    ensures { result ≡ is_signed_digits word.now }
+{
+    match word {
+        [b'-', digits @ ..] => is_digits(digits),
+        _ => is_digits(word),
+    }
+}
+
+/// The integer that a word says.
+#[tactic(auto, unfolding(crate::specs::Bytes::int_of))]
+pub fn int_of(word: &[u8]) -> Option<i64>
+    ensures { result ≡ int_of word.now }
+{
+    if is_signed_digits(word) {
+        parse_i64(word)
+    } else {
+        None
+    }
+}
