@@ -1,6 +1,7 @@
 //! Reads a session text, and prints the replies.
 #![tactic(auto)]
 
+mod kit;
 mod reading;
 mod sink;
 mod source;

@@ -1,7 +1,8 @@
 //! Reading a source to its end.
 
-ghost use Rattle.std.specs.Prelude.{◌≤◌};
-ghost use Rattle.rhd_tool.specs.Streams.{ReadsWhole};
+ghost use Rattle.std.specs.Prelude.{◌≡◌, ◌≤◌, List, ℕ, Some};
+ghost use Rattle.rhd_tool.specs.Causes.{Rose};
+ghost use Rattle.rhd_tool.specs.Streams.{ReadsWhole, EndsBy};
 
 use crate::source::Source;
 use std::alloc::Global;
@@ -18,6 +19,7 @@ pub enum ReadEnd {
 pub fn read_whole<S: Source>(alloc: Global, source: &mut S, most: usize) -> Result<Vec<u8>, ReadEnd>
     ensures end { ReadsWhole most (S.left source.old) (S.left source.new) (S.faults source.old) (S.faults source.new) result }
     ensures later { S.faults source.old ≤ S.faults source.new }
+    ensures ends { (xs : List ℕ) → S.left source.old ≡ Some xs → ¬ (Rose (S.faults source.old) (S.faults source.new)) → EndsBy most xs result }
 {
     let mut bytes = Vec::new(alloc);
     let mut buf = [0u8; 16384];

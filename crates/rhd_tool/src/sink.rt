@@ -1,6 +1,6 @@
 //! Where bytes go.
 
-ghost use Rattle.std.specs.Prelude.{◌≡◌, ◌<◌, ◌≤◌, List, [], ℕ, Option, Some, None, IfSome, length, min, IfOk};
+ghost use Rattle.std.specs.Prelude.{◌≡◌, ◌<◌, ◌≤◌, List, [], ℕ, Option, Some, None, IfSome, length, min, IfOk, IfErr};
 ghost use Rattle.std.specs.Io.KnownBytes.{WriteAppends};
 ghost use Rattle.rhd_tool.specs.Causes.{HasSinkCause};
 
@@ -137,6 +137,49 @@ impl Sink for MemSink {
         let count = lesser(piece.len(), self.most);
         match self.bytes.extend_from_slice(&piece[..count]) {
             Ok(()) => Ok(count),
+            Err(_) => Err(SinkFault::OutOfMemory),
+        }
+    }
+}
+
+/// A list of what was written; no call fails but for want of memory.
+#[derive(Drop)]
+pub struct PlainSink {
+    bytes: Vec<u8>,
+}
+
+impl PlainSink {
+    pub fn new(alloc: Global) -> Self
+        ensures written { ⟦<PlainSink as Sink>⟧.written result ≡ Some [] }
+        ensures faults { ⟦<PlainSink as Sink>⟧.faults result ≡ 0 }
+    {
+        PlainSink {
+            bytes: Vec::new(alloc),
+        }
+    }
+
+    /// The bytes that were written.
+    pub fn bytes(&self) -> &[u8]
+        ensures { ⟦<PlainSink as Sink>⟧.written self.now ≡ Some result.now }
+    {
+        self.bytes.as_slice()
+    }
+}
+
+impl Sink for PlainSink {
+    ghost written = { λ s. Some s.bytes.items };
+
+    ghost faults = { λ _. 0 };
+
+    fn write(&mut self, piece: &[u8]) -> Result<usize, SinkFault>
+        ensures bound { IfOk result (λ n. n ≤ length piece.now) }
+        ensures some { 0 < length piece.now → IfOk result (λ n. 0 < n) }
+        ensures bytes { WriteAppends (Some self.old.bytes.items) (Some self.new.bytes.items) result piece.now }
+        ensures cause { HasSinkCause 0 0 result }
+        ensures never { IfErr result (λ e. e ≡ SinkFault.OutOfMemory) }
+    {
+        match self.bytes.extend_from_slice(piece) {
+            Ok(()) => Ok(piece.len()),
             Err(_) => Err(SinkFault::OutOfMemory),
         }
     }

@@ -1,6 +1,6 @@
 //! Where bytes come from.
 
-ghost use Rattle.std.specs.Prelude.{◌≡◌, ◌<◌, ◌≤◌, List, ℕ, Option, Some, None, IfSome, IsOk, length, min};
+ghost use Rattle.std.specs.Prelude.{◌≡◌, ◌<◌, ◌≤◌, List, ℕ, Option, Some, None, IfSome, IsOk, length, min, take};
 ghost use Rattle.std.specs.Io.{ReadsAtMost};
 ghost use Rattle.std.specs.Io.KnownBytes.{ReadConsumes};
 ghost use Rattle.rhd_tool.specs.Causes.{HasCause};
@@ -104,12 +104,19 @@ impl MemSource {
     }
 }
 
-/// The least of three numbers.
-fn least(a: usize, b: usize, c: u64) -> usize
-    ensures { result ≡ min a (min b c) }
+/// Puts as many bytes of `rest` at the front of `buf` as there are, as fit and as `most` allows.
+fn fill_front(rest: &[u8], buf: &mut [u8], most: u64) -> usize
+    ensures count { result ≡ min (length rest.now) (min (length buf.old) most) }
+    ensures front { take result buf.new ≡ take result rest.now }
 {
-    let d = if c < b as u64 { c as usize } else { b };
-    a.min(d)
+    let room = if most < buf.len() as u64 {
+        most as usize
+    } else {
+        buf.len()
+    };
+    let count = rest.len().min(room);
+    buf[..count].copy_from_slice(&rest[..count]);
+    count
 }
 
 impl Source for MemSource {
@@ -125,9 +132,43 @@ impl Source for MemSource {
             self.faults = self.faults.saturating_add(1);
             return Err(Failed);
         }
-        let rest = &self.bytes[self.at..];
-        let count = least(rest.len(), buf.len(), self.most);
-        buf[..count].copy_from_slice(&rest[..count]);
+        let count = fill_front(&self.bytes[self.at..], buf, self.most);
+        self.at += count;
+        Ok(count)
+    }
+}
+
+/// Bytes in memory; no call fails.
+#[derive(Drop)]
+pub struct PlainSource {
+    bytes: Vec<u8>,
+    at: usize,
+    ghost within: { at ≤ length bytes.items },
+}
+
+impl PlainSource {
+    pub fn new(bytes: Vec<u8>) -> Self
+        ensures left { ⟦<PlainSource as Source>⟧.left result ≡ Some bytes.items }
+        ensures faults { ⟦<PlainSource as Source>⟧.faults result ≡ 0 }
+    {
+        PlainSource { bytes, at: 0 }
+    }
+}
+
+impl Source for PlainSource {
+    ghost use Rattle.rhd_tool.specs.Memory.{plain_left};
+
+    ghost left = { λ s. Some (plain_left s) };
+
+    ghost faults = { λ _. 0 };
+
+    fn read(&mut self, buf: &mut [u8]) -> Result<usize, Failed>
+        ensures bound { ReadsAtMost result buf.new }
+        ensures bytes { ReadConsumes (Some (plain_left self.old)) (Some (plain_left self.new)) result buf.new }
+        ensures cause { HasCause 0 0 result }
+        ensures never { IsOk result }
+    {
+        let count = fill_front(&self.bytes[self.at..], buf, u64::MAX);
         self.at += count;
         Ok(count)
     }
