@@ -164,3 +164,24 @@ impl PluginFunc for KitFn {
         kit_row(self.number).is_volatile
     }
 }
+
+/// Puts the kit's natives into a table, in the order of their numbers. Where memory ran out, goes on
+/// with the expression `$give_up`, which is to leave the function.
+macro_rules! kit {
+    ($alloc:expr, $natives:ident, $give_up:expr) => {
+        kit!(@numbers $alloc, $natives, $give_up; 0 1 2)
+    };
+    (@numbers $alloc:expr, $natives:ident, $give_up:expr; $($number:literal)*) => {
+        $(
+            let Ok(made) = Box::new($alloc, KitFn::new($number)) else {
+                $give_up
+            };
+            let native: Box<dyn PluginFunc> = made;
+            let Ok(_) = $natives.push($alloc, native) else {
+                $give_up
+            };
+        )*
+    };
+}
+
+pub(crate) use kit;
