@@ -1,5 +1,5 @@
 -- The natives of the kit, by number.
-use Rattle.std.specs.Prelude.{ℕ, ℤ, pos, ◌==◌, ◌&&◌, Bool, true, false, List, [], ◌∷◌, length, Option, None, Some, if◌then◌else◌, codes, not}
+use Rattle.std.specs.Prelude.{ℕ, pos, ◌==◌, Bool, true, false, List, [], ◌∷◌, length, Option, None, Some, if◌then◌else◌, codes, not}
 use Rattle.std.specs.List.{list_all, zip}
 use Rattle.rhd_value.specs.Tree.{Bytes, Tree, integer}
 use Rattle.rhd_value.specs.Kinds.{plain, tag_of}
