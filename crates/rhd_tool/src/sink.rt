@@ -39,7 +39,9 @@ pub struct Writing<W: Write + Drop> {
 }
 
 impl<W: Write + Drop> Writing<W> {
-    pub fn new(inner: W) -> Self {
+    pub fn new(inner: W) -> Self
+        ensures { ⟦<Writing<W> as Sink>⟧.faults result ≡ 0 }
+    {
         Writing { inner, faults: 0 }
     }
 }

@@ -35,7 +35,9 @@ pub struct Reading<R: Read + Drop> {
 }
 
 impl<R: Read + Drop> Reading<R> {
-    pub fn new(inner: R) -> Self {
+    pub fn new(inner: R) -> Self
+        ensures { ⟦<Reading<R> as Source>⟧.faults result ≡ 0 }
+    {
         Reading { inner, faults: 0 }
     }
 }
