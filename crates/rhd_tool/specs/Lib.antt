@@ -1,0 +1,4 @@
+pub mod Causes
+pub mod Kit
+pub mod Memory
+pub mod Streams
