@@ -110,6 +110,7 @@ impl Session {
     pub fn run(&mut self, alloc: Global, commands: &[Command]) -> Result<Replies, Stopped>
         ensures answered { IfOk result (λ replies. Answered (objects_of allows_call (natives_of self.old)) (world_of info self.old) (frame_of self.old) commands.now replies (world_of info self.new) (frame_of self.new)) }
         ensures stopped { IfErr result (λ stopped. Answered (objects_of allows_call (natives_of self.old)) (world_of info self.old) (frame_of self.old) (take (length stopped.replies) commands.now) stopped.replies (world_of info self.new) (frame_of self.new)) }
+        ensures counted { IfOk result (λ replies. length replies ≡ length commands.now) }
         ensures natives { natives_of self.new ≡ natives_of self.old }
     {
         let mut replies = Vec::new(alloc);

@@ -1,4 +1,5 @@
 pub mod Causes
+pub mod Ends
 pub mod Kit
 pub mod Memory
 pub mod Streams

@@ -5,15 +5,39 @@ mod kit;
 mod reading;
 mod sink;
 mod source;
+mod tool;
 mod writing;
 
 use crate::kit::{KitFn, kit};
+use crate::sink::Writing;
+use crate::source::Reading;
+use crate::tool::run_tool;
 use rhd_func::{Natives, PluginFunc};
+use std::alloc::{AllocError, Global};
 use std::process::ExitCode;
+use std::{env, io};
+
+/// The words after the program's name.
+fn own_words(alloc: Global, args: env::Args) -> Result<Vec<String>, AllocError> {
+    let mut words = Vec::new(alloc);
+    for word in args.skip(1) {
+        words.push(word)?;
+    }
+    Ok(words)
+}
 
 fn main(rt: HostRuntime) -> ExitCode {
     let alloc = rt.alloc();
+    let Ok(args) = env::args(&rt) else {
+        return ExitCode::from(1);
+    };
+    let Ok(words) = own_words(alloc, args) else {
+        return ExitCode::from(5);
+    };
     let mut natives = Natives::new(alloc);
     kit!(alloc, natives, return ExitCode::from(5));
-    ExitCode::from(0)
+    let mut source = Reading::new(rt.reader());
+    let mut sink = Writing::new(io::writer(&rt));
+    let end = run_tool(alloc, words.as_slice(), &mut source, &mut sink, natives);
+    ExitCode::from(end.status)
 }

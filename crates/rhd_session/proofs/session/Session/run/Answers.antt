@@ -1,5 +1,6 @@
-use Rattle.std.proofs.Common.{arith, ◌≤◌, ◌<◌, refl, length, ◌∙◌}
-use Rattle.rhd_session.proofs.Lists.{stopped_at, turn}
+use Rattle.std.proofs.Common.{arith, ◌≡◌, ◌≤◌, ◌<◌, refl, ap, length, take, ◌∙◌}
+use Rattle.std.proofs.lemmas.List.{length-take}
+use Rattle.rhd_session.proofs.Lists.{answered_length, stopped_at, turn}
 use Rattle.rhd_session.proofs.session.Session.run.Goals as goal
 
 pub returns-then-is_err-clause-stopped : goal.returns-then-is_err-clause-stopped
@@ -20,3 +21,9 @@ loop-command-preserved g c =
       natives = c.in-Ok.ensures.natives ∙ i.natives;
       answered = turn _ _ _ c.args.commands.now c.loop-command.command-index c.command-item.result c.loop-command.replies.items c.reserve.new.self.items c.push_reserved.new.self.items c.in-Ok.reply _ _ _ _ c.loop-command-test.true c.command-item.is c.reserve.ensures.items c.push_reserved.ensures.items i.answered replied;
     }
+
+pub returns-clause-counted : goal.returns-clause-counted
+returns-clause-counted g c =
+    let commands = c.args.commands.now in
+    let i : c.loop-command.command-index ≡ length commands = omega arith in
+    omega (arith, i, ap length c.from_vec-2.ensures, answered_length _ _ _ (take c.loop-command.command-index commands) c.loop-command.replies.items _ _ c.loop-command.invariant.answered, length-take c.loop-command.command-index commands)

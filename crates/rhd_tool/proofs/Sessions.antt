@@ -1,0 +1,35 @@
+-- The replies of a new session.
+use Rattle.std.proofs.Common.{◌≡◌, ℕ, List, [], IfOk, length, take, refl, sym, ap, subst, ◌∙◌}
+use Rattle.std.proofs.Math.Seq.{take-length}
+use Rattle.std.specs.Prelude.{Result, Ok, Err, IfErr}
+use Rattle.std.proofs.lemmas.Result.{IfOk-weaker}
+use Rattle.rhd_func.specs.Natives.{NativeInfo}
+use Rattle.rhd_session.specs.declared.command.Command.{Command}
+use Rattle.rhd_session.specs.declared.reply.Reply.{Reply}
+use Rattle.rhd_session.specs.declared.reply.Stopped.{Stopped}
+use Rattle.rhd_session.specs.Engine.{Frame}
+use Rattle.rhd_session.specs.World.{World, Objects}
+use Rattle.rhd_session.specs.Start.{start_world, start_frame}
+use Rattle.rhd_session.specs.Answered.{Answered}
+use Rattle.rhd_tool.specs.Ends.{IsAnswered}
+
+-- no command is answered by no reply
+pub none_answered : (o : Objects) (natives : List NativeInfo) (commands : List Command) (replies : List Reply) → replies ≡ [] → IsAnswered o natives (take (length replies) commands) replies
+none_answered o natives commands replies e = rw e (record { world = start_world natives; frame = start_frame; answered = (refl, refl) })
+
+pub all_answered : {E : Type 0} (o : Objects) (natives : List NativeInfo) (commands : List Command) (r : Result (List Reply) E) (world : World) (frame : Frame)
+    → IfOk r (λ replies. Answered o (start_world natives) start_frame commands replies world frame) → IfOk r (IsAnswered o natives commands)
+all_answered o natives commands r world frame a =
+    IfOk-weaker r (λ replies. Answered o (start_world natives) start_frame commands replies world frame) (IsAnswered o natives commands) (λ replies h. record { world = world; frame = frame; answered = h }) a
+
+pub some_answered : {T : Type 0} (o : Objects) (natives : List NativeInfo) (commands : List Command) (r : Result T Stopped) (world : World) (frame : Frame)
+    → IfErr r (λ s. Answered o (start_world natives) start_frame (take (length s.replies) commands) s.replies world frame)
+    → IfErr r (λ s. IsAnswered o natives (take (length s.replies) commands) s.replies)
+some_answered o natives commands (Ok x) world frame a = tt
+some_answered o natives commands (Err s) world frame a = record { world = world; frame = frame; answered = a }
+
+-- all replies are as many as the commands
+pub front_answered : (o : Objects) (natives : List NativeInfo) (commands : List Command) (replies now : List Reply) → now ≡ replies → length replies ≡ length commands → IsAnswered o natives commands replies → IsAnswered o natives (take (length now) commands) now
+front_answered o natives commands replies now e count a =
+    let all : take (length now) commands ≡ commands = ap (λ (n : ℕ). take n commands) (ap length e ∙ count) ∙ take-length commands in
+    rw all (subst (IsAnswered o natives commands) (sym e) a)

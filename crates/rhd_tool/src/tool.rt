@@ -1,0 +1,243 @@
+//! The program's one call.
+
+ghost use Rattle.std.specs.Prelude.{ℕ, Some, ◌≡◌, ◌≢◌, ◌↔◌, ◌⊎◌, ◌<◌, ◌≤◌, List, [], IfOk, IfErr, map, length, take, string_bytes, IsTrue};
+ghost use Rattle.std.specs.Io.KnownBytes.{Appends};
+ghost use Rattle.std.specs.Str.Lines.{lines};
+ghost use Rattle.rhd_session.specs.Objects.{infos_of, objects_of};
+ghost use Rattle.rhd_text.specs.declared.session.SessionText.{SessionText};
+ghost use Rattle.rhd_text.specs.Session.{IsSession, IsFirstBad};
+ghost use Rattle.rhd_text.specs.PrintedReplies.{all_printed};
+ghost use Rattle.rhd_tool.specs.Causes.{Rose};
+ghost use Rattle.rhd_tool.specs.Streams.{CameMore, WrotePart};
+ghost use Rattle.rhd_tool.specs.Ends.{run_words, most_bytes, IsStatus, IsAnswered, Ran, RanPart, WasBad, WasDone, WasCut, WasStopped};
+
+use crate::reading::{ReadEnd, read_whole};
+use crate::sink::{Sink, SinkFault};
+use crate::source::Source;
+use crate::writing::write_whole;
+use rhd_func::Natives;
+use rhd_session::{Command, Replies, Reply, Session, Stopped};
+use rhd_text::{TextFault, print_replies, read_text};
+use rhd_value::OutOfMemory;
+use std::alloc::Global;
+
+/// The most bytes that a text may have.
+const MOST: usize = 16_777_216;
+
+/// How a run ended.
+#[derive(Drop)]
+pub struct ToolEnd {
+    /// The exit status of the program.
+    pub status: u8,
+    /// The first bad line, counted from 1, where that is why it ended; else 0.
+    pub line: u32,
+    /// The replies to the commands of the text.
+    pub replies: Replies,
+}
+
+fn end(alloc: Global, status: u8, line: u32) -> ToolEnd
+    ensures { result ≡ record { status = status; line = line; replies = [] } }
+{
+    ToolEnd {
+        status,
+        line,
+        replies: Replies::new(alloc),
+    }
+}
+
+fn print_all(alloc: Global, replies: &[Reply]) -> Result<Vec<u8>, OutOfMemory>
+    ensures { IfOk result (λ out. out.items ≡ all_printed replies.now) }
+{
+    let mut out = Vec::new(alloc);
+    print_replies(alloc, replies, &mut out)?;
+    Ok(out)
+}
+
+/// Writes the replies to all commands.
+fn write_replies<K: Sink>(alloc: Global, replies: Replies, sink: &mut K) -> ToolEnd
+    ensures statuses { (result.status ≡ 0) ⊎ (result.status ≡ 4) ⊎ (result.status ≡ 5) }
+    ensures line { result.line ≡ 0 }
+    ensures replies { result.replies ≡ replies }
+    ensures all { result.status ≡ 0 → Appends (K.written sink.old) (K.written sink.new) (all_printed replies) }
+    ensures part { WrotePart (K.written sink.old) (K.written sink.new) (all_printed replies) }
+    ensures fault { result.status ≡ 4 → Rose (K.faults sink.old) (K.faults sink.new) }
+    ensures later { K.faults sink.old ≤ K.faults sink.new }
+{
+    let Ok(out) = print_all(alloc, replies.as_slice()) else {
+        return ToolEnd {
+            status: 5,
+            line: 0,
+            replies,
+        };
+    };
+    let status = match write_whole(sink, &out) {
+        Ok(()) => 0,
+        Err(SinkFault::Failed) => 4,
+        Err(SinkFault::OutOfMemory) => 5,
+    };
+    ToolEnd {
+        status,
+        line: 0,
+        replies,
+    }
+}
+
+/// The replies to commands in a new session.
+fn answer(alloc: Global, natives: Natives, commands: &[Command]) -> Result<Replies, Stopped>
+    ensures all { IfOk result (IsAnswered (objects_of allows_call natives) (infos_of info natives) commands.now) }
+    ensures count { IfOk result (λ replies. length replies ≡ length commands.now) }
+    ensures some { IfErr result (λ s. IsAnswered (objects_of allows_call natives) (infos_of info natives) (take (length s.replies) commands.now) s.replies) }
+{
+    let Ok(mut session) = Session::new(alloc, natives) else {
+        return Err(Stopped {
+            replies: Replies::new(alloc),
+        });
+    };
+    session.run(alloc, commands)
+}
+
+/// Answers commands, and writes the replies where all commands are answered.
+fn answer_and_write<K: Sink>(
+    alloc: Global,
+    natives: Natives,
+    commands: &[Command],
+    sink: &mut K,
+) -> ToolEnd
+    ensures statuses { (result.status ≡ 0) ⊎ (result.status ≡ 4) ⊎ (result.status ≡ 5) }
+    ensures line { result.line ≡ 0 }
+    ensures all { (result.status ≡ 0) ⊎ (result.status ≡ 4) → IsAnswered (objects_of allows_call natives) (infos_of info natives) commands.now result.replies }
+    ensures some { IsAnswered (objects_of allows_call natives) (infos_of info natives) (take (length result.replies) commands.now) result.replies }
+    ensures done { result.status ≡ 0 → Appends (K.written sink.old) (K.written sink.new) (all_printed result.replies) }
+    ensures part { WrotePart (K.written sink.old) (K.written sink.new) (all_printed result.replies) }
+    ensures fault { result.status ≡ 4 → Rose (K.faults sink.old) (K.faults sink.new) }
+    ensures later { K.faults sink.old ≤ K.faults sink.new }
+{
+    match answer(alloc, natives, commands) {
+        Ok(replies) => write_replies(alloc, replies, sink),
+        Err(stopped) => ToolEnd {
+            status: 5,
+            line: 0,
+            replies: stopped.replies,
+        },
+    }
+}
+
+/// Runs the text that these bytes are.
+fn run_bytes<K: Sink>(alloc: Global, natives: Natives, bytes: &[u8], sink: &mut K) -> ToolEnd
+    requires { length bytes.now ≤ most_bytes }
+    ensures statuses { (result.status ≡ 0) ⊎ (result.status ≡ 2) ⊎ (result.status ≡ 4) ⊎ (result.status ≡ 5) }
+    ensures line { (result.status ≡ 2) ⊎ (result.line ≡ 0) }
+    ensures ran { (result.status ≡ 0) ⊎ (result.status ≡ 4) → Ran (objects_of allows_call natives) (infos_of info natives) (length natives.items.items) bytes.now result.replies }
+    ensures made { result.status ≡ 5 → RanPart (objects_of allows_call natives) (infos_of info natives) (length natives.items.items) bytes.now result.replies }
+    ensures done { result.status ≡ 0 → Appends (K.written sink.old) (K.written sink.new) (all_printed result.replies) }
+    ensures part { WrotePart (K.written sink.old) (K.written sink.new) (all_printed result.replies) }
+    ensures bad { result.status ≡ 2 → IsFirstBad (length natives.items.items) result.line (lines bytes.now) × (K.written sink.new ≡ K.written sink.old) × (result.replies ≡ []) }
+    ensures fault { result.status ≡ 4 → Rose (K.faults sink.old) (K.faults sink.new) }
+    ensures later { K.faults sink.old ≤ K.faults sink.new }
+    ensures text { (text : SessionText) → IsSession (length natives.items.items) (lines bytes.now) text → result.status ≢ 2 }
+    ensures first { (n : ℕ) → IsFirstBad (length natives.items.items) n (lines bytes.now) → (result.status ≡ 2) × (result.line ≡ n) ⊎ (result.status ≡ 5) }
+{
+    match read_text(alloc, bytes, &natives) {
+        Err(TextFault::BadLine(line)) => end(alloc, 2, line),
+        Err(TextFault::OutOfMemory) => end(alloc, 5, 0),
+        Ok(text) => answer_and_write(alloc, natives, text.commands.as_slice(), sink),
+    }
+}
+
+fn is_run(words: &[String]) -> bool
+    ensures { IsTrue result ↔ (map (λ w. string_bytes w) words.now ≡ run_words) }
+{
+    match words {
+        [word] => word.as_str() == "run",
+        _ => false,
+    }
+}
+
+fn run<S: Source, K: Sink>(
+    alloc: Global,
+    words: &[String],
+    source: &mut S,
+    sink: &mut K,
+    natives: Natives,
+) -> ToolEnd
+    ensures statuses { IsStatus result.status }
+    ensures done { result.status ≡ 0 → WasDone (objects_of allows_call natives) (infos_of info natives) (length natives.items.items) (S.left source.old) (S.left source.new) (K.written sink.old) (K.written sink.new) result.replies }
+    ensures words { (result.status ≡ 1) ↔ (map (λ w. string_bytes w) words.now ≢ run_words) }
+    ensures bad { result.status ≡ 2 → WasBad (length natives.items.items) (S.left source.old) (S.left source.new) result.line }
+    ensures read { result.status ≡ 3 → Rose (S.faults source.old) (S.faults source.new) }
+    ensures write { result.status ≡ 4 → Rose (K.faults sink.old) (K.faults sink.new) }
+    ensures cut { result.status ≡ 4 → WasCut (objects_of allows_call natives) (infos_of info natives) (length natives.items.items) (S.left source.old) (S.left source.new) (K.written sink.old) (K.written sink.new) result.replies }
+    ensures stopped { result.status ≡ 5 → (result.replies ≡ []) ⊎ WasStopped (objects_of allows_call natives) (infos_of info natives) (length natives.items.items) (S.left source.old) (S.left source.new) result.replies }
+    ensures part { result.status ≡ 5 → WrotePart (K.written sink.old) (K.written sink.new) (all_printed result.replies) }
+    ensures many { result.status ≡ 6 → CameMore most_bytes (S.left source.old) (S.left source.new) }
+    ensures line { (result.status ≡ 2) ⊎ (result.line ≡ 0) }
+    ensures nothing { (result.status ≡ 1) ⊎ (result.status ≡ 2) ⊎ (result.status ≡ 3) ⊎ (result.status ≡ 6) → (K.written sink.new ≡ K.written sink.old) × (result.replies ≡ []) }
+    ensures complete { (bytes : List ℕ) (text : SessionText) → map (λ w. string_bytes w) words.now ≡ run_words → S.left source.old ≡ Some bytes → length bytes ≤ most_bytes → IsSession (length natives.items.items) (lines bytes) text
+        → ¬ (Rose (S.faults source.old) (S.faults source.new)) → ¬ (Rose (K.faults sink.old) (K.faults sink.new)) → (result.status ≡ 0) ⊎ (result.status ≡ 5) }
+    ensures refused { (bytes : List ℕ) (n : ℕ) → map (λ w. string_bytes w) words.now ≡ run_words → S.left source.old ≡ Some bytes → length bytes ≤ most_bytes → IsFirstBad (length natives.items.items) n (lines bytes)
+        → ¬ (Rose (S.faults source.old) (S.faults source.new)) → (result.status ≡ 2) × (result.line ≡ n) ⊎ (result.status ≡ 5) }
+    ensures large { (bytes : List ℕ) → map (λ w. string_bytes w) words.now ≡ run_words → S.left source.old ≡ Some bytes → most_bytes < length bytes
+        → ¬ (Rose (S.faults source.old) (S.faults source.new)) → (result.status ≡ 6) ⊎ (result.status ≡ 5) }
+{
+    if !is_run(words) {
+        return end(alloc, 1, 0);
+    }
+    match read_whole(alloc, source, MOST) {
+        Err(ReadEnd::Failed) => end(alloc, 3, 0),
+        Err(ReadEnd::TooMany) => end(alloc, 6, 0),
+        Err(ReadEnd::OutOfMemory) => end(alloc, 5, 0),
+        Ok(bytes) => run_bytes(alloc, natives, &bytes, sink),
+    }
+}
+
+/// Reads the source to its end, runs the commands of the text on a new session with these natives, and
+/// writes the replies, printed.
+///
+/// The words are those after the program's name. Reading comes before the test of the text, which comes
+/// before running.
+pub fn run_tool<S: Source, K: Sink>(
+    alloc: Global,
+    words: &[String],
+    source: &mut S,
+    sink: &mut K,
+    natives: Natives,
+) -> ToolEnd
+    // The status is one of seven.
+    ensures statuses { result.status ≤ 6 }
+    // 0: all bytes of the source are a session text, its commands were answered one after the other in a
+    // new session, and all replies were written, printed.
+    ensures done { result.status ≡ 0 → WasDone (objects_of allows_call natives) (infos_of info natives) (length natives.items.items) (S.left source.old) (S.left source.new) (K.written sink.old) (K.written sink.new) result.replies }
+    // 1: exactly where the words are not `run`.
+    ensures words { (result.status ≡ 1) ↔ (map (λ w. string_bytes w) words.now ≢ run_words) }
+    // 2: the bytes are no session text, and this line is the first bad one.
+    ensures bad { result.status ≡ 2 → WasBad (length natives.items.items) (S.left source.old) (S.left source.new) result.line }
+    // 3: only where the source failed.
+    ensures read { result.status ≡ 3 → Rose (S.faults source.old) (S.faults source.new) }
+    // 4: only where the sink failed; all commands were answered, and a front of the printed replies was
+    // written.
+    ensures write { result.status ≡ 4 → Rose (K.faults sink.old) (K.faults sink.new) }
+    ensures cut { result.status ≡ 4 → WasCut (objects_of allows_call natives) (infos_of info natives) (length natives.items.items) (S.left source.old) (S.left source.new) (K.written sink.old) (K.written sink.new) result.replies }
+    // 5: memory ran out; the replies answer as many of the first commands, and a front of the printed
+    // replies was written.
+    ensures stopped { result.status ≡ 5 → (result.replies ≡ []) ⊎ WasStopped (objects_of allows_call natives) (infos_of info natives) (length natives.items.items) (S.left source.old) (S.left source.new) result.replies }
+    ensures part { result.status ≡ 5 → WrotePart (K.written sink.old) (K.written sink.new) (all_printed result.replies) }
+    // 6: more bytes came than a text may have.
+    ensures many { result.status ≡ 6 → CameMore most_bytes (S.left source.old) (S.left source.new) }
+    // A line is named for status 2 alone.
+    ensures line { (result.status ≡ 2) ⊎ (result.line ≡ 0) }
+    // For 1, 2, 3 and 6 nothing was written, and there are no replies.
+    ensures nothing { (result.status ≡ 1) ⊎ (result.status ≡ 2) ⊎ (result.status ≡ 3) ⊎ (result.status ≡ 6) → (K.written sink.new ≡ K.written sink.old) × (result.replies ≡ []) }
+    // A session text of at most that many bytes ends with 0, unless the source or the sink failed or
+    // memory ran out.
+    ensures complete { (bytes : List ℕ) (text : SessionText) → map (λ w. string_bytes w) words.now ≡ run_words → S.left source.old ≡ Some bytes → length bytes ≤ most_bytes → IsSession (length natives.items.items) (lines bytes) text
+        → ¬ (Rose (S.faults source.old) (S.faults source.new)) → ¬ (Rose (K.faults sink.old) (K.faults sink.new)) → (result.status ≡ 0) ⊎ (result.status ≡ 5) }
+    // One that isn't a session text ends with 2 and its first bad line, unless the source failed or memory
+    // ran out.
+    ensures refused { (bytes : List ℕ) (n : ℕ) → map (λ w. string_bytes w) words.now ≡ run_words → S.left source.old ≡ Some bytes → length bytes ≤ most_bytes → IsFirstBad (length natives.items.items) n (lines bytes)
+        → ¬ (Rose (S.faults source.old) (S.faults source.new)) → (result.status ≡ 2) × (result.line ≡ n) ⊎ (result.status ≡ 5) }
+    // One of more bytes ends with 6, unless the source failed or memory ran out.
+    ensures large { (bytes : List ℕ) → map (λ w. string_bytes w) words.now ≡ run_words → S.left source.old ≡ Some bytes → most_bytes < length bytes
+        → ¬ (Rose (S.faults source.old) (S.faults source.new)) → (result.status ≡ 6) ⊎ (result.status ≡ 5) }
+{
+    run(alloc, words, source, sink, natives)
+}
