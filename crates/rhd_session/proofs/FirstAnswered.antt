@@ -10,6 +10,7 @@ use Rattle.rhd_session.specs.declared.node.Whose.TheVariants.{Called}
 use Rattle.rhd_session.specs.declared.pick.Pick.{Pick}
 use Rattle.rhd_session.specs.Engine.{EngineLists, Frame}
 use Rattle.rhd_session.specs.World.{World, Objects}
+use Rattle.rhd_session.specs.Asks.{looked}
 use Rattle.rhd_session.specs.NotFound.{not_found}
 use Rattle.rhd_session.specs.Plans.{Plan, plan_of}
 use Rattle.rhd_session.specs.Ends.{End, failed}
@@ -55,22 +56,22 @@ pub runs_first : (e : EngineLists) (f : Frame) (level : ℕ) (call : CallRequest
 unfolding decision
 runs_first e f level call plan pick d =
     let r = runs_by (plan_of call) (pick_of e f (plan_of call)) plan pick d in
-    (r.0, first_is-first _ pick (asks_of call) r.1)
+    (r.0, first_is-first (looked e f) pick (asks_of call) r.1)
 
 pub first_runs : (e : EngineLists) (f : Frame) (level : ℕ) (call : CallRequest) (plan : Plan) (pick : Pick) → (plan ≡ plan_of call) × IsAnsweredFirst e f call pick → decision e f level call ≡ runs plan pick
 unfolding decision
-first_runs e f level call plan pick r = ap (decided (plan_of call)) (is-first_first _ pick (asks_of call) r.1) ∙ (λ i. runs (sym r.0 i) pick)
+first_runs e f level call plan pick r = ap (decided (plan_of call)) (is-first_first (looked e f) pick (asks_of call) r.1) ∙ (λ i. runs (sym r.0 i) pick)
 
 -- it ends with no pick exactly where no ask is found
 pub ends_missing : (e : EngineLists) (f : Frame) (level : ℕ) (call : CallRequest) (pick : Option Pick) (end : End) → decision e f level call ≡ ends pick end → (pick ≡ None) × (end ≡ missing_end call) × IsUnanswered e f call
 unfolding decision
 ends_missing e f level call pick end d =
     let r = ends_by (plan_of call) (pick_of e f (plan_of call)) pick end d in
-    (r.0, r.2, first_none _ (asks_of call) r.1)
+    (r.0, r.2, first_none (looked e f) (asks_of call) r.1)
 
 pub missing_ends : (e : EngineLists) (f : Frame) (level : ℕ) (call : CallRequest) (pick : Option Pick) (end : End) → (pick ≡ None) × (end ≡ missing_end call) × IsUnanswered e f call → decision e f level call ≡ ends pick end
 unfolding decision
-missing_ends e f level call pick end r = ap (decided (plan_of call)) (none_first _ (asks_of call) r.2) ∙ (λ i. ends (sym r.0 i) (sym r.1 i))
+missing_ends e f level call pick end r = ap (decided (plan_of call)) (none_first (looked e f) (asks_of call) r.2) ∙ (λ i. ends (sym r.0 i) (sym r.1 i))
 
 -- the pick that a node shows is the first ask's that is found, and the answer is its function's
 pub shows_first : {o : Objects} {w : World} {f : Frame} {level : ℕ} {call : CallRequest} {node : CallNode} (pick : Pick) → Runs o w f level call node → (seen node).pick ≡ Some pick → IsAnsweredFirst w.engine f call pick × ((seen node).end.whose ≡ Called)

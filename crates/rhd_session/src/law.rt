@@ -32,6 +32,4 @@ pub fn a_call_is_answered_by_the_first_declaration()
 pub fn a_node_shows_the_first_declaration(session: &Session)
     ensures shown { (f : Frame) (level : ℕ) (call : CallRequest) (node : CallNode) (pick : Pick) → Runs (objects_of allows_call (natives_of session.now)) (world_of info session.now) f level call node → (seen node).pick ≡ Some pick → IsAnsweredFirst (world_of info session.now).engine f call pick × ((seen node).end.whose ≡ Called) }
     ensures missing { (f : Frame) (level : ℕ) (call : CallRequest) (node : CallNode) → Runs (objects_of allows_call (natives_of session.now)) (world_of info session.now) f level call node → (seen node).pick ≡ None → IsUnanswered (world_of info session.now).engine f call × ((seen node).end ≡ missing_end call) }
-{
-    let _session = session;
-}
+{}
