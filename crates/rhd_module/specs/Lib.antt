@@ -2,3 +2,4 @@ pub mod Keys
 pub mod Tree
 pub mod Shown
 pub mod Registered
+pub mod FirstDeclarations

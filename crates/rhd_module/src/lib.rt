@@ -4,11 +4,13 @@
 mod declaration;
 mod fault;
 mod key;
+mod law;
 mod module;
 mod registration;
 
 pub use declaration::Declaration;
 pub use fault::DeclFault;
 pub use key::Key;
+pub use law::{a_declaration_leaves_the_others, a_key_finds_its_first_declaration};
 pub use module::Module;
 pub use registration::{native_declaration, native_key};

@@ -3,3 +3,4 @@ pub mod HeldLaws
 pub mod Stepped
 pub mod Found
 pub mod Lists
+pub mod FirstAnswered

@@ -3,6 +3,7 @@
 
 mod command;
 mod display;
+mod law;
 mod node;
 mod pick;
 mod plan;
@@ -12,6 +13,7 @@ mod search;
 mod session;
 
 pub use command::{Command, Commands};
+pub use law::{a_call_is_answered_by_the_first_declaration, a_node_shows_the_first_declaration};
 pub use node::{CallNode, Whose};
 pub use pick::{Layer, Pick};
 pub use reply::{Replies, Reply, Stopped};
