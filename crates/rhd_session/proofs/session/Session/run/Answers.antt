@@ -1,4 +1,4 @@
-use Rattle.std.proofs.Common.{arith, ◌≡◌, ◌≤◌, ◌<◌, refl, ap, length, take, ◌∙◌}
+use Rattle.std.proofs.Common.{arith, ◌≡◌, ◌≤◌, refl, ap, length, take, ◌∙◌}
 use Rattle.std.proofs.lemmas.List.{length-take}
 use Rattle.rhd_session.proofs.Lists.{answered_length, stopped_at, turn}
 use Rattle.rhd_session.proofs.session.Session.run.Goals as goal
