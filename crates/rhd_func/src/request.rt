@@ -66,6 +66,22 @@ pub struct Carry {
     pub kept: Dynamic,
 }
 
+impl Carry {
+    /// An equal carry.
+    pub fn dup(&self, alloc: Global) -> Result<Carry, OutOfMemory>
+        ensures { IfOk result (λ carry. carry ≡ self.now) }
+    {
+        let first = match &self.first {
+            Some(first) => Some(first.dup(alloc)?),
+            None => None,
+        };
+        Ok(Carry {
+            first,
+            kept: self.kept.dup(alloc)?,
+        })
+    }
+}
+
 /// What became of a call that a function asked for.
 #[derive(Drop)]
 pub struct CallDone {
