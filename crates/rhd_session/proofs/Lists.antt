@@ -11,12 +11,15 @@ module _ (o : Objects) where
   -- one command more
   pub answered_more : (w : World) (f : Frame) (s : Moment) (commands : List Command) (replies : List Reply) (w1 : World) (f1 : Frame) (s1 : Moment) (command : Command) (reply : Reply) (w2 : World) (f2 : Frame) (s2 : Moment) →
       Answered o w f s commands replies w1 f1 s1 → Replied o w1 f1 s1 command reply w2 f2 s2 → Answered o w f s (commands ++ command ∷ []) (replies ++ reply ∷ []) w2 f2 s2
-  answered_more w f s [] [] w1 f1 s1 command reply w2 f2 s2 a r =
-      (w2, f2, s2,
-      subst (λ (x : World). Replied o x f s command reply w2 f2 s2) a.0
-      (subst (λ (x : Frame). Replied o w1 x s command reply w2 f2 s2) a.1
-      (subst (λ (x : Moment). Replied o w1 f1 x command reply w2 f2 s2) a.2 r)),
-      (refl, refl, refl))
+  answered_more w f s [] [] w1 f1 s1 command reply w2 f2 s2 a r = (
+    w2,
+    f2,
+    s2,
+    subst (λ (x : World). Replied o x f s command reply w2 f2 s2) a.0
+        (subst (λ (x : Frame). Replied o w1 x s command reply w2 f2 s2) a.1
+        (subst (λ (x : Moment). Replied o w1 f1 x command reply w2 f2 s2) a.2 r)),
+    (refl, refl, refl),
+  )
   answered_more w f s (c ∷ commands) (p ∷ replies) w1 f1 s1 command reply w2 f2 s2 a r =
       (a.0, a.1, a.2, a.3, answered_more a.0 a.1 a.2 commands replies w1 f1 s1 command reply w2 f2 s2 a.4 r)
   answered_more w f s [] (p ∷ replies) w1 f1 s1 command reply w2 f2 s2 a r = absurd a

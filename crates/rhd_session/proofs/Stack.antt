@@ -72,20 +72,14 @@ module _ (o : Objects) (w : World) where
       (h ∙ ap (λ (x : Kept). begun_node x.call x.level (Some x.pick) x.carries x.children end) k))
 
   -- the next step of a call, after the answer to its request
-  pub resumes_with : (base inner : Frame) (n level : ℕ) (call waited : CallRequest) (before mid after : Moment) (frame : Suspended) (child : CallNode) (work : Work) (done : CallDone) (carry : Carry) (step : NativeStep) (outcome : Outcome) →
+  pub resumes_with : (base inner : Frame) (n level : ℕ) (call waited : CallRequest) (before mid after : Moment) (frame : Suspended) (child : CallNode) (work : Work) (step : NativeStep) (outcome : Outcome) →
       Open o w (entered base n) level call frame inner waited before mid →
       Runs o w inner (level + 1) waited child mid after false →
-      done ≡ done_of child →
-      carry ≡ frame.carry →
-      Resumes o (context base frame.work.level (plan_of frame.work.call)) frame.work.pick.func carry done step →
+      Resumes o (context base frame.work.level (plan_of frame.work.call)) frame.work.pick.func frame.carry (done_of child) step →
       kept work ≡ keeping frame.work.call frame.work.level frame.work.pick (frame.work.carries ++ frame.carry ∷ []) (nodes_in frame.work.children ++ child ∷ []) →
       Settled work step outcome →
       Comes_to o w (entered base n) level call outcome before after
-  resumes_with base inner n level call waited before mid after frame child work done carry step outcome opened r e carry_is next works q =
-      let handed : Resumes o (context base frame.work.level (plan_of frame.work.call)) frame.work.pick.func frame.carry (done_of child) step =
-      subst (λ (x : CallDone). Resumes o (context base frame.work.level (plan_of frame.work.call)) frame.work.pick.func frame.carry x step) e
-      (subst (λ (x : Carry). Resumes o (context base frame.work.level (plan_of frame.work.call)) frame.work.pick.func x done step) carry_is next) in
-      goes_on base (entered base n) refl opened r handed works q
+  resumes_with base inner n level call waited before mid after frame child work step outcome opened r next works q = goes_on base (entered base n) refl opened r next works q
     where
       goes_on : (base f : Frame) → f ≡ entered base f.level → {inner : Frame} {level : ℕ} {call waited : CallRequest} {before mid after : Moment} {frame : Suspended} {child : CallNode} {work : Work} {step : NativeStep} {outcome : Outcome} →
           Open o w f level call frame inner waited before mid →

@@ -41,3 +41,7 @@ resumes o r func ctx carry done id handed i h s =
 pub resumes_in : {E : Type 0} (o : Objects) (r : Result NativeStep E) (func : RhaiFunc) (ctx other : NativeCallContext) (carry : Carry) (done : CallDone)
     → ctx ≡ other → IfOk r (Resumes o ctx func carry done) → IfOk r (Resumes o other func carry done)
 resumes_in o r func ctx other carry done c s = subst (λ (x : NativeCallContext). IfOk r (Resumes o x func carry done)) c s
+
+pub resumed_of : {E : Type 0} (o : Objects) (r : Result NativeStep E) (func : RhaiFunc) (ctx : NativeCallContext) (carry same : Carry) (done equal : CallDone)
+    → carry ≡ same → done ≡ equal → IfOk r (Resumes o ctx func carry done) → IfOk r (Resumes o ctx func same equal)
+resumed_of o r func ctx carry same done equal c d s = subst (λ (x : CallDone). IfOk r (Resumes o ctx func same x)) d (subst (λ (x : Carry). IfOk r (Resumes o ctx func x done)) c s)

@@ -13,14 +13,14 @@ ghost use Rattle.rhd_session.specs.Plans.{plan_of};
 ghost use Rattle.rhd_session.specs.NotFound.{not_found};
 ghost use Rattle.rhd_session.specs.Ends.{failed};
 ghost use Rattle.rhd_session.specs.Decisions.{decision, runs};
-ghost use Rattle.rhd_session.specs.Seen.{seen, begun_node};
+ghost use Rattle.rhd_session.specs.Seen.{seen, begun_node, done_of};
 ghost use Rattle.rhd_session.specs.Entered.{context, entered};
 ghost use Rattle.rhd_session.specs.Steps.{Starts, Resumes};
 ghost use Rattle.rhd_session.specs.Runs.{Runs, received_by};
 ghost use Rattle.rhd_session.specs.Waits.{Open, Comes_to, Going, Cutting, weight};
 
 use crate::display::signature;
-use crate::machine::{Hand, Outcome, Suspended, Work, cut, put, settle};
+use crate::machine::{Hand, Outcome, Suspended, Work, cut, joined, put, settle};
 use crate::node::{CallNode, Carries, Nodes};
 use crate::pick::Pick;
 use crate::plan::{name_of, position_of, shape_of};
@@ -161,12 +161,23 @@ impl Session {
         requires { (native_of frame.work.pick.func).0 < length (natives_of self.now).items.items }
         ensures { (n level begun : ℕ) (inner : Frame) (call waited : CallRequest) (before mid : Moment) → Open (objects_of allows_call allows_resume (natives_of self.now)) (world_of info self.now) (entered start_frame n) level call frame inner waited before mid → Runs (objects_of allows_call allows_resume (natives_of self.now)) (world_of info self.now) inner (level + 1) waited child mid (moment begun) false → IfOk result (λ outcome. Comes_to (objects_of allows_call allows_resume (natives_of self.now)) (world_of info self.now) (entered start_frame n) level call outcome before (moment begun)) }
     {
-        let Suspended { mut work, carry } = frame;
+        let step = self.answered_step(alloc, &frame, &child)?;
+        Ok(settle(joined(frame, child)?, step))
+    }
+
+    /// The next step of a function that waits, after the answer of a child.
+    fn answered_step(
+        &self,
+        alloc: Global,
+        frame: &Suspended,
+        child: &CallNode,
+    ) -> Result<NativeStep, OutOfMemory>
+        requires { (native_of frame.now.work.pick.func).0 < length (natives_of self.now).items.items }
+        ensures { IfOk result (Resumes (objects_of allows_call allows_resume (natives_of self.now)) (context start_frame frame.now.work.level (plan_of frame.now.work.call)) frame.now.work.pick.func frame.now.carry (done_of child.now)) }
+    {
         let done = child.done(alloc)?;
-        let step = self.next_step(alloc, &work, carry.dup(alloc)?, done)?;
-        work.carries.push(carry)?;
-        work.children.push(child)?;
-        Ok(settle(work, step))
+        let carry = frame.carry.dup(alloc)?;
+        self.next_step(alloc, &frame.work, carry, done)
     }
 
     /// The first step of a function on the arguments of its call.

@@ -5,7 +5,7 @@ ghost use Rattle.rhd_session.specs.Nodes.{nodes_in};
 ghost use Rattle.rhd_session.specs.Seen.{seen, begun_node, cut_end};
 ghost use Rattle.rhd_session.specs.Plans.{plan_of};
 ghost use Rattle.rhd_session.specs.Ends.{called};
-ghost use Rattle.rhd_session.specs.Waits.{Settled, Put, weight};
+ghost use Rattle.rhd_session.specs.Waits.{Settled, Put, weight, kept, keeping};
 
 use crate::node::{CallNode, Carries, Nodes, Whose};
 use crate::pick::Pick;
@@ -96,15 +96,29 @@ pub fn put(stack: &mut Vec<Suspended>, outcome: Outcome) -> Result<Hand, OutOfMe
     }
 }
 
-/// Closes a call that waits, where the budget was spent within the child that it waits for.
-pub fn cut(frame: Suspended, child: CallNode) -> Result<CallNode, OutOfMemory>
-    ensures { IfOk result (λ node. seen node ≡ begun_node frame.work.call frame.work.level (Some frame.work.pick) (frame.work.carries ++ frame.carry ∷ []) (nodes_in frame.work.children ++ child ∷ []) (cut_end frame.work.call)) }
+/// A call that waited, with the carry and the answer of its latest request.
+pub fn joined(frame: Suspended, child: CallNode) -> Result<Work, OutOfMemory>
+    ensures { IfOk result (λ work. kept work ≡ keeping frame.work.call frame.work.level frame.work.pick (frame.work.carries ++ frame.carry ∷ []) (nodes_in frame.work.children ++ child ∷ [])) }
 {
     let Suspended { mut work, carry } = frame;
     work.carries.push(carry)?;
     work.children.push(child)?;
+    Ok(work)
+}
+
+/// Closes a call that waits, where the budget was spent within the child that it waits for.
+pub fn cut(frame: Suspended, child: CallNode) -> Result<CallNode, OutOfMemory>
+    ensures { IfOk result (λ node. seen node ≡ begun_node frame.work.call frame.work.level (Some frame.work.pick) (frame.work.carries ++ frame.carry ∷ []) (nodes_in frame.work.children ++ child ∷ []) (cut_end frame.work.call)) }
+{
+    Ok(closed(joined(frame, child)?))
+}
+
+/// The node of a call within which the budget was spent.
+fn closed(work: Work) -> CallNode
+    ensures { seen result ≡ begun_node work.call work.level (Some work.pick) work.carries (nodes_in work.children) (cut_end work.call) }
+{
     let pos = position_of(&work.call);
-    Ok(CallNode {
+    CallNode {
         call: work.call,
         level: work.level,
         begun: true,
@@ -114,5 +128,5 @@ pub fn cut(frame: Suspended, child: CallNode) -> Result<CallNode, OutOfMemory>
         answer: Err(EvalAltResult::ErrorTooManyOperations(pos)),
         whose: Whose::Call,
         first_after: None,
-    })
+    }
 }
