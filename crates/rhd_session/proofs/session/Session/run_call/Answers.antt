@@ -20,6 +20,22 @@ returns-then-begun-self-clause-runs g c =
     let b : c.loop-hand.begun ≡ c.args.self.now.limits.budget = omega (arith, c.loop-hand.invariant.within, c.if-begun-self.true) in
     IfOk-weaker c.cut_all.result _ _ (λ node r. (true, r)) (c.cut_all.ensures c.args.call (moment c.args.begun.now) (moment c.loop-hand.begun) (spent _ _ c.loop-hand.stack.items start_frame c.args.call c.in-Asked.request (moment c.args.begun.now) (moment c.loop-hand.begun) c.unbegun.result b h going))
 
+pub overflow_cast-level : goal.overflow_cast-level
+unfolding world_of
+overflow_cast-level g c =
+    let going = rw c.in-Asked.is at c.loop-hand.invariant.going in
+    let e : c.len.result ≡ length c.loop-hand.stack.items = search rules in
+    let l = stack_limited _ _ c.loop-hand.stack.items start_frame c.args.call (moment c.args.begun.now) _ (moment c.loop-hand.begun) going in
+    omega (arith, e, l, c.args.self.now.limited)
+
+pub overflow_add-level : goal.overflow_add-level
+unfolding world_of
+overflow_add-level g c =
+    let going = rw c.in-Asked.is at c.loop-hand.invariant.going in
+    let e : c.len.result ≡ length c.loop-hand.stack.items = search rules in
+    let l = stack_limited _ _ c.loop-hand.stack.items start_frame c.args.call (moment c.args.begun.now) _ (moment c.loop-hand.begun) going in
+    omega (arith, e, l, c.args.self.now.limited)
+
 pub ask-requires : goal.ask-requires
 unfolding world_of
 ask-requires g c =
