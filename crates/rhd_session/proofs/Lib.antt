@@ -4,3 +4,4 @@ pub mod Stepped
 pub mod Found
 pub mod Stack
 pub mod Lists
+pub mod FirstAnswered

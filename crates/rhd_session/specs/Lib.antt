@@ -20,3 +20,4 @@ pub mod Start
 pub mod Objects
 pub mod Held
 pub mod Of
+pub mod FirstAsks

@@ -4,6 +4,7 @@
 mod calls;
 mod command;
 mod display;
+mod law;
 mod limits;
 mod machine;
 mod node;
@@ -15,6 +16,7 @@ mod search;
 mod session;
 
 pub use command::{Command, Commands};
+pub use law::{a_call_is_answered_by_the_first_declaration, a_node_shows_the_first_declaration};
 pub use limits::Limits;
 pub use node::{CallNode, Carries, Nodes, Whose};
 pub use pick::{Layer, Pick};
