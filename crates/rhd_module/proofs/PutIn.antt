@@ -1,13 +1,13 @@
 -- A declaration that is put in is found, and changes nothing else.
-use Rattle.std.proofs.Common.{◌≡◌, ◌≢◌, Bool, true, false, cond, List, [], ◌∷◌, ◌++◌, refl, sym, ap, ◌∙◌}
-use Rattle.std.specs.Prelude.{Option, Some, None}
+use Rattle.std.proofs.Common.{◌≡◌, ◌≢◌, Bool, true, false, cond, [], ◌∷◌, refl, sym, ap, ◌∙◌}
+use Rattle.std.specs.Prelude.{Option, Some}
 use Rattle.std.specs.Map.{lookup}
 use Rattle.rhd_module.specs.declared.key.Key.{Key}
 use Rattle.rhd_module.specs.declared.declaration.Declaration.{Declaration}
 use Rattle.rhd_module.specs.Keys.{key_eq, key_eq-Decides}
 use Rattle.rhd_module.specs.Tree.{Pairs}
 use Rattle.rhd_module.specs.Registered.{put}
-use Rattle.rhd_module.specs.FirstDeclarations.{NoneWith, IsPut, in_place, last}
+use Rattle.rhd_module.specs.FirstDeclarations.{IsPut, in_place, last}
 use Rattle.rhd_module.proofs.FirstFound.{same_key, other_key, is_other}
 
 one_more : (key : Key) (d : Declaration) (p : Key × Declaration) (old new : Pairs) → p.0 ≢ key → IsPut key d old new → IsPut key d (p ∷ old) (p ∷ new)

@@ -1,5 +1,5 @@
 -- How a declaration is put, and how a table in order of insertion does it.
-use Rattle.std.proofs.Common.{◌≡◌, Bool, true, false, List, [], ◌∷◌, refl, ap}
+use Rattle.std.proofs.Common.{◌≡◌, [], ◌∷◌, refl}
 use Rattle.indexmap.specs.IndexMap.{insert_entry}
 use Rattle.rhd_module.specs.declared.key.Key.{Key}
 use Rattle.rhd_module.specs.declared.declaration.Declaration.{Declaration}

@@ -1,5 +1,5 @@
 -- How a declaration is put into a module.
-use Rattle.std.specs.Prelude.{ℕ, Bool, false, not, true, ◌&&◌, ◌||◌, ◌==◌, List, [], ◌∷◌, length, map, nat_eq, if◌then◌else◌, Option, None, codes}
+use Rattle.std.specs.Prelude.{ℕ, Bool, false, not, true, ◌&&◌, ◌||◌, ◌==◌, List, [], ◌∷◌, length, map, nat_eq, if◌then◌else◌, None, codes}
 use Rattle.std.specs.List.{starts_with}
 use Rattle.rhd_value.specs.Tree.{Bytes}
 use Rattle.rhd_value.specs.Same.{text_eq}

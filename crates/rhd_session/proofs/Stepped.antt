@@ -1,8 +1,7 @@
 -- A step that a native takes, and the node that it makes of a call.
-use Rattle.std.proofs.Common.{◌≡◌, ℕ, List, IfOk, subst, sym}
-use Rattle.std.specs.Prelude.{Option, Result, Some}
+use Rattle.std.proofs.Common.{◌≡◌, IfOk, subst}
+use Rattle.std.specs.Prelude.{Option, Result}
 use Rattle.std.proofs.lemmas.Result.{IfOk-weaker}
-use Rattle.rhd_value.specs.Tree.{Tree}
 use Rattle.rhd_value.specs.declared.tag.FnId.{FnId}
 use Rattle.rhd_func.specs.declared.func.RhaiFunc.{RhaiFunc}
 use Rattle.rhd_func.specs.declared.request.NativeStep.{NativeStep}

@@ -1,5 +1,5 @@
 -- What a declaring command answers and leaves: causes of a refusal, and the change.
-use Rattle.std.specs.Prelude.{ℕ, not, nat_lt, List, [], ◌∷◌, length, Option, None, Some, option_map}
+use Rattle.std.specs.Prelude.{ℕ, not, nat_lt, List, [], ◌∷◌, length, Option, None, option_map}
 use Rattle.rhd_value.specs.Tree.{Bytes}
 use Rattle.rhd_value.specs.Firsts.{first_of, where_holds}
 use Rattle.rhd_value.specs.declared.tag.FnId.{FnId}

@@ -1,4 +1,4 @@
-use Rattle.std.proofs.Common.{arith, ◌≤◌, ◌<◌, refl, length, ◌∙◌}
+use Rattle.std.proofs.Common.{arith, ◌≤◌, refl, length, ◌∙◌}
 use Rattle.rhd_session.proofs.Lists.{stopped_at, turn}
 use Rattle.rhd_session.proofs.session.Session.run.Goals as goal
 

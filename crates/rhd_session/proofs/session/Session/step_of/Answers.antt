@@ -1,5 +1,4 @@
 use Rattle.std.proofs.Common.{sym, ◌∙◌}
-use Rattle.rhd_func.specs.Funcs.{is_method}
 use Rattle.rhd_session.specs.Start.{start_frame}
 use Rattle.rhd_session.specs.Entered.{context}
 use Rattle.rhd_session.specs.Plans.{plan_of}
