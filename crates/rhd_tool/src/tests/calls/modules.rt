@@ -149,18 +149,14 @@ fn commands(alloc: Global) -> Result<Commands, OutOfMemory> {
     Ok(commands)
 }
 
-/// Runs commands, and compares the replies as they are printed.
+/// Compares replies, of which the second is a refusal.
 fn check_replies(
     rt: &impl Abort,
     alloc: Global,
-    session: &mut Session,
+    replies: &[Reply],
     want: &str,
 ) -> Result<(), Fail> {
-    let commands = commands(alloc)?;
-    let Ok(replies) = session.run(alloc, commands.as_slice()) else {
-        return Err(AllocError.into());
-    };
-    let refused = match replies.as_slice() {
+    let refused = match replies {
         [
             _,
             Reply::Refused(DeclFault::UnknownNumber { number, length }),
@@ -170,7 +166,7 @@ fn check_replies(
     };
     holds(rt, refused, "a number that isn't held");
     let mut out = Vec::new(alloc);
-    print_replies(alloc, replies.as_slice(), &mut out)?;
+    print_replies(alloc, replies, &mut out)?;
     same_bytes(rt, &out, want.as_bytes(), want);
     Ok(())
 }
@@ -188,8 +184,15 @@ fn modules_and_sessions_answer(rt: HostRuntime) -> Result<(), Fail> {
     };
     check_declared(&rt, alloc, native)?;
     let mut session = Session::new(alloc, natives)?;
-    let first = "f - call ! 1 \"f (i64)\"\nrefused 4 3 3\nok\nf global0#1 called = 1\n";
-    check_replies(&rt, alloc, &mut session, first)?;
-    let again = "f global0#1 called = 1\nrefused 4 3 3\nok\nf global0#1 called = 1\n";
-    check_replies(&rt, alloc, &mut session, again)
+    let commands = commands(alloc)?;
+    let Ok(replies) = session.run(alloc, commands.as_slice()) else {
+        return Err(AllocError.into());
+    };
+    let want = "f - call ! 1 \"f (i64)\"\nrefused 4 3 3\nok\nf global0#1 called = 1\n";
+    check_replies(&rt, alloc, replies.as_slice(), want)?;
+    let Ok(replies) = session.run(alloc, commands.as_slice()) else {
+        return Err(AllocError.into());
+    };
+    let want = "f global0#1 called = 1\nrefused 4 3 3\nok\nf global0#1 called = 1\n";
+    check_replies(&rt, alloc, replies.as_slice(), want)
 }
