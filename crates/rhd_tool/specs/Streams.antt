@@ -38,3 +38,9 @@ pub record WrotePart (old new : Option (List ℕ)) (bytes : List ℕ) : Type 0 w
   pub count : ℕ
   pub within : count ≤ length bytes
   pub wrote : Appends old new (take count bytes)
+
+-- a front of these bytes was written, and not all of them
+pub record WroteLess (old new : Option (List ℕ)) (bytes : List ℕ) : Type 0 where
+  pub count : ℕ
+  pub less : count < length bytes
+  pub wrote : Appends old new (take count bytes)

@@ -5,6 +5,8 @@ mod kit;
 mod reading;
 mod sink;
 mod source;
+#[cfg(test)]
+mod tests;
 mod tool;
 mod writing;
 

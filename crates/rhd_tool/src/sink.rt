@@ -1,7 +1,7 @@
 //! Where bytes go.
 
-ghost use Rattle.std.specs.Prelude.{◌≡◌, ◌<◌, ◌≤◌, List, [], ℕ, Option, Some, None, IfSome, length, min, IfOk, IfErr};
-ghost use Rattle.std.specs.Io.KnownBytes.{WriteAppends};
+ghost use Rattle.std.specs.Prelude.{◌≡◌, ◌<◌, ◌≤◌, List, [], ℕ, Option, Some, None, IfSome, length, min, take, IfOk, IfErr};
+ghost use Rattle.std.specs.Io.KnownBytes.{WriteAppends, Appends, Keeps};
 ghost use Rattle.rhd_tool.specs.Causes.{HasSinkCause};
 
 use std::alloc::Global;
@@ -31,7 +31,8 @@ pub trait Sink {
         ensures cause { HasSinkCause (faults self.old) (faults self.new) result };
 }
 
-/// Any writer of std. It tells no bytes. A write of nothing is a fault.
+/// Any writer of std. It tells the bytes that were written where the writer does. A write of nothing is
+/// a fault.
 #[derive(Drop)]
 pub struct Writing<W: Write + Drop> {
     inner: W,
@@ -40,7 +41,8 @@ pub struct Writing<W: Write + Drop> {
 
 impl<W: Write + Drop> Writing<W> {
     pub fn new(inner: W) -> Self
-        ensures { ⟦<Writing<W> as Sink>⟧.faults result ≡ 0 }
+        ensures faults { ⟦<Writing<W> as Sink>⟧.faults result ≡ 0 }
+        ensures written { ⟦<Writing<W> as Sink>⟧.written result ≡ W.contents inner }
     {
         Writing { inner, faults: 0 }
     }
@@ -50,6 +52,8 @@ impl<W: Write + Drop> Writing<W> {
 fn write_once<W: Write>(writer: &mut W, piece: &[u8]) -> Option<usize>
     ensures within { IfSome result (λ n. n ≤ length piece.now) }
     ensures some { IfSome result (λ n. 0 < n) }
+    ensures bytes { IfSome result (λ n. Appends (W.contents writer.old) (W.contents writer.new) (take n piece.now)) }
+    ensures none { result ≡ None → Keeps (W.contents writer.old) (W.contents writer.new) }
 {
     for _ in 0..u64::MAX {
         match writer.write(piece) {
@@ -66,7 +70,7 @@ fn write_once<W: Write>(writer: &mut W, piece: &[u8]) -> Option<usize>
 }
 
 impl<W: Write + Drop> Sink for Writing<W> {
-    ghost written = { λ _. None };
+    ghost written = { λ s. W.contents s.inner };
 
     ghost faults = { λ s. s.faults };
 

@@ -2,7 +2,7 @@
 
 ghost use Rattle.std.specs.Prelude.{◌≡◌, ◌<◌, ◌≤◌, List, ℕ, Option, Some, None, IfSome, IsOk, length, min, take};
 ghost use Rattle.std.specs.Io.{ReadsAtMost};
-ghost use Rattle.std.specs.Io.KnownBytes.{ReadConsumes};
+ghost use Rattle.std.specs.Io.KnownBytes.{ReadConsumes, Consumes, IsAtEnd, Keeps};
 ghost use Rattle.rhd_tool.specs.Causes.{HasCause};
 
 use std::io::{ErrorKind, Read};
@@ -27,7 +27,7 @@ pub trait Source {
         ensures cause { HasCause (faults self.old) (faults self.new) result };
 }
 
-/// Any reader of std. It tells no bytes.
+/// Any reader of std. It tells the bytes that are left where the reader does.
 #[derive(Drop)]
 pub struct Reading<R: Read + Drop> {
     inner: R,
@@ -36,7 +36,8 @@ pub struct Reading<R: Read + Drop> {
 
 impl<R: Read + Drop> Reading<R> {
     pub fn new(inner: R) -> Self
-        ensures { ⟦<Reading<R> as Source>⟧.faults result ≡ 0 }
+        ensures faults { ⟦<Reading<R> as Source>⟧.faults result ≡ 0 }
+        ensures left { ⟦<Reading<R> as Source>⟧.left result ≡ R.remaining inner }
     {
         Reading { inner, faults: 0 }
     }
@@ -44,7 +45,10 @@ impl<R: Read + Drop> Reading<R> {
 
 /// One read, called again where a signal interrupts it; none where it failed.
 fn read_once<R: Read>(reader: &mut R, buf: &mut [u8]) -> Option<usize>
-    ensures { IfSome result (λ n. n ≤ length buf.new) }
+    ensures within { IfSome result (λ n. n ≤ length buf.new) }
+    ensures bytes { IfSome result (λ n. Consumes (R.remaining reader.old) (R.remaining reader.new) (take n buf.new)) }
+    ensures end { IfSome result (λ n. n ≡ 0 → 0 < length buf.new → IsAtEnd (R.remaining reader.new)) }
+    ensures none { result ≡ None → Keeps (R.remaining reader.old) (R.remaining reader.new) }
 {
     for _ in 0..u64::MAX {
         match reader.read(buf) {
@@ -60,7 +64,7 @@ fn read_once<R: Read>(reader: &mut R, buf: &mut [u8]) -> Option<usize>
 }
 
 impl<R: Read + Drop> Source for Reading<R> {
-    ghost left = { λ _. None };
+    ghost left = { λ s. R.remaining s.inner };
 
     ghost faults = { λ s. s.faults };
 

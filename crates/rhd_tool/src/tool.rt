@@ -8,7 +8,7 @@ ghost use Rattle.rhd_text.specs.declared.session.SessionText.{SessionText};
 ghost use Rattle.rhd_text.specs.Session.{IsSession, IsFirstBad};
 ghost use Rattle.rhd_text.specs.PrintedReplies.{all_printed};
 ghost use Rattle.rhd_tool.specs.Causes.{Rose};
-ghost use Rattle.rhd_tool.specs.Streams.{CameMore, WrotePart};
+ghost use Rattle.rhd_tool.specs.Streams.{CameMore, WrotePart, WroteLess};
 ghost use Rattle.rhd_tool.specs.Ends.{run_words, most_bytes, IsStatus, IsAnswered, Ran, RanPart, WasBad, WasDone, WasCut, WasStopped};
 
 use crate::reading::{ReadEnd, read_whole};
@@ -60,6 +60,7 @@ fn write_replies<K: Sink>(alloc: Global, replies: Replies, sink: &mut K) -> Tool
     ensures replies { result.replies ≡ replies }
     ensures all { result.status ≡ 0 → Appends (K.written sink.old) (K.written sink.new) (all_printed replies) }
     ensures part { WrotePart (K.written sink.old) (K.written sink.new) (all_printed replies) }
+    ensures short { result.status ≡ 4 → WroteLess (K.written sink.old) (K.written sink.new) (all_printed replies) }
     ensures fault { result.status ≡ 4 → Rose (K.faults sink.old) (K.faults sink.new) }
     ensures later { K.faults sink.old ≤ K.faults sink.new }
 {
@@ -109,6 +110,7 @@ fn answer_and_write<K: Sink>(
     ensures some { IsAnswered (objects_of allows_call natives) (infos_of info natives) (take (length result.replies) commands.now) result.replies }
     ensures done { result.status ≡ 0 → Appends (K.written sink.old) (K.written sink.new) (all_printed result.replies) }
     ensures part { WrotePart (K.written sink.old) (K.written sink.new) (all_printed result.replies) }
+    ensures short { result.status ≡ 4 → WroteLess (K.written sink.old) (K.written sink.new) (all_printed result.replies) }
     ensures fault { result.status ≡ 4 → Rose (K.faults sink.old) (K.faults sink.new) }
     ensures later { K.faults sink.old ≤ K.faults sink.new }
 {
@@ -131,7 +133,9 @@ fn run_bytes<K: Sink>(alloc: Global, natives: Natives, bytes: &[u8], sink: &mut 
     ensures made { result.status ≡ 5 → RanPart (objects_of allows_call natives) (infos_of info natives) (length natives.items.items) bytes.now result.replies }
     ensures done { result.status ≡ 0 → Appends (K.written sink.old) (K.written sink.new) (all_printed result.replies) }
     ensures part { WrotePart (K.written sink.old) (K.written sink.new) (all_printed result.replies) }
+    ensures short { result.status ≡ 4 → WroteLess (K.written sink.old) (K.written sink.new) (all_printed result.replies) }
     ensures bad { result.status ≡ 2 → IsFirstBad (length natives.items.items) result.line (lines bytes.now) × (K.written sink.new ≡ K.written sink.old) × (result.replies ≡ []) }
+    ensures untouched { result.status ≡ 2 → sink.new ≡ sink.old }
     ensures fault { result.status ≡ 4 → Rose (K.faults sink.old) (K.faults sink.new) }
     ensures later { K.faults sink.old ≤ K.faults sink.new }
     ensures text { (text : SessionText) → IsSession (length natives.items.items) (lines bytes.now) text → result.status ≢ 2 }
@@ -172,6 +176,9 @@ fn run<S: Source, K: Sink>(
     ensures many { result.status ≡ 6 → CameMore most_bytes (S.left source.old) (S.left source.new) }
     ensures line { (result.status ≡ 2) ⊎ (result.line ≡ 0) }
     ensures nothing { (result.status ≡ 1) ⊎ (result.status ≡ 2) ⊎ (result.status ≡ 3) ⊎ (result.status ≡ 6) → (K.written sink.new ≡ K.written sink.old) × (result.replies ≡ []) }
+    ensures unread { result.status ≡ 1 → source.new ≡ source.old }
+    ensures untouched { (result.status ≡ 1) ⊎ (result.status ≡ 2) ⊎ (result.status ≡ 3) ⊎ (result.status ≡ 6) → sink.new ≡ sink.old }
+    ensures short { result.status ≡ 4 → WroteLess (K.written sink.old) (K.written sink.new) (all_printed result.replies) }
     ensures complete { (bytes : List ℕ) (text : SessionText) → map (λ w. string_bytes w) words.now ≡ run_words → S.left source.old ≡ Some bytes → length bytes ≤ most_bytes → IsSession (length natives.items.items) (lines bytes) text
         → ¬ (Rose (S.faults source.old) (S.faults source.new)) → ¬ (Rose (K.faults sink.old) (K.faults sink.new)) → (result.status ≡ 0) ⊎ (result.status ≡ 5) }
     ensures refused { (bytes : List ℕ) (n : ℕ) → map (λ w. string_bytes w) words.now ≡ run_words → S.left source.old ≡ Some bytes → length bytes ≤ most_bytes → IsFirstBad (length natives.items.items) n (lines bytes)
@@ -227,6 +234,12 @@ pub fn run_tool<S: Source, K: Sink>(
     ensures line { (result.status ≡ 2) ⊎ (result.line ≡ 0) }
     // For 1, 2, 3 and 6 nothing was written, and there are no replies.
     ensures nothing { (result.status ≡ 1) ⊎ (result.status ≡ 2) ⊎ (result.status ≡ 3) ⊎ (result.status ≡ 6) → (K.written sink.new ≡ K.written sink.old) × (result.replies ≡ []) }
+    // For 1 the source was not asked for anything.
+    ensures unread { result.status ≡ 1 → source.new ≡ source.old }
+    // For 1, 2, 3 and 6 the sink was not asked to write, also where it tells no bytes.
+    ensures untouched { (result.status ≡ 1) ⊎ (result.status ≡ 2) ⊎ (result.status ≡ 3) ⊎ (result.status ≡ 6) → sink.new ≡ sink.old }
+    // 4: what was written is less than all.
+    ensures short { result.status ≡ 4 → WroteLess (K.written sink.old) (K.written sink.new) (all_printed result.replies) }
     // A session text of at most that many bytes ends with 0, unless the source or the sink failed or
     // memory ran out.
     ensures complete { (bytes : List ℕ) (text : SessionText) → map (λ w. string_bytes w) words.now ≡ run_words → S.left source.old ≡ Some bytes → length bytes ≤ most_bytes → IsSession (length natives.items.items) (lines bytes) text

@@ -1,8 +1,8 @@
 //! Writing all of some bytes.
 
-ghost use Rattle.std.specs.Prelude.{OnOk, length};
+ghost use Rattle.std.specs.Prelude.{OnOk, OnErr, length};
 ghost use Rattle.std.specs.Io.KnownBytes.{Appends};
-ghost use Rattle.rhd_tool.specs.Streams.{WrotePart};
+ghost use Rattle.rhd_tool.specs.Streams.{WrotePart, WroteLess};
 ghost use Rattle.rhd_tool.specs.Causes.{HasSinkCause};
 
 use crate::sink::{Sink, SinkFault};
@@ -11,6 +11,7 @@ use crate::sink::{Sink, SinkFault};
 pub fn write_whole<K: Sink>(sink: &mut K, bytes: &[u8]) -> Result<(), SinkFault>
     ensures all { OnOk result (Appends (K.written sink.old) (K.written sink.new) bytes.now) }
     ensures part { WrotePart (K.written sink.old) (K.written sink.new) bytes.now }
+    ensures short { OnErr result (WroteLess (K.written sink.old) (K.written sink.new) bytes.now) }
     ensures cause { HasSinkCause (K.faults sink.old) (K.faults sink.new) result }
 {
     let mut done = 0;

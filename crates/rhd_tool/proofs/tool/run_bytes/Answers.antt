@@ -1,4 +1,4 @@
-use Rattle.std.proofs.Common.{inl, refl, ap, ◌∙◌}
+use Rattle.std.proofs.Common.{inl, ap, ◌∙◌}
 use Rattle.rhd_tool.proofs.tool.run_bytes.Goals as goal
 
 pub returns-in-Err-BadLine-clause-first : goal.returns-in-Err-BadLine-clause-first

@@ -1,0 +1,55 @@
+//! Tests of what no contract says: that calls succeed, and that the contracts say what is meant.
+
+mod calls;
+mod printing;
+mod runs;
+mod texts;
+
+use crate::kit::{KitFn, kit};
+use crate::sink::Sink;
+use crate::source::Source;
+use crate::tool::{ToolEnd, run_tool};
+use rhd_func::{Natives, PluginFunc};
+use rhd_value::{FnPtr, FnPtrType, OutOfMemory, Text, Values};
+use std::alloc::{AllocError, Global};
+use std::process::Abort;
+use std::test::Fail;
+
+/// Runs the program on so many of the words between commas, with the kit's natives.
+fn run_words<S: Source, K: Sink>(
+    alloc: Global,
+    count: usize,
+    words: &str,
+    source: &mut S,
+    sink: &mut K,
+) -> Result<ToolEnd, Fail> {
+    let mut natives = Natives::new(alloc);
+    kit!(alloc, natives, return Err(AllocError.into()));
+    let mut owned = Vec::new(alloc);
+    for word in words.split(',').take(count) {
+        owned.push(String::from_str(alloc, word)?)?;
+    }
+    Ok(run_tool(alloc, owned.as_slice(), source, sink, natives))
+}
+
+/// Stops the test where bytes are not those that are wanted.
+fn same_bytes(rt: &impl Abort, found: &[u8], want: &[u8], what: &str) {
+    assert!(rt; found == want, "{what}");
+}
+
+/// Stops the test where something doesn't hold.
+fn holds(rt: &impl Abort, fact: bool, what: &str) {
+    assert!(rt; fact, "{what}");
+}
+
+/// A text.
+fn text_of(alloc: Global, text: &str) -> Result<Text, OutOfMemory> {
+    let mut made = Text::new(alloc);
+    made.push(text)?;
+    Ok(made)
+}
+
+/// A pointer to a function.
+fn pointer(name: Text, curry: Values, typ: FnPtrType) -> FnPtr {
+    FnPtr { name, curry, typ }
+}

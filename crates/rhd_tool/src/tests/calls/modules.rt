@@ -1,0 +1,198 @@
+//! Requests, keys, modules and sessions.
+
+use crate::kit::{KitFn, kit};
+use crate::tests::{holds, same_bytes, text_of};
+use rhd_func::{CallRequest, CallShape, FnAccess, FnNamespace, Natives, PluginFunc, RhaiFunc};
+use rhd_module::{DeclFault, Declaration, Key, Module, native_declaration, native_key};
+use rhd_session::{Command, Commands, Reply, Session};
+use rhd_text::print_replies;
+use rhd_value::{Dynamic, FnId, OutOfMemory, Position, Texts, TypeTag, Types, Value, Values};
+use std::alloc::{AllocError, Global};
+use std::process::Abort;
+use std::test::Fail;
+
+/// A call of `f` with 7, made in this line.
+fn request(alloc: Global, line: u32) -> Result<CallRequest, OutOfMemory> {
+    let mut args = Values::new(alloc);
+    args.push(Dynamic::from(Value::Int(7)))?;
+    Ok(CallRequest::Named {
+        name: text_of(alloc, "f")?,
+        native_only: true,
+        shape: CallShape::Plain(args).dup(alloc)?,
+        pos: Position { line, column: 1 },
+    })
+}
+
+/// Copies a request.
+fn check_request(rt: &impl Abort, alloc: Global) -> Result<(), Fail> {
+    let CallRequest::Named {
+        name,
+        native_only,
+        shape,
+        pos,
+    } = request(alloc, 3)?.dup(alloc)?;
+    let CallShape::Plain(args) = shape;
+    holds(rt, name.as_str() == "f", "the name");
+    holds(rt, native_only, "only natives");
+    holds(rt, pos == Position { line: 3, column: 1 }, "the place");
+    let first = args.get(0).and_then(|value| value.as_int());
+    holds(rt, first == Some(7) && args.len() == 1, "the argument");
+    Ok(())
+}
+
+/// The key of a native `name` of one integer.
+fn int_key(alloc: Global, name: &str) -> Result<Key, OutOfMemory> {
+    Ok(Key::Native {
+        path: None,
+        name: text_of(alloc, name)?,
+        types: Types::from_slice(alloc, &[TypeTag::Int])?,
+    })
+}
+
+/// The key of a script in a namespace.
+fn script_key(alloc: Global) -> Result<Key, OutOfMemory> {
+    let mut path = Texts::new(alloc);
+    path.push(text_of(alloc, "n")?)?;
+    Ok(Key::Script {
+        path: Some(path),
+        name: text_of(alloc, "f")?,
+        params: 1,
+    })
+}
+
+/// The key of a script method in a namespace.
+fn typed_key(alloc: Global) -> Result<Key, OutOfMemory> {
+    let mut path = Texts::new(alloc);
+    path.push(text_of(alloc, "n")?)?;
+    Ok(Key::Typed {
+        path: Some(path),
+        name: text_of(alloc, "f")?,
+        params: 1,
+        this_type: text_of(alloc, "i64")?,
+    })
+}
+
+/// Copies keys, and compares them.
+fn check_keys(rt: &impl Abort, alloc: Global) -> Result<(), Fail> {
+    let native = int_key(alloc, "f")?;
+    let script = script_key(alloc)?;
+    let typed = typed_key(alloc)?;
+    holds(rt, native.dup(alloc)? == native, "a native's key");
+    holds(rt, script.dup(alloc)? == script, "a script's key");
+    holds(rt, typed.dup(alloc)? == typed, "a method's key");
+    holds(rt, native != script && script != typed, "other keys");
+    holds(rt, native != int_key(alloc, "g")?, "another name");
+    Ok(())
+}
+
+/// A public function of all calls that runs this native.
+fn by_value(number: u32) -> RhaiFunc {
+    RhaiFunc::Pure {
+        func: FnId(number),
+        has_context: false,
+        is_pure: true,
+        is_volatile: false,
+    }
+}
+
+/// The declaration of a native.
+fn declaration(number: u32) -> Declaration {
+    Declaration {
+        func: by_value(number),
+        namespace: FnNamespace::Global,
+        access: FnAccess::Public,
+    }
+}
+
+/// Declares functions in a module, one of them twice.
+fn check_module(rt: &impl Abort, alloc: Global) -> Result<(), Fail> {
+    let mut module = Module::new(alloc);
+    module.set_fn(int_key(alloc, "f")?, declaration(1))?;
+    module.set_fn(int_key(alloc, "g")?, declaration(2))?;
+    module.set_fn(int_key(alloc, "f")?, declaration(3))?;
+    let f = module.get_fn(&int_key(alloc, "f")?);
+    holds(rt, f == Some(by_value(3)), "the later function");
+    let g = module.get_fn(&int_key(alloc, "g")?);
+    holds(rt, g == Some(by_value(2)), "the other function");
+    let h = module.get_fn(&int_key(alloc, "h")?);
+    holds(rt, h.is_none(), "no function");
+    Ok(())
+}
+
+/// How a native is declared.
+fn check_declared(
+    rt: &impl Abort,
+    alloc: Global,
+    native: &Box<dyn PluginFunc>,
+) -> Result<(), Fail> {
+    let name = text_of(alloc, "f")?;
+    let key = native_key(alloc, &name, native)?;
+    holds(rt, key == int_key(alloc, "f")?, "its key");
+    let declared = native_declaration(&name, native, FnId(9));
+    holds(rt, declared.func == by_value(9), "its function");
+    holds(rt, declared.namespace == FnNamespace::Global, "from where");
+    holds(rt, declared.access == FnAccess::Public, "by whom");
+    Ok(())
+}
+
+/// Registers a native that isn't held and one that is, and makes a call before and after.
+fn commands(alloc: Global) -> Result<Commands, OutOfMemory> {
+    let mut commands = Commands::new(alloc);
+    commands.push(Command::Call(request(alloc, 1)?))?;
+    for number in [3, 1] {
+        commands.push(Command::RegisterFn {
+            name: text_of(alloc, "f")?,
+            id: FnId(number),
+        })?;
+    }
+    commands.push(Command::Call(request(alloc, 4)?))?;
+    Ok(commands)
+}
+
+/// Compares replies, of which the second is a refusal.
+fn check_replies(
+    rt: &impl Abort,
+    alloc: Global,
+    replies: &[Reply],
+    want: &str,
+) -> Result<(), Fail> {
+    let refused = match replies {
+        [
+            _,
+            Reply::Refused(DeclFault::UnknownNumber { number, length }),
+            ..
+        ] => { *number == 3 && *length == 3 }
+        _ => false,
+    };
+    holds(rt, refused, "a number that isn't held");
+    let mut out = Vec::new(alloc);
+    print_replies(alloc, replies, &mut out)?;
+    same_bytes(rt, &out, want.as_bytes(), want);
+    Ok(())
+}
+
+#[test]
+fn modules_and_sessions_answer(rt: HostRuntime) -> Result<(), Fail> {
+    let alloc = rt.alloc();
+    check_request(&rt, alloc)?;
+    check_keys(&rt, alloc)?;
+    check_module(&rt, alloc)?;
+    let mut natives = Natives::new(alloc);
+    kit!(alloc, natives, return Err(AllocError.into()));
+    let Some(native) = natives.get(FnId(2)) else {
+        return Err(AllocError.into());
+    };
+    check_declared(&rt, alloc, native)?;
+    let mut session = Session::new(alloc, natives)?;
+    let commands = commands(alloc)?;
+    let Ok(replies) = session.run(alloc, commands.as_slice()) else {
+        return Err(AllocError.into());
+    };
+    let want = "f - call ! 1 \"f (i64)\"\nrefused 4 3 3\nok\nf global0#1 called = 1\n";
+    check_replies(&rt, alloc, replies.as_slice(), want)?;
+    let Ok(replies) = session.run(alloc, commands.as_slice()) else {
+        return Err(AllocError.into());
+    };
+    let want = "f global0#1 called = 1\nrefused 4 3 3\nok\nf global0#1 called = 1\n";
+    check_replies(&rt, alloc, replies.as_slice(), want)
+}

@@ -1,0 +1,176 @@
+//! Words, sources and sinks.
+
+ghost use Rattle.std.specs.Prelude.{◌<◌};
+
+use super::{holds, run_words, same_bytes};
+use crate::reading::{ReadEnd, read_whole};
+use crate::sink::{MemSink, PlainSink};
+use crate::source::{MemSource, PlainSource};
+use std::alloc::Global;
+use std::process::Abort;
+use std::test::Fail;
+
+/// Runs on words that are not `run`, and sees that nothing was read or written: the first read
+/// would fail, and does so afterwards.
+fn check_words(rt: &impl Abort, alloc: Global, count: usize, words: &str) -> Result<(), Fail> {
+    let mut source = MemSource::new(
+        Vec::from_slice(alloc, b"call f\n")?,
+        vec![in alloc; 1]?,
+        100,
+    );
+    let mut sink = PlainSink::new(alloc);
+    let end = run_words(alloc, count, words, &mut source, &mut sink)?;
+    holds(rt, end.status == 1, "status");
+    holds(rt, end.line == 0, "line");
+    holds(rt, end.replies.len() == 0, "replies");
+    same_bytes(rt, sink.bytes(), b"", "written");
+    let read = read_whole(alloc, &mut source, 100);
+    holds(rt, matches!(read, Err(ReadEnd::Failed)), "read");
+    Ok(())
+}
+
+#[test]
+fn other_words_than_run_are_refused(rt: HostRuntime) -> Result<(), Fail> {
+    let alloc = rt.alloc();
+    let table = [
+        (0, ""),
+        (1, "Run"),
+        (1, "RUN"),
+        (1, "runs"),
+        (1, "ru"),
+        (1, "run "),
+        (1, ""),
+        (2, "run,x"),
+        (2, "run,run"),
+        (2, ",run"),
+        (2, "run,"),
+    ];
+    for (count, words) in table {
+        check_words(&rt, alloc, count, words)?;
+    }
+    Ok(())
+}
+
+/// What a stream in memory does: the number of the call that fails, or 0, and the most bytes of
+/// one call.
+#[derive(Clone, Copy)]
+struct Stream {
+    fails: u64,
+    most: u64,
+    ghost some: { 0 < most },
+}
+
+/// A stream of which no call fails.
+const FREE: Stream = Stream {
+    fails: 0,
+    most: 100,
+};
+
+/// A stream of which this call fails.
+fn failing(fails: u64) -> Stream {
+    Stream { fails, most: 100 }
+}
+
+/// What a run is to come to.
+#[derive(Clone, Copy)]
+struct Wanted {
+    status: u8,
+    line: u32,
+    written: &'static str,
+    replies: usize,
+}
+
+/// Runs a text over these streams, and compares how it ends.
+fn check_run(
+    rt: &impl Abort,
+    alloc: Global,
+    text: &str,
+    source: Stream,
+    sink: Stream,
+    wanted: Wanted,
+) -> Result<(), Fail> {
+    let bytes = Vec::from_slice(alloc, text.as_bytes())?;
+    let mut source = MemSource::new(bytes, vec![in alloc; source.fails]?, source.most);
+    let mut sink = MemSink::new(alloc, vec![in alloc; sink.fails]?, sink.most);
+    let end = run_words(alloc, 1, "run", &mut source, &mut sink)?;
+    same_bytes(rt, sink.bytes(), wanted.written.as_bytes(), wanted.written);
+    holds(rt, end.status == wanted.status, "status");
+    holds(rt, end.line == wanted.line, "line");
+    holds(rt, end.replies.len() == wanted.replies, "replies");
+    Ok(())
+}
+
+/// What is wanted of a run that ends with this status before any reply.
+fn nothing(status: u8, line: u32) -> Wanted {
+    Wanted {
+        status,
+        line,
+        written: "",
+        replies: 0,
+    }
+}
+
+/// What is wanted of a run that makes two replies.
+fn two(status: u8, written: &'static str) -> Wanted {
+    Wanted {
+        status,
+        line: 0,
+        written,
+        replies: 2,
+    }
+}
+
+/// Runs this many line feeds, and compares the status.
+fn check_large(rt: &impl Abort, alloc: Global, count: usize, status: u8) -> Result<(), Fail> {
+    let mut source = PlainSource::new(vec![in alloc; b'\n'; count]?);
+    let mut sink = PlainSink::new(alloc);
+    let end = run_words(alloc, 1, "run", &mut source, &mut sink)?;
+    holds(rt, end.status == status, "status of a large text");
+    holds(rt, end.line == 0, "line of a large text");
+    holds(rt, end.replies.len() == 0, "replies of a large text");
+    same_bytes(rt, sink.bytes(), b"", "a large text");
+    Ok(())
+}
+
+#[test]
+fn runs_end_as_their_streams_do(rt: HostRuntime) -> Result<(), Fail> {
+    let alloc = rt.alloc();
+    let text = "register f 1\ncall f 1\n";
+    let all = "ok\nf global0#1 called = 1\n";
+    let bytewise = Stream { fails: 0, most: 1 };
+    let fives = Stream { fails: 2, most: 5 };
+    let table = [
+        (text, FREE, FREE, two(0, all)),
+        (text, bytewise, FREE, two(0, all)),
+        (text, FREE, bytewise, two(0, all)),
+        (text, bytewise, bytewise, two(0, all)),
+        // A read fails: the first, a later one, the one that would be at the end.
+        (text, failing(1), FREE, nothing(3, 0)),
+        (text, fives, FREE, nothing(3, 0)),
+        (text, failing(2), FREE, nothing(3, 0)),
+        (text, failing(3), FREE, two(0, all)),
+        ("bogus\n", failing(2), FREE, nothing(3, 0)),
+        ("bogus\n", FREE, failing(1), nothing(2, 1)),
+        ("", failing(1), FREE, nothing(3, 0)),
+        // A write fails: the first, a later one.
+        (text, FREE, failing(1), two(4, "")),
+        (text, FREE, fives, two(4, "ok\nf ")),
+        (text, FREE, Stream { fails: 2, most: 1 }, two(4, "o")),
+        (text, FREE, failing(2), two(0, all)),
+        (text, failing(1), failing(1), nothing(3, 0)),
+        ("", FREE, failing(1), nothing(0, 0)),
+        ("; x\n", FREE, failing(1), nothing(0, 0)),
+    ];
+    for (text, source, sink, wanted) in table {
+        check_run(&rt, alloc, text, source, sink, wanted)?;
+    }
+    Ok(())
+}
+
+/// Takes under a second as it is built, and minutes where each step is checked.
+#[test]
+fn the_largest_text_is_run(rt: HostRuntime) -> Result<(), Fail> {
+    let alloc = rt.alloc();
+    check_large(&rt, alloc, 16_777_217, 6)?;
+    check_large(&rt, alloc, 16_777_216, 0)
+}

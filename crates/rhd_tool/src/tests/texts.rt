@@ -1,0 +1,199 @@
+//! Session texts: what is answered, and which lines are bad.
+
+use super::{holds, run_words, same_bytes};
+use crate::sink::PlainSink;
+use crate::source::PlainSource;
+use std::alloc::Global;
+use std::process::Abort;
+use std::test::Fail;
+
+/// Runs a text, and compares the output, the status, the line and the number of replies.
+fn check_text(
+    rt: &impl Abort,
+    alloc: Global,
+    text: &[u8],
+    output: &str,
+    status: u8,
+    line: u32,
+) -> Result<(), Fail> {
+    let mut source = PlainSource::new(Vec::from_slice(alloc, text)?);
+    let mut sink = PlainSink::new(alloc);
+    let end = run_words(alloc, 1, "run", &mut source, &mut sink)?;
+    let shown = String::from_utf8_lossy(alloc, text)?;
+    let replies = output.lines().count();
+    same_bytes(rt, sink.bytes(), output.as_bytes(), shown.as_str());
+    holds(rt, end.status == status, shown.as_str());
+    holds(rt, end.line == line, shown.as_str());
+    holds(rt, end.replies.len() == replies, shown.as_str());
+    Ok(())
+}
+
+#[test]
+fn texts_are_answered(rt: HostRuntime) -> Result<(), Fail> {
+    let alloc = rt.alloc();
+    let table = [
+        // Nothing to do.
+        ("", ""),
+        ("\n", ""),
+        ("\n \n\t\n", ""),
+        ("\r\n\r\n", ""),
+        ("; x", ""),
+        ("; x\n  ;\n\t;;\t\" (\n;\u{e9}\u{a0}\u{1f600}\u{0}\n", ""),
+        // Calls of natives.
+        ("register f 1\ncall f 1", "ok\nf global0#1 called = 1\n"),
+        (
+            "register f 1\nregister f 2\ncall f 7",
+            "ok\nok\nf global0#2 called = 2\n",
+        ),
+        ("register f 0\ncall f 1", "ok\nf - call ! 1 \"f (i64)\"\n"),
+        ("call f", "f - call ! 1 \"f ()\"\n"),
+        ("register f 2", "ok\n"),
+        (
+            "register a 0\nregister z99 1\ncall z99 0\ncall a\ncall z9 0",
+            "ok\nok\nz99 global0#1 called = 1\na global0#0 called = 0\nz9 - call ! 1 \"z9 (i64)\"\n",
+        ),
+        (
+            "call f 1\nregister f 1\ncall f 1\n",
+            "f - call ! 1 \"f (i64)\"\nok\nf global0#1 called = 1\n",
+        ),
+        // One name for natives of other types.
+        (
+            "register f 0\nregister f 1\ncall f\ncall f 3\ncall f 1 2\n",
+            "ok\nok\nf global0#0 called = 0\nf global0#1 called = 1\nf - call ! 1 \"f (i64, i64)\"\n",
+        ),
+        (
+            "register f 2\nregister f 0\nregister f 1\ncall f\ncall f 3\n",
+            "ok\nok\nok\nf global0#0 called = 0\nf global0#1 called = 1\n",
+        ),
+        // Ways to write lines, blanks and numbers.
+        (
+            "register f 1\r\n; x\r\ncall f 1\r\n",
+            "ok\nf global0#1 called = 1\n",
+        ),
+        (
+            "\n\t register\t f  1\t \n\n ;\n  call \tf\t-1 \t",
+            "ok\nf global0#1 called = 1\n",
+        ),
+        ("register f 00000000000000000002\n", "ok\n"),
+        (
+            "register f 1\ncall f -9223372036854775808\ncall f 9223372036854775807",
+            "ok\nf global0#1 called = 1\nf global0#1 called = 1\n",
+        ),
+        (
+            "register f 1\ncall f -0\ncall f 0000000000000000000000000000000000000000000000007\n",
+            "ok\nf global0#1 called = 1\nf global0#1 called = 1\n",
+        ),
+        (
+            "register f 1\ncall f -0000000000000000000000000000000000000000000000007\n",
+            "ok\nf global0#1 called = 1\n",
+        ),
+    ];
+    for (text, output) in table {
+        check_text(&rt, alloc, text.as_bytes(), output, 0, 0)?;
+    }
+    Ok(())
+}
+
+/// Runs a text in which this line is the first bad one.
+fn check_bad(rt: &impl Abort, alloc: Global, text: &[u8], line: u32) -> Result<(), Fail> {
+    check_text(rt, alloc, text, "", 2, line)
+}
+
+#[test]
+fn the_first_bad_line_is_named(rt: HostRuntime) -> Result<(), Fail> {
+    let alloc = rt.alloc();
+    // A second line that is bad.
+    let seconds = [
+        "bogus",
+        "register f 3",
+        "register f -1",
+        "register f +1",
+        "register f 1 2",
+        "register f",
+        "register",
+        "register F 1",
+        "register 1f 1",
+        "register f_ 1",
+        "register fg 1",
+        "register \"f\" 1",
+        "register 1 f",
+        "\"register\" f 1",
+        "Register f 1",
+        "registerf 1",
+        "register f1",
+        "register f 1;",
+        "register f 1 ; x",
+        "register f 000000000000000000001",
+        "register f 4294967296",
+        "register f 4294967295",
+        "register f 18446744073709551616",
+        "register f 0x1",
+        "call",
+        "call 1",
+        "call F",
+        "call f +1",
+        "call f 9223372036854775808",
+        "call f -9223372036854775809",
+        "call f -",
+        "call f --1",
+        "call f 1-",
+        "call f 1x",
+        "call f 1.0",
+        "call f 'a'",
+        "call f \"a\"",
+        "call f ()",
+        "call f []",
+        "call f(1)",
+        "call f 1,2",
+        "call f 1;",
+        "call f true",
+        "calls f 1",
+        "call f 1\r",
+        "call\rf 1",
+        "call f \r1",
+        "\r",
+        "call f 1\u{0}",
+        "\u{0}",
+        "call\u{a0}f 1",
+        "\u{a0}",
+        "\u{feff}call f 1",
+        "\u{c}",
+        "call f \u{661}",
+        "call \u{e9}",
+        "# x",
+        "// x",
+        "global 5",
+        "lib 0",
+        "limits 1 1 1 1 1",
+    ];
+    for second in seconds {
+        let text = format!(in alloc; "call f\n{second}")?;
+        check_bad(&rt, alloc, text.as_bytes(), 2)?;
+    }
+    // Whole texts, with the line.
+    let texts = [
+        (b"bogus".as_slice(), 1),
+        (b"bogus\ncall f\n".as_slice(), 1),
+        (b"\n;\n\nbogus".as_slice(), 4),
+        (b"call f\r\n\r\n; x\r\nbogus\r\nbogus\r\n".as_slice(), 4),
+        (b"call f\nregister f 3\nbogus\n".as_slice(), 2),
+        (b"call f 1\r".as_slice(), 1),
+        (b"call f 1\r\r\n".as_slice(), 1),
+        (b"\r\r\n".as_slice(), 1),
+        (b"call f\n\xef\xbb\xbf\ncall f\n".as_slice(), 2),
+        (b"\xef\xbb\xbfcall f\n".as_slice(), 1),
+        (b"\xef\xbb\xbf; x\n".as_slice(), 1),
+        (b"\xff".as_slice(), 1),
+        (b"call f\n; \xff\n".as_slice(), 2),
+        (b"; \xc3\n\xa9\n".as_slice(), 1),
+        (b"; \xc3\xa9\n; \xed\xa0\x80\n".as_slice(), 2),
+        (b"; \xc0\x80".as_slice(), 1),
+        (b"; \xf4\x90\x80\x80".as_slice(), 1),
+        (b"call f \x80\n".as_slice(), 1),
+        (b"call\x0bf\n".as_slice(), 1),
+    ];
+    for (text, line) in texts {
+        check_bad(&rt, alloc, text, line)?;
+    }
+    Ok(())
+}
