@@ -4,6 +4,8 @@ use Rattle.std.specs.Option.{option_map_or}
 use Rattle.rhd_value.specs.Tree.{Tree}
 use Rattle.rhd_value.specs.declared.tag.FnId.{FnId}
 use Rattle.rhd_value.specs.declared.tag.TypeTag.{TypeTag}
+use Rattle.rhd_func.specs.declared.request.Carry.{Carry}
+use Rattle.rhd_func.specs.declared.request.CallDone.{CallDone}
 use Rattle.rhd_func.specs.declared.request.NativeStep.{NativeStep}
 use Rattle.rhd_func.specs.declared.request.NativeCallContext.{NativeCallContext}
 
@@ -22,6 +24,10 @@ info_of natives id = slice_get natives id.0
 abbrev pub says : (NativeInfo → Bool) → List NativeInfo → FnId → Bool
 says test natives id = option_map_or test (info_of natives id) false
 
--- the native of a number is held, and allows this step
+-- the native of a number is held, and allows this first step
 abbrev pub StartAllowed : {N : Type 0} → (N → Option NativeCallContext → Option Tree → List Tree → NativeStep → Type 0) → List N → FnId → Option NativeCallContext → Option Tree → List Tree → NativeStep → Type 0
 StartAllowed {N} allows natives id ctx first args step = (native : N) × (slice_get natives id.0 ≡ Some native) × allows native ctx first args step
+
+-- the same of a next step
+abbrev pub ResumeAllowed : {N : Type 0} → (N → Option NativeCallContext → Carry → CallDone → NativeStep → Type 0) → List N → FnId → Option NativeCallContext → Carry → CallDone → NativeStep → Type 0
+ResumeAllowed {N} allows natives id ctx carry done step = (native : N) × (slice_get natives id.0 ≡ Some native) × allows native ctx carry done step

@@ -11,4 +11,6 @@ pub use access::{FnAccess, FnNamespace};
 pub use func::RhaiFunc;
 pub use native::PluginFunc;
 pub use natives::Natives;
-pub use request::{CallRequest, CallShape, NativeCallContext, NativeStep};
+pub use request::{
+    CallDone, CallRequest, CallShape, Carry, NativeCallContext, NativeStep,
+};

@@ -1,9 +1,9 @@
-//! Natives are known by what they say of themselves and by the relation of their trait.
+//! Natives are known by what they say of themselves and by the relations of their trait.
 
 ghost use Rattle.std.specs.Prelude.{IfOk, ◌≡◌};
 ghost use Rattle.std.specs.Option.{option_copied};
 
-use crate::request::{NativeCallContext, NativeStep};
+use crate::request::{CallDone, Carry, NativeCallContext, NativeStep};
 use rhd_value::{Dynamic, OutOfMemory, TypeTag, Values};
 use std::alloc::Global;
 
@@ -13,13 +13,18 @@ pub trait PluginFunc: Drop {
     ghost use Rattle.rhd_value.specs.Tree.{Tree};
     ghost use Rattle.rhd_func.specs.Natives.{NativeInfo};
     ghost use Rattle.rhd_func.specs.declared.request.NativeStep.{NativeStep};
+    ghost use Rattle.rhd_func.specs.declared.request.Carry.{Carry};
+    ghost use Rattle.rhd_func.specs.declared.request.CallDone.{CallDone};
     ghost use Rattle.rhd_func.specs.declared.request.NativeCallContext.{NativeCallContext};
 
     /// What it says of itself.
     ghost info: { Self → NativeInfo };
 
-    /// With this context, first argument by reference and further arguments it may take this step.
+    /// With this context, first argument by reference and further arguments it may take this first step.
     ghost allows_call: { Self → Option NativeCallContext → Option Tree → List Tree → NativeStep → Type 0 };
+
+    /// After the answer to the call that it asked for it may take this next step.
+    ghost allows_resume: { Self → Option NativeCallContext → Carry → CallDone → NativeStep → Type 0 };
 
     /// Answers every list of arguments: outside its kinds it fails by a fault of its own.
     fn call(
@@ -30,6 +35,16 @@ pub trait PluginFunc: Drop {
         args: Values,
     ) -> Result<NativeStep, OutOfMemory>
         ensures { IfOk result (λ step. allows_call self.now (option_copied ctx.entry) first args step) };
+
+    /// Goes on after the answer to the call that it asked for.
+    fn resume(
+        &self,
+        alloc: Global,
+        ctx: Option<&NativeCallContext>,
+        carry: Carry,
+        done: CallDone,
+    ) -> Result<NativeStep, OutOfMemory>
+        ensures { IfOk result (λ step. allows_resume self.now (option_copied ctx.entry) carry done step) };
 
     /// The types of its parameters.
     fn param_types(&self) -> &[TypeTag]

@@ -2,10 +2,10 @@
 
 ghost use Rattle.std.specs.Prelude.{◌≡◌, ◌<◌, ◌+◌, ◌^◌, ◌++◌, ◌∷◌, [], IfOk, IfErr, OnOk, length, slice_get, Some};
 ghost use Rattle.std.specs.Option.{option_copied};
-ghost use Rattle.rhd_func.specs.Natives.{StartAllowed};
+ghost use Rattle.rhd_func.specs.Natives.{StartAllowed, ResumeAllowed};
 
 use crate::native::PluginFunc;
-use crate::request::{NativeCallContext, NativeStep};
+use crate::request::{CallDone, Carry, NativeCallContext, NativeStep};
 use rhd_value::{Dynamic, FnId, OutOfMemory, Values};
 use std::alloc::Global;
 
@@ -15,7 +15,7 @@ pub struct Natives {
     pub items: Vec<Box<dyn PluginFunc>>,
 }
 
-/// The step of one native.
+/// The first step of one native.
 fn call_box(
     native: &Box<dyn PluginFunc>,
     alloc: Global,
@@ -26,6 +26,19 @@ fn call_box(
     ensures { IfOk result (λ step. allows_call native.now (option_copied ctx.entry) first args step) }
 {
     native.call(alloc, ctx, first, args)
+}
+
+/// The next step of one native.
+fn resume_box(
+    native: &Box<dyn PluginFunc>,
+    alloc: Global,
+    ctx: Option<&NativeCallContext>,
+    carry: Carry,
+    done: CallDone,
+) -> Result<NativeStep, OutOfMemory>
+    ensures { IfOk result (λ step. allows_resume native.now (option_copied ctx.entry) carry done step) }
+{
+    native.resume(alloc, ctx, carry, done)
 }
 
 impl Natives {
@@ -82,5 +95,20 @@ impl Natives {
         ensures { IfOk result (StartAllowed allows_call self.now.items.items id (option_copied ctx.entry) first args) }
     {
         call_box(&self.items[id.0 as usize], alloc, ctx, first, args)
+    }
+
+    /// Goes on with the native of a number.
+    pub fn resume(
+        &self,
+        alloc: Global,
+        id: FnId,
+        ctx: Option<&NativeCallContext>,
+        carry: Carry,
+        done: CallDone,
+    ) -> Result<NativeStep, OutOfMemory>
+        requires { id.0 < length self.now.items.items }
+        ensures { IfOk result (ResumeAllowed allows_resume self.now.items.items id (option_copied ctx.entry) carry done) }
+    {
+        resume_box(&self.items[id.0 as usize], alloc, ctx, carry, done)
     }
 }

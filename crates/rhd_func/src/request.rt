@@ -57,7 +57,40 @@ impl CallRequest {
     }
 }
 
-/// What a native made of its call. A first argument that was given is given back.
+/// What a function keeps while it waits for the answer to a call.
+#[derive(Drop)]
+pub struct Carry {
+    /// Its first argument by reference, where one was given.
+    pub first: Option<Dynamic>,
+    /// What it needs to go on.
+    pub kept: Dynamic,
+}
+
+impl Carry {
+    /// An equal carry.
+    pub fn dup(&self, alloc: Global) -> Result<Carry, OutOfMemory>
+        ensures { IfOk result (λ carry. carry ≡ self.now) }
+    {
+        let first = match &self.first {
+            Some(first) => Some(first.dup(alloc)?),
+            None => None,
+        };
+        Ok(Carry {
+            first,
+            kept: self.kept.dup(alloc)?,
+        })
+    }
+}
+
+/// What became of a call that a function asked for.
+#[derive(Drop)]
+pub struct CallDone {
+    pub answer: Result<Dynamic, EvalAltResult>,
+    /// The first argument by reference, as it is after the call.
+    pub first: Option<Dynamic>,
+}
+
+/// What a function made of its call so far. A first argument that was given is given back.
 #[derive(Drop)]
 pub enum NativeStep {
     Done {
@@ -68,6 +101,8 @@ pub enum NativeStep {
         fault: EvalAltResult,
         first: Option<Dynamic>,
     },
+    /// It asks for a call, and goes on with the carry when that is answered.
+    Ask { request: CallRequest, carry: Carry },
 }
 
 /// What a native may know of the call.

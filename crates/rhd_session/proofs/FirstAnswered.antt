@@ -1,23 +1,22 @@
 -- A call is answered by the first of its asks that is found.
-use Rattle.std.proofs.Common.{◌≡◌, ℕ, List, [], ◌∷◌, refl, sym, ap, ◌∙◌}
+use Rattle.std.proofs.Common.{◌≡◌, ℕ, Bool, true, false, List, [], ◌∷◌, refl, sym, ap, subst, ◌∙◌, ◌⊎◌, inl, inr}
 use Rattle.std.specs.Prelude.{Option, Some, None}
 use Rattle.std.specs.Option.{option_or}
 use Rattle.rhd_value.specs.Firsts.{first_of, IsFirst, here, later, NoneHas}
 use Rattle.rhd_func.specs.declared.request.CallRequest.{CallRequest}
 use Rattle.rhd_func.specs.Shapes.{all_args}
 use Rattle.rhd_session.specs.declared.node.CallNode.{CallNode}
-use Rattle.rhd_session.specs.declared.node.Whose.TheVariants.{Called}
 use Rattle.rhd_session.specs.declared.pick.Pick.{Pick}
 use Rattle.rhd_session.specs.Engine.{EngineLists, Frame}
-use Rattle.rhd_session.specs.World.{World, Objects}
+use Rattle.rhd_session.specs.World.{World, Objects, Moment}
 use Rattle.rhd_session.specs.Asks.{looked}
 use Rattle.rhd_session.specs.NotFound.{not_found}
 use Rattle.rhd_session.specs.Plans.{Plan, plan_of}
 use Rattle.rhd_session.specs.Ends.{End, failed}
-use Rattle.rhd_session.specs.Decisions.{ends, runs, pick_of, decided, decision}
-use Rattle.rhd_session.specs.Seen.{seen}
-use Rattle.rhd_session.specs.Runs.{Runs, ended, finished}
-use Rattle.rhd_session.specs.FirstAsks.{IsAnsweredFirst, IsUnanswered, missing_end, asks_of}
+use Rattle.rhd_session.specs.Decisions.{ends, runs, pick_of, decided, refusal, unless_refused, decision}
+use Rattle.rhd_session.specs.Seen.{seen, unbegun_node}
+use Rattle.rhd_session.specs.Runs.{Runs, not_begun, ended, finished, cut_short}
+use Rattle.rhd_session.specs.FirstAsks.{IsAnsweredFirst, IsUnanswered, EndsAlone, missing_end, asks_of}
 
 -- what is found first is the first that is found
 pub first_is-first : {A B : Type 0} (f : A → Option B) (y : B) (xs : List A) → first_of f xs ≡ Some y → IsFirst f y xs
@@ -43,50 +42,72 @@ pub none_first : {A B : Type 0} (f : A → Option B) (xs : List A) → NoneHas f
 none_first f [] n = refl
 none_first f (x ∷ xs) n = ap (λ (o : Option _). option_or o (first_of f xs)) n.0 ∙ none_first f xs n.1
 
-runs_by : (p : Plan) (o : Option Pick) (plan : Plan) (pick : Pick) → decided p o ≡ runs plan pick → (plan ≡ p) × (o ≡ Some pick)
-runs_by p None plan pick e = absurd cc
-runs_by p (Some q) plan pick e = (cc, cc)
+runs_by : (r : Option End) (p : Plan) (o : Option Pick) (plan : Plan) (pick : Pick) → unless_refused r (decided p o) ≡ runs plan pick → (r ≡ None) × (plan ≡ p) × (o ≡ Some pick)
+runs_by (Some end) p o plan pick e = absurd cc
+runs_by None p None plan pick e = absurd cc
+runs_by None p (Some q) plan pick e = (refl, cc, cc)
 
-ends_by : (p : Plan) (o : Option Pick) (pick : Option Pick) (end : End) → decided p o ≡ ends pick end → (pick ≡ None) × (o ≡ None) × (end ≡ failed p.given (not_found p.pos p.name (all_args p.shape)))
-ends_by p None pick end e = (cc, refl, cc)
-ends_by p (Some q) pick end e = absurd cc
+ends_by : (r : Option End) (p : Plan) (o : Option Pick) (pick : Option Pick) (end : End) → unless_refused r (decided p o) ≡ ends pick end →
+    (pick ≡ None) × ((r ≡ Some end) ⊎ ((r ≡ None) × (end ≡ failed p.given (not_found p.pos p.name (all_args p.shape))) × (o ≡ None)))
+ends_by (Some x) p o pick end e = (cc, inl (let same : x ≡ end = cc in ap Some same))
+ends_by None p None pick end e = (cc, inr (refl, cc, refl))
+ends_by None p (Some q) pick end e = absurd cc
 
--- a function runs exactly as the first ask's that is found
-pub runs_first : (e : EngineLists) (f : Frame) (level : ℕ) (call : CallRequest) (plan : Plan) (pick : Pick) → decision e f level call ≡ runs plan pick → (plan ≡ plan_of call) × IsAnsweredFirst e f call pick
+-- a function runs exactly where nothing refuses the call, as the first ask's that is found
+pub runs_first : (e : EngineLists) (f : Frame) (level : ℕ) (call : CallRequest) (plan : Plan) (pick : Pick) → decision e f level call ≡ runs plan pick → (refusal e level call ≡ None) × (plan ≡ plan_of call) × IsAnsweredFirst e f call pick
 unfolding decision
 runs_first e f level call plan pick d =
-    let r = runs_by (plan_of call) (pick_of e f (plan_of call)) plan pick d in
-    (r.0, first_is-first (looked e f) pick (asks_of call) r.1)
+    let r = runs_by (refusal e level call) (plan_of call) (pick_of e f (plan_of call)) plan pick d in
+    (r.0, r.1, first_is-first (looked e f) pick (asks_of call) r.2)
 
-pub first_runs : (e : EngineLists) (f : Frame) (level : ℕ) (call : CallRequest) (plan : Plan) (pick : Pick) → (plan ≡ plan_of call) × IsAnsweredFirst e f call pick → decision e f level call ≡ runs plan pick
+pub first_runs : (e : EngineLists) (f : Frame) (level : ℕ) (call : CallRequest) (plan : Plan) (pick : Pick) → (refusal e level call ≡ None) × (plan ≡ plan_of call) × IsAnsweredFirst e f call pick → decision e f level call ≡ runs plan pick
 unfolding decision
-first_runs e f level call plan pick r = ap (decided (plan_of call)) (is-first_first (looked e f) pick (asks_of call) r.1) ∙ (λ i. runs (sym r.0 i) pick)
+first_runs e f level call plan pick r =
+    ap (λ (o : Option End). unless_refused o (decided (plan_of call) (pick_of e f (plan_of call)))) r.0
+    ∙ ap (decided (plan_of call)) (is-first_first (looked e f) pick (asks_of call) r.2) ∙ (λ i. runs (sym r.1 i) pick)
 
--- it ends with no pick exactly where no ask is found
-pub ends_missing : (e : EngineLists) (f : Frame) (level : ℕ) (call : CallRequest) (pick : Option Pick) (end : End) → decision e f level call ≡ ends pick end → (pick ≡ None) × (end ≡ missing_end call) × IsUnanswered e f call
+-- it ends without a pick exactly where it is refused, or where no ask is found
+pub ends_missing : (e : EngineLists) (f : Frame) (level : ℕ) (call : CallRequest) (pick : Option Pick) (end : End) → decision e f level call ≡ ends pick end → (pick ≡ None) × EndsAlone e f level call end
 unfolding decision
 ends_missing e f level call pick end d =
-    let r = ends_by (plan_of call) (pick_of e f (plan_of call)) pick end d in
-    (r.0, r.2, first_none (looked e f) (asks_of call) r.1)
+    let r = ends_by (refusal e level call) (plan_of call) (pick_of e f (plan_of call)) pick end d in
+    (r.0, elim r.1 [ inl refused ↦ inl refused | inr m ↦ inr (m.0, m.1, first_none (looked e f) (asks_of call) m.2) ])
 
-pub missing_ends : (e : EngineLists) (f : Frame) (level : ℕ) (call : CallRequest) (pick : Option Pick) (end : End) → (pick ≡ None) × (end ≡ missing_end call) × IsUnanswered e f call → decision e f level call ≡ ends pick end
+missing_by : (e : EngineLists) (f : Frame) (level : ℕ) (call : CallRequest) (end : End) → EndsAlone e f level call end → unless_refused (refusal e level call) (decided (plan_of call) (pick_of e f (plan_of call))) ≡ ends None end
+missing_by e f level call end (inl refused) = ap (λ (o : Option End). unless_refused o (decided (plan_of call) (pick_of e f (plan_of call)))) refused
+missing_by e f level call end (inr m) =
+    ap (λ (o : Option End). unless_refused o (decided (plan_of call) (pick_of e f (plan_of call)))) m.0
+    ∙ ap (decided (plan_of call)) (none_first (looked e f) (asks_of call) m.2) ∙ ap (ends None) (sym m.1)
+
+pub missing_ends : (e : EngineLists) (f : Frame) (level : ℕ) (call : CallRequest) (pick : Option Pick) (end : End) → (pick ≡ None) × EndsAlone e f level call end → decision e f level call ≡ ends pick end
 unfolding decision
-missing_ends e f level call pick end r = ap (decided (plan_of call)) (none_first (looked e f) (asks_of call) r.2) ∙ (λ i. ends (sym r.0 i) (sym r.1 i))
+missing_ends e f level call pick end r = missing_by e f level call end r.1 ∙ (λ i. ends (sym r.0 i) end)
 
--- the pick that a node shows is the first ask's that is found, and the answer is its function's
-pub shows_first : {o : Objects} {w : World} {f : Frame} {level : ℕ} {call : CallRequest} {node : CallNode} (pick : Pick) → Runs o w f level call node → (seen node).pick ≡ Some pick → IsAnsweredFirst w.engine f call pick × ((seen node).end.whose ≡ Called)
-shows_first {w = w} {f = f} {level = level} {call = call} pick (ended {pick = p} {end = end} d s) h =
+-- what a node that was begun shows: its pick is the first ask's that is found, or it ends alone
+pub shows_first : {o : Objects} {w : World} {f : Frame} {level : ℕ} {call : CallRequest} {node : CallNode} {before after : Moment} {cut : Bool} (pick : Pick) → Runs o w f level call node before after cut → (seen node).pick ≡ Some pick → (refusal w.engine level call ≡ None) × IsAnsweredFirst w.engine f call pick
+shows_first pick (not_begun b s) h = let q : None ≡ Some pick = sym (ap (λ x. x.pick) s) ∙ h in absurd cc
+shows_first {w = w} {f = f} {level = level} {call = call} pick (ended {pick = p} {end = end} b d s) h =
     let none = (ends_missing w.engine f level call p end d).0 in
     let q : None ≡ Some pick = sym none ∙ sym (ap (λ x. x.pick) s) ∙ h in absurd cc
-shows_first {w = w} {f = f} {level = level} {call = call} pick (finished {plan = plan} {pick = p} d starts s) h =
+shows_first {w = w} {f = f} {level = level} {call = call} pick (finished {plan = plan} {pick = p} b d starts steps e s) h =
     let q : Some p ≡ Some pick = sym (ap (λ x. x.pick) s) ∙ h in
     let same : p ≡ pick = cc in
-    ((runs_first w.engine f level call plan pick (d ∙ ap (runs plan) same)).1, ap (λ x. x.end.whose) s)
+    let r = runs_first w.engine f level call plan pick (d ∙ ap (runs plan) same) in (r.0, r.2)
+shows_first {w = w} {f = f} {level = level} {call = call} pick (cut_short {plan = plan} {pick = p} b d starts steps r s) h =
+    let q : Some p ≡ Some pick = sym (ap (λ x. x.pick) s) ∙ h in
+    let same : p ≡ pick = cc in
+    let r = runs_first w.engine f level call plan pick (d ∙ ap (runs plan) same) in (r.0, r.2)
 
--- a node shows no pick only where no ask is found
-pub shows_missing : {o : Objects} {w : World} {f : Frame} {level : ℕ} {call : CallRequest} {node : CallNode} → Runs o w f level call node → (seen node).pick ≡ None → IsUnanswered w.engine f call × ((seen node).end ≡ missing_end call)
-shows_missing {w = w} {f = f} {level = level} {call = call} (ended {pick = p} {end = end} d s) h =
-    let r = ends_missing w.engine f level call p end d in
-    (r.2, ap (λ x. x.end) s ∙ r.1)
-shows_missing {w = w} {f = f} {level = level} {call = call} (finished {plan = plan} {pick = p} d starts s) h =
-    let q : Some p ≡ None = sym (ap (λ x. x.pick) s) ∙ h in absurd cc
+pub shows_missing : {o : Objects} {w : World} {f : Frame} {level : ℕ} {call : CallRequest} {node : CallNode} {before after : Moment} {cut : Bool} → Runs o w f level call node before after cut → (seen node).begun ≡ true → (seen node).pick ≡ None → EndsAlone w.engine f level call (seen node).end
+shows_missing (not_begun b s) begun h = let q : false ≡ true = sym (ap (λ x. x.begun) s) ∙ begun in absurd cc
+shows_missing {w = w} {f = f} {level = level} {call = call} (ended {pick = p} {end = end} b d s) begun h =
+    subst (EndsAlone w.engine f level call) (sym (ap (λ x. x.end) s)) (ends_missing w.engine f level call p end d).1
+shows_missing (finished {pick = p} b d starts steps e s) begun h = let q : Some p ≡ None = sym (ap (λ x. x.pick) s) ∙ h in absurd cc
+shows_missing (cut_short {pick = p} b d starts steps r s) begun h = let q : Some p ≡ None = sym (ap (λ x. x.pick) s) ∙ h in absurd cc
+
+-- a node shows a call that isn't begun exactly where the budget was spent before it, and the calls begun never get fewer
+pub shows_unbegun : {o : Objects} {w : World} {f : Frame} {level : ℕ} {call : CallRequest} {node : CallNode} {before after : Moment} {cut : Bool} → Runs o w f level call node before after cut → (seen node).begun ≡ false → (before.begun ≡ w.engine.limits.budget) × (after ≡ before) × (seen node ≡ unbegun_node call level)
+shows_unbegun (not_begun b s) h = (b, refl, s)
+shows_unbegun (ended b d s) h = let q : true ≡ false = sym (ap (λ x. x.begun) s) ∙ h in absurd cc
+shows_unbegun (finished b d starts steps e s) h = let q : true ≡ false = sym (ap (λ x. x.begun) s) ∙ h in absurd cc
+shows_unbegun (cut_short b d starts steps r s) h = let q : true ≡ false = sym (ap (λ x. x.begun) s) ∙ h in absurd cc

@@ -2,5 +2,6 @@ pub mod Registers
 pub mod HeldLaws
 pub mod Stepped
 pub mod Found
+pub mod Stack
 pub mod Lists
 pub mod FirstAnswered

@@ -1,5 +1,5 @@
 -- Which replies answer a list of commands.
-use Rattle.std.specs.Prelude.{◌≡◌, List, [], ◌∷◌, None, Some}
+use Rattle.std.specs.Prelude.{◌≡◌, Bool, List, [], ◌∷◌, None, Some}
 use Rattle.rhd_func.specs.declared.request.CallRequest.{CallRequest}
 use Rattle.rhd_module.specs.declared.fault.DeclFault.{DeclFault}
 use Rattle.rhd_session.specs.declared.command.Command.{Command}
@@ -7,7 +7,7 @@ use Rattle.rhd_session.specs.declared.command.Command.TheVariants as commands
 use Rattle.rhd_session.specs.declared.reply.Reply.{Reply}
 use Rattle.rhd_session.specs.declared.reply.Reply.TheVariants.{Done, Refused, Called}
 use Rattle.rhd_session.specs.Engine.{Frame}
-use Rattle.rhd_session.specs.World.{World, Objects}
+use Rattle.rhd_session.specs.World.{World, Objects, Moment}
 use Rattle.rhd_session.specs.Commands.{cause, change, Change}
 use Rattle.rhd_session.specs.Runs.{Runs}
 
@@ -21,20 +21,21 @@ pub data Applied (w : World) (f : Frame) (command : Command) : Reply → World �
       change w f command ≡ Some c →
       Applied w f command c.reply c.world c.frame
 
--- a call is answered by a node that runs at level 1
-abbrev pub CallReplied : Objects → World → Frame → CallRequest → Reply → Type 0
-CallReplied o w f request (Called node) = Runs o w f 1 request node
-CallReplied o w f request Done = ⊥
-CallReplied o w f request (Refused fault) = ⊥
+-- a call is answered by a tree that runs at level 1
+abbrev pub CallReplied : Objects → World → Frame → Moment → CallRequest → Reply → Moment → Type 0
+CallReplied o w f before request (Called node) after = (cut : Bool) × Runs o w f 1 request node before after cut
+CallReplied o w f before request Done after = ⊥
+CallReplied o w f before request (Refused fault) after = ⊥
 
 -- this reply answers the command
-abbrev pub Replied : Objects → World → Frame → Command → Reply → World → Frame → Type 0
-Replied o w f (commands.Call request) reply w2 f2 = CallReplied o w f request reply × (w2 ≡ w) × (f2 ≡ f)
-Replied o w f (commands.RegisterFn name id) reply w2 f2 = Applied w f (commands.RegisterFn name id) reply w2 f2
+abbrev pub Replied : Objects → World → Frame → Moment → Command → Reply → World → Frame → Moment → Type 0
+Replied o w f before (commands.Call request) reply w2 f2 after = CallReplied o w f before request reply after × (w2 ≡ w) × (f2 ≡ f)
+Replied o w f before (commands.RegisterFn name id) reply w2 f2 after = Applied w f (commands.RegisterFn name id) reply w2 f2 × (after ≡ before)
 
 -- these replies answer these commands, in order
-abbrev pub Answered : Objects → World → Frame → List Command → List Reply → World → Frame → Type 0
-Answered o w f [] [] w2 f2 = (w2 ≡ w) × (f2 ≡ f)
-Answered o w f [] (reply ∷ replies) w2 f2 = ⊥
-Answered o w f (command ∷ commands) [] w2 f2 = ⊥
-Answered o w f (command ∷ commands) (reply ∷ replies) w2 f2 = (w1 : World) × (f1 : Frame) × Replied o w f command reply w1 f1 × Answered o w1 f1 commands replies w2 f2
+abbrev pub Answered : Objects → World → Frame → Moment → List Command → List Reply → World → Frame → Moment → Type 0
+Answered o w f before [] [] w2 f2 after = (w2 ≡ w) × (f2 ≡ f) × (after ≡ before)
+Answered o w f before [] (reply ∷ replies) w2 f2 after = ⊥
+Answered o w f before (command ∷ commands) [] w2 f2 after = ⊥
+Answered o w f before (command ∷ commands) (reply ∷ replies) w2 f2 after =
+    (w1 : World) × (f1 : Frame) × (mid : Moment) × Replied o w f before command reply w1 f1 mid × Answered o w1 f1 mid commands replies w2 f2 after

@@ -8,6 +8,10 @@ use Rattle.rhd_session.specs.Plans.{Plan}
 abbrev pub context : Frame → ℕ → Plan → NativeCallContext
 context f level plan = record { name = plan.name; source = None; call_source = f.source; pos = plan.pos; level = level; tag = f.tag }
 
+-- the frame of the calls that a function asks for
+abbrev pub entered : Frame → ℕ → Frame
+entered f level = record f { level = level }
+
 -- a native gets it exactly where its function has a context
 abbrev pub context_if : Bool → NativeCallContext → Option NativeCallContext
 context_if has ctx = if has then Some ctx else None

@@ -1,5 +1,5 @@
 -- Which function answers a call, said without a search.
-use Rattle.std.specs.Prelude.{List}
+use Rattle.std.specs.Prelude.{◌≡◌, ◌⊎◌, ℕ, List, None, Some}
 use Rattle.rhd_value.specs.Firsts.{IsFirst, NoneHas}
 use Rattle.rhd_func.specs.declared.request.CallRequest.{CallRequest}
 use Rattle.rhd_func.specs.Shapes.{all_args}
@@ -11,6 +11,7 @@ use Rattle.rhd_session.specs.Asks.{Asked, asks, looked}
 use Rattle.rhd_session.specs.NotFound.{not_found}
 use Rattle.rhd_session.specs.Plans.{plan_of}
 use Rattle.rhd_session.specs.Ends.{End, failed}
+use Rattle.rhd_session.specs.Decisions.{refusal}
 
 -- what a call asks for, in order
 abbrev pub asks_of : CallRequest → List Asked
@@ -31,3 +32,7 @@ IsOfFirstPlace e f key pick = IsFirst (pick_at key) pick (searched e f)
 -- how a call ends that isn't found
 abbrev pub missing_end : CallRequest → End
 missing_end call = failed (plan_of call).given (not_found (plan_of call).pos (plan_of call).name (all_args (plan_of call).shape))
+
+-- it is refused so, or nothing refuses it and no ask is found
+abbrev pub EndsAlone : EngineLists → Frame → ℕ → CallRequest → End → Type 0
+EndsAlone e f level call end = (refusal e level call ≡ Some end) ⊎ ((refusal e level call ≡ None) × (end ≡ missing_end call) × IsUnanswered e f call)

@@ -9,8 +9,11 @@ pub mod Received
 pub mod Ends
 pub mod Decisions
 pub mod Entered
+pub mod Nodes
 pub mod Seen
+pub mod Steps
 pub mod Runs
+pub mod Waits
 pub mod Commands
 pub mod Answered
 pub mod Start

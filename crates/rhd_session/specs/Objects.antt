@@ -1,16 +1,24 @@
--- What the natives of a table say of themselves and may do, by the relation of their trait. A box is a vtable and a value.
+-- What the natives of a table say of themselves and may do, by the relations of their trait. A box is a vtable and a value.
 use Rattle.std.specs.Prelude.{List, Option, map}
 use Rattle.rhd_value.specs.Tree.{Tree}
 use Rattle.rhd_func.specs.declared.natives.Natives.{Natives}
+use Rattle.rhd_func.specs.declared.request.Carry.{Carry}
+use Rattle.rhd_func.specs.declared.request.CallDone.{CallDone}
 use Rattle.rhd_func.specs.declared.request.NativeStep.{NativeStep}
 use Rattle.rhd_func.specs.declared.request.NativeCallContext.{NativeCallContext}
-use Rattle.rhd_func.specs.Natives.{NativeInfo, StartAllowed}
+use Rattle.rhd_func.specs.Natives.{NativeInfo, StartAllowed, ResumeAllowed}
 use Rattle.rhd_session.specs.World.{Objects}
 
 -- what the natives of a table say of themselves
 unfoldable pub infos_of : {X : Type 0} {F : X → Type 0} → ((x : X) × F x → NativeInfo) → Natives X F → List NativeInfo
 infos_of info natives = map (λ b. info (b.vtable, b.value)) natives.items.items
 
--- a native's relation holds where its number is held
-unfoldable pub objects_of : {X : Type 0} {F : X → Type 0} → ((x : X) × F x → Option NativeCallContext → Option Tree → List Tree → NativeStep → Type 0) → Natives X F → Objects
-objects_of allows_call natives = record { native_starts = StartAllowed (λ b. allows_call (b.vtable, b.value)) natives.items.items }
+-- a native's relations hold where its number is held
+unfoldable pub objects_of : {X : Type 0} {F : X → Type 0} →
+    ((x : X) × F x → Option NativeCallContext → Option Tree → List Tree → NativeStep → Type 0) →
+    ((x : X) × F x → Option NativeCallContext → Carry → CallDone → NativeStep → Type 0) →
+    Natives X F → Objects
+objects_of allows_call allows_resume natives = record {
+  native_starts = StartAllowed (λ b. allows_call (b.vtable, b.value)) natives.items.items;
+  native_resumes = ResumeAllowed (λ b. allows_resume (b.vtable, b.value)) natives.items.items;
+}

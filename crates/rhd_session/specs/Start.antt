@@ -5,11 +5,16 @@ use Rattle.rhd_value.specs.Kinds.{plain}
 use Rattle.rhd_func.specs.Natives.{NativeInfo}
 use Rattle.rhd_module.specs.Tree.{empty_module}
 use Rattle.rhd_session.specs.Engine.{Frame}
-use Rattle.rhd_session.specs.World.{World}
+use Rattle.rhd_session.specs.World.{World, Moment, moment}
+use Rattle.rhd_session.specs.declared.limits.Limits.{Limits}
 
 -- one empty global module
-abbrev pub start_world : List NativeInfo → World
-start_world natives = record { engine = record { globals = empty_module ∷ []; natives = natives } }
+abbrev pub start_world : List NativeInfo → Limits → World
+start_world natives limits = record { engine = record { globals = empty_module ∷ []; natives = natives; limits = limits } }
+
+-- no call is begun
+abbrev pub start_moment : Moment
+start_moment = moment 0
 
 -- no source, no open call, the tag unit
 abbrev pub start_frame : Frame

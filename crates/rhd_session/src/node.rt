@@ -1,8 +1,17 @@
-//! What a call led to.
+//! The tree of a call.
+
+ghost use Rattle.std.specs.Prelude.{◌≡◌, ◌++◌, ◌∷◌, [], if◌then◌else◌, is_ok, None, Some, IfOk};
+ghost use Rattle.rhd_session.specs.Ends.{failed};
+ghost use Rattle.rhd_func.specs.Shapes.{given};
+ghost use Rattle.rhd_session.specs.Nodes.{nodes_in};
+ghost use Rattle.rhd_session.specs.Seen.{seen, begun_node, unbegun_node, done_of};
 
 use crate::pick::Pick;
-use rhd_func::CallRequest;
-use rhd_value::{Dynamic, EvalAltResult};
+use crate::plan::position_of;
+use rhd_func::{CallDone, CallRequest, Carry};
+use rhd_value::{Dynamic, EvalAltResult, OutOfMemory};
+use std::alloc::Global;
+use std::marker::Model;
 
 /// Whose the answer or the fault of a call is.
 #[derive(Clone, Copy, PartialEq, Eq, Debug)]
@@ -13,16 +22,142 @@ pub enum Whose {
     Called,
 }
 
-/// A call with its answer.
+/// What a function kept while it waited, for each call that it asked for, in order.
+#[derive(Drop)]
+pub struct Carries {
+    items: Vec<Carry>,
+}
+
+impl Model for Carries {
+    ghost use Rattle.std.specs.Prelude.{List};
+    ghost use Rattle.std.specs.Coded.{coded_list};
+    ghost use Rattle.rhd_func.specs.declared.request.Carry.{Carry};
+    ghost use Rattle.rhd_func.specs.contracts.request.Carry as carry;
+
+    ghost Value = { List Carry };
+
+    ghost coded = { coded_list carry.the_row.coded };
+
+    ghost view = { λ a. a.items.items };
+}
+
+impl Carries {
+    pub fn new(alloc: Global) -> Carries
+        ensures { result ≡ [] }
+    {
+        Carries {
+            items: Vec::new(alloc),
+        }
+    }
+
+    /// Puts a carry last.
+    pub fn push(&mut self, carry: Carry) -> Result<(), OutOfMemory>
+        ensures { self.new ≡ (if is_ok result then self.old ++ carry ∷ [] else self.old) }
+    {
+        self.items.push(carry)?;
+        Ok(())
+    }
+
+    pub fn as_slice(&self) -> &[Carry]
+        ensures { result.now ≡ self.now }
+    {
+        self.items.as_slice()
+    }
+}
+
+/// A call with its answer, and with the calls that its function asked for.
+#[cycle(node)]
 #[derive(Drop)]
 pub struct CallNode {
     pub call: CallRequest,
     /// How many calls were open, this one included.
     pub level: u32,
+    /// False where the budget was spent before it.
+    pub begun: bool,
     /// The function that was picked, if one was.
     pub pick: Option<Pick>,
+    /// One for each child.
+    pub carries: Carries,
+    pub children: Nodes,
     pub answer: Result<Dynamic, EvalAltResult>,
     pub whose: Whose,
     /// The first argument by reference, as it is after the call.
     pub first_after: Option<Dynamic>,
+}
+
+/// Nodes in the order in which they were asked for.
+#[cycle(node)]
+#[derive(Drop)]
+pub struct Nodes {
+    pub items: Vec<CallNode>,
+}
+
+impl Nodes {
+    pub fn new(alloc: Global) -> Nodes
+        ensures { nodes_in result ≡ [] }
+    {
+        Nodes {
+            items: Vec::new(alloc),
+        }
+    }
+
+    /// Puts a node last.
+    pub fn push(&mut self, node: CallNode) -> Result<(), OutOfMemory>
+        ensures { nodes_in self.new ≡ (if is_ok result then nodes_in self.old ++ node ∷ [] else nodes_in self.old) }
+    {
+        self.items.push(node)?;
+        Ok(())
+    }
+}
+
+impl CallNode {
+    /// A call that isn't begun, as the budget is spent.
+    pub fn unbegun(alloc: Global, call: CallRequest, level: u32) -> CallNode
+        ensures { seen result ≡ unbegun_node call level }
+    {
+        let pos = position_of(&call);
+        CallNode {
+            call,
+            level,
+            begun: false,
+            pick: None,
+            carries: Carries::new(alloc),
+            children: Nodes::new(alloc),
+            answer: Err(EvalAltResult::ErrorTooManyOperations(pos)),
+            whose: Whose::Call,
+            first_after: None,
+        }
+    }
+
+    /// A call for which nothing runs.
+    pub fn failed(alloc: Global, call: CallRequest, level: u32, fault: EvalAltResult) -> CallNode
+        ensures { seen result ≡ begun_node call level None [] [] (failed (given call) fault) }
+    {
+        CallNode {
+            call,
+            level,
+            begun: true,
+            pick: None,
+            carries: Carries::new(alloc),
+            children: Nodes::new(alloc),
+            answer: Err(fault),
+            whose: Whose::Call,
+            first_after: None,
+        }
+    }
+
+    /// What the function that asked for the call is told.
+    pub fn done(&self, alloc: Global) -> Result<CallDone, OutOfMemory>
+        ensures { IfOk result (λ done. done ≡ done_of self.now) }
+    {
+        let answer = match &self.answer {
+            Ok(value) => Ok(value.dup(alloc)?),
+            Err(fault) => Err(fault.dup(alloc)?),
+        };
+        let first = match &self.first_after {
+            Some(value) => Some(value.dup(alloc)?),
+            None => None,
+        };
+        Ok(CallDone { answer, first })
+    }
 }

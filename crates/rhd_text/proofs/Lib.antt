@@ -9,3 +9,4 @@ pub mod RowLaws
 pub mod SessionLaws
 pub mod PrintingWeights
 pub mod PrintingEntries
+pub mod PrintingTrees

@@ -1,10 +1,10 @@
 -- How a reply is written: a line that ends with a line feed.
-use Rattle.std.specs.Prelude.{ℕ, List, [], ◌∷◌, ◌++◌, Option, Some, None, Result, Ok, Err, codes}
+use Rattle.std.specs.Prelude.{ℕ, ◌*◌, ◌-◌, replicate, List, [], ◌∷◌, ◌++◌, Option, Some, None, Result, Ok, Err, codes}
 use Rattle.std.specs.List.{flat_map}
 use Rattle.std.specs.Fmt.{decimal}
 use Rattle.rhd_value.specs.Tree.{Tree}
 use Rattle.rhd_value.specs.declared.fault.EvalAltResult.{EvalAltResult}
-use Rattle.rhd_value.specs.declared.fault.EvalAltResult.TheVariants.{ErrorFunctionNotFound, ErrorRuntime}
+use Rattle.rhd_value.specs.declared.fault.EvalAltResult.TheVariants.{ErrorFunctionNotFound, ErrorTooManyOperations, ErrorStackOverflow, ErrorRuntime}
 use Rattle.rhd_func.specs.Funcs.{native_of}
 use Rattle.rhd_func.specs.declared.request.CallRequest.{CallRequest}
 use Rattle.rhd_func.specs.declared.request.CallRequest.TheVariants.{Named}
@@ -15,7 +15,8 @@ use Rattle.rhd_session.specs.declared.pick.Layer.TheVariants.{Global}
 use Rattle.rhd_session.specs.declared.pick.Pick.{Pick}
 use Rattle.rhd_session.specs.declared.node.Whose.{Whose}
 use Rattle.rhd_session.specs.declared.node.Whose.TheVariants as whose
-use Rattle.rhd_session.specs.declared.node.CallNode.{CallNode}
+use Rattle.rhd_session.specs.declared.node.CallNode.{CallNode, CallNode'}
+use Rattle.rhd_session.specs.declared.node.Nodes.{Nodes, Nodes', Row_of-CallNode, end_of-CallNode, more_of-CallNode}
 use Rattle.rhd_session.specs.declared.reply.Reply.{Reply}
 use Rattle.rhd_session.specs.declared.reply.Reply.TheVariants.{Done, Refused, Called}
 use Rattle.rhd_text.specs.PrintedTexts.{quoted}
@@ -24,6 +25,8 @@ use Rattle.rhd_text.specs.PrintedValues.{spelled}
 -- the number of a fault and its parts
 unfoldable pub spelled_fault : EvalAltResult → List ℕ
 spelled_fault (ErrorFunctionNotFound text pos) = codes "1 " ++ quoted text
+spelled_fault (ErrorTooManyOperations pos) = codes "9"
+spelled_fault (ErrorStackOverflow pos) = codes "10"
 spelled_fault (ErrorRuntime text pos) = codes "15 " ++ quoted text
 
 -- the number of a refusal and its parts
@@ -60,14 +63,31 @@ after_text None = []
 after_text (Some t) = codes " & " ++ spelled t
 
 -- a call with its answer
-unfoldable pub node_line : CallNode → List ℕ
-node_line node = label node.call ++ codes " " ++ pick_text node.pick ++ codes " " ++ whose_text node.whose ++ codes " " ++ result_text node.answer ++ after_text node.first_after
+unfoldable pub call_line : CallRequest → Option Pick → Whose → Result Tree EvalAltResult → Option Tree → List ℕ
+call_line call pick whose answer after = label call ++ codes " " ++ pick_text pick ++ codes " " ++ whose_text whose ++ codes " " ++ result_text answer ++ after_text after
+
+-- two spaces for each call above it
+abbrev pub indent : ℕ → List ℕ
+indent level = replicate (2 * (level - 1)) 32
+
+abbrev mutual
+  -- a call on a line, and the calls that it led to on the lines after it
+  pub tree_text : CallNode → List ℕ
+  tree_text (CallNode' call level begun pick carries children answer whose after) =
+      indent level ++ call_line call pick whose answer after ++ 10 ∷ [] ++ nodes_text children
+
+  pub nodes_text : Nodes → List ℕ
+  nodes_text (Nodes' shape row) = row_text row
+
+  pub row_text : {m : _} → Row_of-CallNode m → List ℕ
+  row_text end_of-CallNode = []
+  row_text (more_of-CallNode node rest) = tree_text node ++ row_text rest
 
 -- the line of a reply
 unfoldable pub printed : Reply → List ℕ
 printed Done = codes "ok" ++ 10 ∷ []
 printed (Refused fault) = codes "refused " ++ spelled_refusal fault ++ 10 ∷ []
-printed (Called node) = node_line node ++ 10 ∷ []
+printed (Called node) = tree_text node
 
 -- the lines of replies
 abbrev pub all_printed : List Reply → List ℕ

@@ -8,7 +8,7 @@ mod nodes;
 mod quotes;
 mod values;
 
-use nodes::push_node_line;
+use nodes::push_tree;
 use quotes::push_number;
 use rhd_module::DeclFault;
 use rhd_session::Reply;
@@ -49,14 +49,14 @@ fn lines_of(alloc: Global, reply: &Reply) -> Result<Vec<u8>, OutOfMemory>
 {
     let mut lines = Vec::new(alloc);
     match reply {
-        Reply::Done => lines.extend_from_slice(b"ok")?,
+        Reply::Done => lines.extend_from_slice(b"ok\n")?,
         Reply::Refused(fault) => {
             lines.extend_from_slice(b"refused ")?;
             push_refusal(alloc, fault, &mut lines)?;
+            lines.push(b'\n')?;
         }
-        Reply::Called(node) => push_node_line(alloc, node, &mut lines)?,
+        Reply::Called(node) => push_tree(alloc, node, &mut lines)?,
     }
-    lines.push(b'\n')?;
     Ok(lines)
 }
 

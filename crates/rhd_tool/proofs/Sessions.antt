@@ -1,5 +1,5 @@
 -- The replies of a new session.
-use Rattle.std.proofs.Common.{◌≡◌, ℕ, List, [], IfOk, length, take, refl, sym, ap, subst, ◌∙◌}
+use Rattle.std.proofs.Common.{◌≡◌, ◌≤◌, ℕ, List, [], IfOk, length, take, refl, sym, ap, subst, ◌∙◌}
 use Rattle.std.proofs.Math.Seq.{take-length}
 use Rattle.std.specs.Prelude.{Result, Ok, Err, IfErr}
 use Rattle.std.proofs.lemmas.Result.{IfOk-weaker}
@@ -8,25 +8,25 @@ use Rattle.rhd_session.specs.declared.command.Command.{Command}
 use Rattle.rhd_session.specs.declared.reply.Reply.{Reply}
 use Rattle.rhd_session.specs.declared.reply.Stopped.{Stopped}
 use Rattle.rhd_session.specs.Engine.{Frame}
-use Rattle.rhd_session.specs.World.{World, Objects}
-use Rattle.rhd_session.specs.Start.{start_world, start_frame}
+use Rattle.rhd_session.specs.World.{World, Objects, Moment}
+use Rattle.rhd_session.specs.Start.{start_world, start_frame, start_moment}
 use Rattle.rhd_session.specs.Answered.{Answered}
-use Rattle.rhd_tool.specs.Ends.{IsAnswered}
+use Rattle.rhd_tool.specs.Ends.{IsAnswered, default_limits}
 
 -- no command is answered by no reply
 pub none_answered : (o : Objects) (natives : List NativeInfo) (commands : List Command) (replies : List Reply) → replies ≡ [] → IsAnswered o natives (take (length replies) commands) replies
-none_answered o natives commands replies e = rw e (record { world = start_world natives; frame = start_frame; answered = (refl, refl) })
+none_answered o natives commands replies e = rw e (record { world = start_world natives default_limits; frame = start_frame; after = start_moment; answered = (refl, refl, refl) })
 
-pub all_answered : {E : Type 0} (o : Objects) (natives : List NativeInfo) (commands : List Command) (r : Result (List Reply) E) (world : World) (frame : Frame)
-    → IfOk r (λ replies. Answered o (start_world natives) start_frame commands replies world frame) → IfOk r (IsAnswered o natives commands)
-all_answered o natives commands r world frame a =
-    IfOk-weaker r (λ replies. Answered o (start_world natives) start_frame commands replies world frame) (IsAnswered o natives commands) (λ replies h. record { world = world; frame = frame; answered = h }) a
+pub all_answered : {E : Type 0} (o : Objects) (natives : List NativeInfo) (commands : List Command) (r : Result (List Reply) E) (world : World) (frame : Frame) (after : Moment)
+    → IfOk r (λ replies. Answered o (start_world natives default_limits) start_frame start_moment commands replies world frame after) → IfOk r (IsAnswered o natives commands)
+all_answered o natives commands r world frame after a =
+    IfOk-weaker r (λ replies. Answered o (start_world natives default_limits) start_frame start_moment commands replies world frame after) (IsAnswered o natives commands) (λ replies h. record { world = world; frame = frame; after = after; answered = h }) a
 
-pub some_answered : {T : Type 0} (o : Objects) (natives : List NativeInfo) (commands : List Command) (r : Result T Stopped) (world : World) (frame : Frame)
-    → IfErr r (λ s. Answered o (start_world natives) start_frame (take (length s.replies) commands) s.replies world frame)
+pub some_answered : {T : Type 0} (o : Objects) (natives : List NativeInfo) (commands : List Command) (r : Result T Stopped) (world : World) (frame : Frame) (begun : ℕ)
+    → IfErr r (λ s. (after : Moment) × Answered o (start_world natives default_limits) start_frame start_moment (take (length s.replies) commands) s.replies world frame after × (after.begun ≤ begun))
     → IfErr r (λ s. IsAnswered o natives (take (length s.replies) commands) s.replies)
-some_answered o natives commands (Ok x) world frame a = tt
-some_answered o natives commands (Err s) world frame a = record { world = world; frame = frame; answered = a }
+some_answered o natives commands (Ok x) world frame begun a = tt
+some_answered o natives commands (Err s) world frame begun a = record { world = world; frame = frame; after = a.0; answered = a.1 }
 
 -- all replies are as many as the commands
 pub front_answered : (o : Objects) (natives : List NativeInfo) (commands : List Command) (replies now : List Reply) → now ≡ replies → length replies ≡ length commands → IsAnswered o natives commands replies → IsAnswered o natives (take (length now) commands) now

@@ -7,8 +7,9 @@ use Rattle.rhd_func.specs.Natives.{NativeInfo}
 use Rattle.rhd_session.specs.declared.command.Command.{Command}
 use Rattle.rhd_session.specs.declared.reply.Reply.{Reply}
 use Rattle.rhd_session.specs.Engine.{Frame}
-use Rattle.rhd_session.specs.World.{World, Objects}
-use Rattle.rhd_session.specs.Start.{start_world, start_frame}
+use Rattle.rhd_session.specs.World.{World, Objects, Moment}
+use Rattle.rhd_session.specs.Start.{start_world, start_frame, start_moment}
+use Rattle.rhd_session.specs.declared.limits.Limits.{Limits}
 use Rattle.rhd_session.specs.Answered.{Answered}
 use Rattle.rhd_text.specs.declared.session.SessionText.{SessionText}
 use Rattle.rhd_text.specs.Session.{IsSession, IsFirstBad}
@@ -35,11 +36,16 @@ pub record WasBad (held : ℕ) (old new : Option (List ℕ)) (line : ℕ) : Type
   pub whole : CameWhole most_bytes old new bytes
   pub first : IsFirstBad held line (lines bytes)
 
+-- the limits where a text sets none
+abbrev pub default_limits : Limits
+default_limits = record { array = 65536; map = 65536; text = 1048576; level = 64; budget = 1000000 }
+
 -- the replies answer the commands, one after the other, in a new session
 pub record IsAnswered (o : Objects) (natives : List NativeInfo) (commands : List Command) (replies : List Reply) : Type 0 where
   pub world : World
   pub frame : Frame
-  pub answered : Answered o (start_world natives) start_frame commands replies world frame
+  pub after : Moment
+  pub answered : Answered o (start_world natives default_limits) start_frame start_moment commands replies world frame after
 
 -- these bytes are a session text, and the replies answer its commands
 pub record Ran (o : Objects) (natives : List NativeInfo) (held : ℕ) (bytes : List ℕ) (replies : List Reply) : Type 0 where

@@ -8,6 +8,7 @@ use Rattle.rhd_value.specs.declared.tag.TypeTag.{TypeTag}
 use Rattle.rhd_value.specs.declared.tag.TypeTag.TheVariants as tags
 use Rattle.rhd_value.specs.declared.fault.EvalAltResult.TheVariants.{ErrorRuntime}
 use Rattle.rhd_func.specs.Natives.{NativeInfo}
+use Rattle.rhd_func.specs.declared.request.Carry.{Carry}
 use Rattle.rhd_func.specs.declared.request.NativeStep.{NativeStep}
 use Rattle.rhd_func.specs.declared.request.NativeStep.TheVariants.{Done, Failed}
 
@@ -48,3 +49,7 @@ kit_step number first args =
     if not (length (arguments first args) == length (kit_info number).types) then own_fault (codes "wrong number of arguments") first
     else if not (all_fit (kit_info number).types (arguments first args)) then own_fault (codes "not built") first
     else Done (kit_answer number) first
+
+-- none of them asks for a call, so it goes on from no carry
+abbrev pub kit_next : Carry → NativeStep
+kit_next carry = own_fault (codes "bad carry") carry.first

@@ -4,7 +4,7 @@ ghost use Rattle.std.specs.Prelude.{◌≡◌, ◌<◌, ◌==◌, false, true, I
 ghost use Rattle.std.specs.Option.{option_copied};
 ghost use Rattle.rhd_tool.specs.Kit.{kit_info, kit_step, kit_answer, arguments, all_fit, own_fault};
 
-use rhd_func::{NativeCallContext, NativeStep, PluginFunc};
+use rhd_func::{CallDone, Carry, NativeCallContext, NativeStep, PluginFunc};
 use rhd_value::{Dynamic, EvalAltResult, OutOfMemory, Position, Text, TypeTag, Value, Values};
 use std::alloc::Global;
 
@@ -118,11 +118,13 @@ fn own_fault(alloc: Global, text: &str, first: Option<Dynamic>) -> Result<Native
 
 impl PluginFunc for KitFn {
     ghost use Rattle.std.specs.Prelude.{◌≡◌};
-    ghost use Rattle.rhd_tool.specs.Kit.{kit_info, kit_step};
+    ghost use Rattle.rhd_tool.specs.Kit.{kit_info, kit_step, kit_next};
 
     ghost info = { λ it. kit_info it.number };
 
     ghost allows_call = { λ it ctx first args step. step ≡ kit_step it.number first args };
+
+    ghost allows_resume = { λ it ctx carry done step. step ≡ kit_next carry };
 
     fn call(
         &self,
@@ -142,6 +144,16 @@ impl PluginFunc for KitFn {
             answer: answer(self.number),
             first,
         })
+    }
+
+    fn resume(
+        &self,
+        alloc: Global,
+        _ctx: Option<&NativeCallContext>,
+        carry: Carry,
+        _done: CallDone,
+    ) -> Result<NativeStep, OutOfMemory> {
+        own_fault(alloc, "bad carry", carry.first)
     }
 
     fn param_types(&self) -> &[TypeTag] {

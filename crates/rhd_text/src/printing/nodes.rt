@@ -1,12 +1,13 @@
 //! The line of a call.
 
 ghost use Rattle.std.specs.Prelude.{◌≡◌, ◌++◌, OnOk};
-ghost use Rattle.rhd_text.specs.PrintedReplies.{spelled_fault, label, layer_text, pick_text, whose_text, result_text, after_text, node_line};
+ghost use Rattle.rhd_text.specs.PrintedReplies.{spelled_fault, label, layer_text, pick_text, whose_text, result_text, after_text, call_line, indent, tree_text, nodes_text};
+ghost use Rattle.rhd_session.specs.declared.node.CallNode.{out-CallNode};
 
 use super::quotes::{push_number, push_quoted};
 use super::values::push_value;
 use rhd_func::CallRequest;
-use rhd_session::{CallNode, Layer, Pick, Whose};
+use rhd_session::{CallNode, Layer, Nodes, Pick, Whose};
 use rhd_value::{Dynamic, EvalAltResult, OutOfMemory};
 use std::alloc::Global;
 
@@ -20,6 +21,8 @@ fn push_fault(fault: &EvalAltResult, out: &mut Vec<u8>) -> Result<(), OutOfMemor
             out.extend_from_slice(b"1 ")?;
             push_quoted(text.as_str(), out)
         }
+        EvalAltResult::ErrorTooManyOperations(_) => Ok(out.extend_from_slice(b"9")?),
+        EvalAltResult::ErrorStackOverflow(_) => Ok(out.extend_from_slice(b"10")?),
         EvalAltResult::ErrorRuntime(text, _) => {
             out.extend_from_slice(b"15 ")?;
             push_quoted(text.as_str(), out)
@@ -104,9 +107,9 @@ fn push_after(alloc: Global, after: &Option<Dynamic>, out: &mut Vec<u8>) -> Resu
 }
 
 /// A call with its answer, without the end of the line.
-#[tactic(auto, unfolding(crate::specs::PrintedReplies::node_line))]
-pub fn push_node_line(alloc: Global, node: &CallNode, out: &mut Vec<u8>) -> Result<(), OutOfMemory>
-    ensures { OnOk result (out.new.items ≡ out.old.items ++ node_line node.now) }
+#[tactic(auto, unfolding(crate::specs::PrintedReplies::call_line))]
+fn push_call_line(alloc: Global, node: &CallNode, out: &mut Vec<u8>) -> Result<(), OutOfMemory>
+    ensures { OnOk result (out.new.items ≡ out.old.items ++ call_line (out-CallNode node.now).call (out-CallNode node.now).pick (out-CallNode node.now).whose (out-CallNode node.now).answer (out-CallNode node.now).first_after) }
 {
     push_label(&node.call, out)?;
     out.extend_from_slice(b" ")?;
@@ -116,4 +119,33 @@ pub fn push_node_line(alloc: Global, node: &CallNode, out: &mut Vec<u8>) -> Resu
     out.extend_from_slice(b" ")?;
     push_result(alloc, &node.answer, out)?;
     push_after(alloc, &node.first_after, out)
+}
+
+/// Two spaces for each call above one of this level.
+fn push_indent(level: u32, out: &mut Vec<u8>) -> Result<(), OutOfMemory>
+    ensures { OnOk result (out.new.items ≡ out.old.items ++ indent level) }
+{
+    let spaces = 2 * (level as usize).saturating_sub(1);
+    Ok(out.resize(out.len() + spaces, b' ')?)
+}
+
+/// A call on a line, and the calls that it led to on the lines after it.
+#[cycle(trees)]
+pub fn push_tree(alloc: Global, node: &CallNode, out: &mut Vec<u8>) -> Result<(), OutOfMemory>
+    ensures { OnOk result (out.new.items ≡ out.old.items ++ tree_text node.now) }
+{
+    push_indent(node.level, out)?;
+    push_call_line(alloc, node, out)?;
+    out.push(b'\n')?;
+    push_trees(alloc, &node.children, out)
+}
+
+#[cycle(trees)]
+fn push_trees(alloc: Global, nodes: &Nodes, out: &mut Vec<u8>) -> Result<(), OutOfMemory>
+    ensures { OnOk result (out.new.items ≡ out.old.items ++ nodes_text nodes.now) }
+{
+    for node in nodes.items.as_slice() {
+        push_tree(alloc, node, out)?;
+    }
+    Ok(())
 }

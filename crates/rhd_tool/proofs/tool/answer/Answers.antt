@@ -6,10 +6,10 @@ returns-in_default-clause-some g c = none_answered _ _ c.args.commands.now c.new
 
 pub returns-clause-all : goal.returns-clause-all
 returns-clause-all g c =
-    let run = simp (c.in-Ok.ensures.natives, c.in-Ok.ensures.world) at c.run.ensures.answered in
-    all_answered _ _ c.args.commands.now c.run.result _ _ run
+    let run = simp (c.in-Ok.ensures.natives, c.in-Ok.ensures.world, c.in-Ok.ensures.moment) at c.run.ensures.answered in
+    all_answered _ _ c.args.commands.now c.run.result _ _ _ run
 
 pub returns-clause-some : goal.returns-clause-some
 returns-clause-some g c =
-    let run = simp (c.in-Ok.ensures.natives, c.in-Ok.ensures.world) at c.run.ensures.stopped in
-    some_answered _ _ c.args.commands.now c.run.result _ _ run
+    let run = simp (c.in-Ok.ensures.natives, c.in-Ok.ensures.world, c.in-Ok.ensures.moment) at c.run.ensures.stopped in
+    some_answered _ _ c.args.commands.now c.run.result _ _ _ run

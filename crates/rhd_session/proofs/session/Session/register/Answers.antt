@@ -14,7 +14,7 @@ returns-in_default-clause-applied g c =
 pub invariant_of-self : goal.invariant_of-self
 invariant_of-self g c =
     let below = rw c.in-Some.is at c.in_ok-key.ensures.held in
-    record { held = stays_either c.set_fn.result (length c.args.self.now.natives.items.items) c.in-Some.key c.in-Some.declaration c.args.self.now.global c.set_fn.new.self c.set_fn.ensures.ok c.set_fn.ensures.err below c.args.self.now.held }
+    record { held = stays_either c.set_fn.result (length c.args.self.now.natives.items.items) c.in-Some.key c.in-Some.declaration c.args.self.now.global c.set_fn.new.self c.set_fn.ensures.ok c.set_fn.ensures.err below c.args.self.now.held; limited = c.args.self.now.limited; within = c.args.self.now.within }
 
 pub returns-in_err-set_fn-clause-failed : goal.returns-in_err-set_fn-clause-failed
 unfolding world_of

@@ -5,11 +5,11 @@ use Rattle.rhd_session.specs.Plans.{plan_of}
 use Rattle.rhd_session.specs.Received.{received}
 use Rattle.rhd_session.specs.Runs.{received_by}
 use Rattle.rhd_session.proofs.Stepped.{starts_on}
-use Rattle.rhd_session.proofs.session.Session.step_of.Goals as goal
+use Rattle.rhd_session.proofs.session.Session.first_step.Goals as goal
 
 pub returns : goal.returns
 returns g c =
-    let plan = plan_of c.args.request.now in
+    let plan = plan_of c.args.call.now in
     let first = c.in_ok-received.ensures.first ∙ (λ i. (received (c.is_method.ensures i) (c.shape_of.ensures i)).first) in
     let args = c.in_ok-received.ensures.args ∙ (λ i. (received (c.is_method.ensures i) (c.shape_of.ensures i)).args) in
     starts_on _ c.start.result c.args.pick.now.func c.in_ok-ctx.ctx (context start_frame c.args.level plan) (record { first = c.in_ok-received.received.first; args = c.in_ok-received.received.args }) (received_by plan c.args.pick.now)

@@ -1,0 +1,6 @@
+use Rattle.std.proofs.Common.{rules}
+use Rattle.rhd_func.proofs.Held.{resume_held}
+use Rattle.rhd_func.proofs.natives.Natives.resume.Goals as goal
+
+pub returns : goal.returns
+returns g c = search (rules, resume_held)

@@ -1,0 +1,27 @@
+//! How much a session allows.
+
+/// Limits of a session. Sizes are numbers of elements, entries and bytes.
+#[derive(Clone, Copy, PartialEq, Eq, Debug)]
+pub struct Limits {
+    /// The largest array that a call may answer.
+    pub array: u32,
+    /// The largest object map.
+    pub map: u32,
+    /// The longest text.
+    pub text: u32,
+    /// How many calls may be open at once.
+    pub level: u32,
+    /// How many calls may be begun in all.
+    pub budget: u64,
+}
+
+impl Limits {
+    /// The limits where none are set.
+    pub const DEFAULT: Limits = Limits {
+        array: 65_536,
+        map: 65_536,
+        text: 1_048_576,
+        level: 64,
+        budget: 1_000_000,
+    };
+}
