@@ -11,6 +11,4 @@ pub use access::{FnAccess, FnNamespace};
 pub use func::RhaiFunc;
 pub use native::PluginFunc;
 pub use natives::Natives;
-pub use request::{
-    CallDone, CallRequest, CallShape, Carry, NativeCallContext, NativeStep,
-};
+pub use request::{CallDone, CallRequest, CallShape, Carry, NativeCallContext, NativeStep};

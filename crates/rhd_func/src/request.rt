@@ -102,7 +102,10 @@ pub enum NativeStep {
         first: Option<Dynamic>,
     },
     /// It asks for a call, and goes on with the carry when that is answered.
-    Ask { request: CallRequest, carry: Carry },
+    Ask {
+        request: CallRequest,
+        carry: Carry,
+    },
 }
 
 /// What a native may know of the call.

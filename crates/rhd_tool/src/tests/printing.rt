@@ -3,7 +3,7 @@
 use super::{pointer, same_bytes, text_of};
 use rhd_func::{CallRequest, CallShape, RhaiFunc};
 use rhd_module::DeclFault;
-use rhd_session::{CallNode, Layer, Pick, Replies, Reply, Whose};
+use rhd_session::{CallNode, Carries, Layer, Nodes, Pick, Replies, Reply, Whose};
 use rhd_text::{print_replies, print_value};
 use rhd_value::{Dynamic, Entries, EvalAltResult, FnId, FnPtrType, Marks, Position, Value, Values};
 use std::alloc::Global;
@@ -152,13 +152,13 @@ fn values_are_printed(rt: HostRuntime) -> Result<(), Fail> {
     check_pointers(&rt, alloc)
 }
 
-/// A call of `f` without arguments, with what came of it.
+/// A call of `f` without arguments at level 1, with what came of it.
 fn node(
     alloc: Global,
     func: Option<RhaiFunc>,
     answer: Result<Dynamic, EvalAltResult>,
     first_after: Option<Dynamic>,
-) -> Result<Reply, Fail> {
+) -> Result<CallNode, Fail> {
     let call = CallRequest::Named {
         name: text_of(alloc, "f")?,
         native_only: false,
@@ -175,14 +175,17 @@ fn node(
             Whose::Called,
         ),
     };
-    Ok(Reply::Called(CallNode {
+    Ok(CallNode {
         call,
         level: 1,
+        begun: true,
         pick,
+        carries: Carries::new(alloc),
+        children: Nodes::new(alloc),
         answer,
         whose,
         first_after,
-    }))
+    })
 }
 
 /// The method of a number.
@@ -205,6 +208,23 @@ fn by_value(number: u32) -> RhaiFunc {
     }
 }
 
+/// A call of `f` that led to two calls, of which the first led to one more.
+fn tree(alloc: Global) -> Result<CallNode, Fail> {
+    let spent = EvalAltResult::ErrorTooManyOperations(Position::NONE);
+    let deep = EvalAltResult::ErrorStackOverflow(Position::NONE);
+    let mut inner = node(alloc, None, Err(spent.dup(alloc)?), None)?;
+    inner.level = 3;
+    let mut first = node(alloc, None, Err(spent), None)?;
+    first.level = 2;
+    first.children.push(inner)?;
+    let mut second = node(alloc, None, Err(deep.dup(alloc)?), None)?;
+    second.level = 2;
+    let mut root = node(alloc, None, Err(deep), None)?;
+    root.children.push(first)?;
+    root.children.push(second)?;
+    Ok(root)
+}
+
 #[test]
 fn replies_are_printed(rt: HostRuntime) -> Result<(), Fail> {
     let alloc = rt.alloc();
@@ -215,17 +235,20 @@ fn replies_are_printed(rt: HostRuntime) -> Result<(), Fail> {
         length: 3,
     }))?;
     let missing = EvalAltResult::ErrorFunctionNotFound(text_of(alloc, "f (i64)")?, Position::NONE);
-    replies.push(node(alloc, None, Err(missing), None)?)?;
+    replies.push(Reply::Called(node(alloc, None, Err(missing), None)?))?;
     let first = marked(Value::Array(Values::new(alloc)), false, true, false);
     let answer = Dynamic::from(Value::Int(-5));
-    replies.push(node(alloc, Some(method(1)), Ok(answer), Some(first))?)?;
+    let called = node(alloc, Some(method(1)), Ok(answer), Some(first))?;
+    replies.push(Reply::Called(called))?;
     let place = Position { line: 1, column: 2 };
     let failed = EvalAltResult::ErrorRuntime(text_of(alloc, "no \"luck\"")?, place);
-    replies.push(node(alloc, Some(by_value(12)), Err(failed), None)?)?;
+    let called = node(alloc, Some(by_value(12)), Err(failed), None)?;
+    replies.push(Reply::Called(called))?;
+    replies.push(Reply::Called(tree(alloc)?))?;
     let mut out = vec![in alloc; b'>']?;
     print_replies(alloc, replies.as_slice(), &mut out)?;
     let want =
-        ">ok\nrefused 4 7 3\nf - call ! 1 \"f (i64)\"\nf global0#1 called = -5 & %[]\nf global0#12 called ! 15 \"no \\\"luck\\\"\"\n";
+        ">ok\nrefused 4 7 3\nf - call ! 1 \"f (i64)\"\nf global0#1 called = -5 & %[]\nf global0#12 called ! 15 \"no \\\"luck\\\"\"\nf - call ! 10\n  f - call ! 9\n    f - call ! 9\n  f - call ! 10\n";
     same_bytes(&rt, &out, want.as_bytes(), "replies");
     Ok(())
 }

@@ -4,7 +4,7 @@ use crate::kit::{KitFn, kit};
 use crate::tests::{holds, same_bytes, text_of};
 use rhd_func::{CallRequest, CallShape, FnAccess, FnNamespace, Natives, PluginFunc, RhaiFunc};
 use rhd_module::{DeclFault, Declaration, Key, Module, native_declaration, native_key};
-use rhd_session::{Command, Commands, Reply, Session};
+use rhd_session::{Command, Commands, Limits, Reply, Session};
 use rhd_text::print_replies;
 use rhd_value::{Dynamic, FnId, OutOfMemory, Position, Texts, TypeTag, Types, Value, Values};
 use std::alloc::{AllocError, Global};
@@ -183,7 +183,7 @@ fn modules_and_sessions_answer(rt: HostRuntime) -> Result<(), Fail> {
         return Err(AllocError.into());
     };
     check_declared(&rt, alloc, native)?;
-    let mut session = Session::new(alloc, natives)?;
+    let mut session = Session::new(alloc, natives, Limits::DEFAULT)?;
     let commands = commands(alloc)?;
     let Ok(replies) = session.run(alloc, commands.as_slice()) else {
         return Err(AllocError.into());

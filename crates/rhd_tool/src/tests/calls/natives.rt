@@ -41,6 +41,7 @@ fn check_step(
             holds(rt, pos == Position::NONE, "no place");
             first
         }
+        NativeStep::Ask { .. } => panic!(rt; "a last step"),
     };
     match given {
         None => holds(rt, first == "", "a first argument"),
