@@ -3,6 +3,7 @@
 
 mod calls;
 mod command;
+mod declaring;
 mod display;
 mod law;
 mod limits;
@@ -15,7 +16,7 @@ mod reply;
 mod search;
 mod session;
 
-pub use command::{Command, Commands};
+pub use command::{Command, Commands, ModuleId};
 pub use law::{a_call_is_answered_by_the_first_declaration, a_node_shows_the_first_declaration};
 pub use limits::Limits;
 pub use node::{CallNode, Carries, Nodes, Whose};
