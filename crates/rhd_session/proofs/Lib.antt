@@ -5,3 +5,4 @@ pub mod Found
 pub mod Stack
 pub mod Lists
 pub mod FirstAnswered
+pub mod TreeLaws
