@@ -6,3 +6,4 @@ pub mod Stack
 pub mod Lists
 pub mod FirstAnswered
 pub mod TreeLaws
+pub mod TreeFaults

@@ -139,6 +139,13 @@ module _ (o : Objects) (w : World) where
       shows_by f level call node plan p pick first (carries ++ carry ∷ []) (children ++ child ∷ []) (cut_end call) true (runs_plan w.engine f level call plan p d) s h starts
       (steps_requests steps (the_last (ap (λ (c : CallRequest). Ask c carry) (sym (runs_shows r).0)) refl))
 
+  -- without a pick there are none
+  pub runs_alone : {f : Frame} {level : ℕ} {call : CallRequest} {node : CallNode} {before after : Moment} {cut : Bool} → Runs o w f level call node before after cut → (seen node).pick ≡ None → ((seen node).carries ≡ []) × ((seen node).children ≡ [])
+  runs_alone (not_begun b s) h = (ap (λ (x : Seen). x.carries) s, ap (λ (x : Seen). x.children) s)
+  runs_alone (ended b d s) h = (ap (λ (x : Seen). x.carries) s, ap (λ (x : Seen). x.children) s)
+  runs_alone (finished {pick = p} b d starts steps e s) h = let q : Some p ≡ None = sym (ap (λ (x : Seen). x.pick) s) ∙ h in absurd cc
+  runs_alone (cut_short {pick = p} b d starts steps r s) h = let q : Some p ≡ None = sym (ap (λ (x : Seen). x.pick) s) ∙ h in absurd cc
+
   -- a child of a call at this level in this frame runs by itself
   abbrev pub RunsUnder : Frame → ℕ → CallNode → Type 0
   RunsUnder f level child = (call : CallRequest) × (before : Moment) × (after : Moment) × (cut : Bool) × Runs o w (entered f level) (level + 1) call child before after cut
