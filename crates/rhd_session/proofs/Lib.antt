@@ -7,3 +7,4 @@ pub mod Lists
 pub mod FirstAnswered
 pub mod TreeLaws
 pub mod TreeFaults
+pub mod TreePlants

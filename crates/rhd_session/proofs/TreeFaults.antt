@@ -1,32 +1,28 @@
 -- What each call of a tree shows, and where it ends with fault 9 or 10.
-use Rattle.std.proofs.Common.{◌≡◌, ℕ, ◌+◌, ◌<◌, ◌≤◌, Bool, true, false, ltb, List, [], ◌∷◌, refl, sym, ap, subst, ◌∙◌, ◌⊎◌, inl, inr, arith}
-use Rattle.std.specs.Prelude.{◌↔◌, Option, None, Some, option_map, Result, Ok, Err}
-use Rattle.std.proofs.lemmas.Bool.{lt-ltb, ltb-true, ltb-false}
+use Rattle.std.proofs.Common.{◌≡◌, ℕ, ◌<◌, Bool, true, false, ltb, [], ◌∷◌, refl, sym, ap, ◌∙◌, inl, inr, arith}
+use Rattle.std.specs.Prelude.{◌↔◌, Option, None, Some, option_map, Ok, Err}
+use Rattle.std.proofs.lemmas.Bool.{lt-ltb, ltb-true}
 use Rattle.rhd_value.specs.Firsts.{first_some, where_holds}
-use Rattle.rhd_value.specs.Tree.{Tree}
-use Rattle.rhd_value.specs.declared.fault.EvalAltResult.{EvalAltResult}
 use Rattle.rhd_value.specs.declared.fault.EvalAltResult.TheVariants.{ErrorTooManyOperations, ErrorStackOverflow}
 use Rattle.rhd_func.specs.declared.request.CallRequest.{CallRequest}
-use Rattle.rhd_func.specs.declared.request.Carry.{Carry}
 use Rattle.rhd_func.specs.declared.request.NativeStep.{NativeStep}
 use Rattle.rhd_func.specs.declared.request.NativeStep.TheVariants.{Done, Failed, Ask}
 use Rattle.rhd_func.specs.Shapes.{given, pos_of}
 use Rattle.rhd_session.specs.declared.node.CallNode.{CallNode}
-use Rattle.rhd_session.specs.declared.node.Whose.{Whose}
 use Rattle.rhd_session.specs.declared.node.Whose.TheVariants.{Call, Called}
 use Rattle.rhd_session.specs.declared.pick.Pick.{Pick}
 use Rattle.rhd_session.specs.Engine.{EngineLists, Frame}
 use Rattle.rhd_session.specs.World.{World, Objects, Moment}
 use Rattle.rhd_session.specs.Plans.{Plan, plan_of}
 use Rattle.rhd_session.specs.Ends.{End, failed, called, end_of}
-use Rattle.rhd_session.specs.Decisions.{ends, runs, refusal, decision}
+use Rattle.rhd_session.specs.Decisions.{ends, runs, refusal}
 use Rattle.rhd_session.specs.FirstAsks.{IsAnsweredFirst, EndsAlone, missing_end}
 use Rattle.rhd_session.specs.Seen.{Seen, seen, begun_node, unbegun_node, cut_end}
 use Rattle.rhd_session.specs.Runs.{Runs, not_begun, ended, finished, cut_short}
 use Rattle.rhd_session.specs.Trees.{InTree, frame_at}
 use Rattle.rhd_session.proofs.Found.{runs_within, decided_deep}
-use Rattle.rhd_session.proofs.FirstAnswered.{runs_first, first_runs, ends_missing, shows_first, shows_missing, shows_unbegun}
-use Rattle.rhd_session.proofs.TreeLaws.{runs_shows, tree_runs}
+use Rattle.rhd_session.proofs.FirstAnswered.{first_runs, ends_missing, shows_first, shows_missing, shows_unbegun}
+use Rattle.rhd_session.proofs.TreeLaws.{tree_runs}
 
 -- how a call ends whose level is too high
 abbrev deep_end : CallRequest → End

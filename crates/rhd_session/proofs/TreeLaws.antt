@@ -1,8 +1,8 @@
 -- Laws of trees of calls, in every world.
-use Rattle.std.proofs.Common.{◌≡◌, ℕ, ◌+◌, ◌<◌, ◌≤◌, Bool, true, false, List, [], ◌∷◌, ◌++◌, length, refl, sym, ap, subst, ◌∙◌, arith, rules, append_assoc}
+use Rattle.std.proofs.Common.{◌≡◌, ℕ, ◌+◌, ◌≤◌, Bool, true, false, List, [], ◌∷◌, ◌++◌, length, refl, sym, ap, subst, ◌∙◌, arith, rules, append_assoc}
 use Rattle.std.specs.Prelude.{Option, Some, None, if◌then◌else◌}
 use Rattle.std.specs.List.{All, Contains, sum_by}
-use Rattle.std.proofs.lemmas.List.{append-nil}
+use Rattle.std.proofs.lemmas.List.{append-nil, length_push}
 use Rattle.std.proofs.lemmas.List.Elements.{All-nil, All-push, All-same, All-contains}
 use Rattle.std.proofs.lemmas.List.Sums.{sum_by-cons, sum_by_push}
 use Rattle.rhd_func.specs.declared.request.CallRequest.{CallRequest}
@@ -35,7 +35,7 @@ row_count n (more_of-CallNode node rest) = ap (λ k. begun_in node + k) (row_cou
 nodes_count : (nodes : Nodes) → begun_in_nodes nodes ≡ sum_by begun_in (nodes_in nodes)
 nodes_count (Nodes' shape row) = row_count _ row ∙ ap (sum_by begun_in) (sym (nodes_in_row shape row))
 
-parts_count : (node : CallNode) → begun_in node ≡ (if (seen node).begun then 1 else 0) + sum_by begun_in (seen node).children
+pub parts_count : (node : CallNode) → begun_in node ≡ (if (seen node).begun then 1 else 0) + sum_by begun_in (seen node).children
 parts_count (CallNode' call level begun pick carries children answer whose after) =
     let b : (seen (CallNode' call level begun pick carries children answer whose after)).begun ≡ begun = search (rules, the_lemmas) in
     let ns : (out-CallNode (CallNode' call level begun pick carries children answer whose after)).children ≡ children = search (rules, the_lemmas) in
@@ -59,6 +59,12 @@ all_begun root {children = children} s all = λ node inside. begun_below node ro
 no_children : (child : CallNode) (children : List CallNode) → children ≡ [] → Contains children child → ⊥
 no_children child children e among = let h : Contains [] child = subst (λ (xs : List CallNode). Contains xs child) e among in omega (arith, h.1)
 
+many_push : (carries : List Carry) (children : List CallNode) (carry : Carry) (child : CallNode) → length carries ≡ length children → length (carries ++ carry ∷ []) ≡ length (children ++ child ∷ [])
+many_push carries children carry child h = length_push carries carry ∙ ap (λ n. n + 1) h ∙ sym (length_push children child)
+
+same_many : (node : CallNode) (carries : List Carry) (children : List CallNode) → (seen node).carries ≡ carries → (seen node).children ≡ children → length carries ≡ length children → length (seen node).carries ≡ length (seen node).children
+same_many node carries children c n h = ap length c ∙ h ∙ sym (ap length n)
+
 module _ (o : Objects) (w : World) where
   -- a node shows its own call and level
   pub runs_shows : {f : Frame} {level : ℕ} {call : CallRequest} {node : CallNode} {before after : Moment} {cut : Bool} → Runs o w f level call node before after cut → ((seen node).call ≡ call) × ((seen node).level ≡ level)
@@ -80,6 +86,25 @@ module _ (o : Objects) (w : World) where
     steps_count (one_more {child = child} {children = children} steps r next p q) = omega (arith, ap (sum_by begun_in) q, sum_by_push begun_in children child, steps_count steps, runs_count r)
 
   mutual
+    -- no call is begun beyond the budget
+    pub runs_spend : {f : Frame} {level : ℕ} {call : CallRequest} {node : CallNode} {before after : Moment} {cut : Bool} → Runs o w f level call node before after cut → before.begun ≤ w.engine.limits.budget → after.begun ≤ w.engine.limits.budget
+    runs_spend (not_begun b s) h = h
+    runs_spend (ended b d s) h = omega arith
+    runs_spend (finished b d starts steps e s) h = steps_spend steps (omega arith)
+    runs_spend (cut_short b d starts steps r s) h = runs_spend r (steps_spend steps (omega arith))
+
+    pub steps_spend : {f : Frame} {level : ℕ} {plan : Plan} {pick : Pick} {first last : NativeStep} {carries : List Carry} {children : List CallNode} {before after : Moment} → Steps o w f level plan pick first carries children last before after → before.begun ≤ w.engine.limits.budget → after.begun ≤ w.engine.limits.budget
+    steps_spend none_yet h = h
+    steps_spend (one_more steps r next p q) h = runs_spend r (steps_spend steps h)
+
+  -- where it was spent, the calls begun stand at it
+  pub runs_spent : {f : Frame} {level : ℕ} {call : CallRequest} {node : CallNode} {before after : Moment} {cut : Bool} → Runs o w f level call node before after cut → cut ≡ true → after.begun ≡ w.engine.limits.budget
+  runs_spent (not_begun b s) spent = b
+  runs_spent (ended b d s) spent = absurd cc
+  runs_spent (finished b d starts steps e s) spent = absurd cc
+  runs_spent (cut_short b d starts steps r s) spent = runs_spent r refl
+
+  mutual
     -- where the budget lasts, all calls of the tree are begun
     pub runs_begun : {f : Frame} {level : ℕ} {call : CallRequest} {node : CallNode} {before after : Moment} {cut : Bool} → Runs o w f level call node before after cut → cut ≡ false → AllBegun node
     runs_begun (not_begun b s) lasts = absurd cc
@@ -98,6 +123,18 @@ module _ (o : Objects) (w : World) where
   runs_cut (finished b d starts steps e s) spent = absurd cc
   runs_cut (cut_short {child = child} {children = children} b d starts steps r s) spent =
       cut_below children (ap (λ (x : Seen). x.begun) s) (ap (λ (x : Seen). x.end) s ∙ sym (ap (λ (x : Seen). cut_end x.call) s)) (ap (λ (x : Seen). x.children) s) (steps_begun steps) (runs_cut r refl)
+
+  -- there is one carry for each child
+  steps_many : {f : Frame} {level : ℕ} {plan : Plan} {pick : Pick} {first last : NativeStep} {carries : List Carry} {children : List CallNode} {before after : Moment} → Steps o w f level plan pick first carries children last before after → length carries ≡ length children
+  steps_many none_yet = refl
+  steps_many (one_more {carry = carry} {child = child} {carries = carries} {children = children} steps r next p q) = ap length p ∙ many_push carries children carry child (steps_many steps) ∙ sym (ap length q)
+
+  pub runs_many : {f : Frame} {level : ℕ} {call : CallRequest} {node : CallNode} {before after : Moment} {cut : Bool} → Runs o w f level call node before after cut → length (seen node).carries ≡ length (seen node).children
+  runs_many (not_begun {node = node} b s) = same_many node [] [] (ap (λ (x : Seen). x.carries) s) (ap (λ (x : Seen). x.children) s) refl
+  runs_many (ended {node = node} b d s) = same_many node [] [] (ap (λ (x : Seen). x.carries) s) (ap (λ (x : Seen). x.children) s) refl
+  runs_many (finished {node = node} {carries = carries} {children = children} b d starts steps e s) = same_many node carries children (ap (λ (x : Seen). x.carries) s) (ap (λ (x : Seen). x.children) s) (steps_many steps)
+  runs_many (cut_short {node = node} {child = child} {carries = carries} {carry = carry} {children = children} b d starts steps r s) =
+      same_many node (carries ++ carry ∷ []) (children ++ child ∷ []) (ap (λ (x : Seen). x.carries) s) (ap (λ (x : Seen). x.children) s) (many_push carries children carry child (steps_many steps))
 
   -- the requests, from the front
   pub steps_requests : {f : Frame} {level : ℕ} {call : CallRequest} {plan : Plan} {pick : Pick} {first last : NativeStep} {carries rest_carries : List Carry} {children rest : List CallNode} {before after : Moment} {end : End} {cut : Bool} →
@@ -137,7 +174,7 @@ module _ (o : Objects) (w : World) where
       (steps_requests steps (no_more e))))
   runs_requests pick (cut_short {f = f} {level = level} {call = call} {node = node} {child = child} {plan = plan} {pick = p} {first = first} {carries = carries} {carry = carry} {children = children} b d starts steps r s) h =
       shows_by f level call node plan p pick first (carries ++ carry ∷ []) (children ++ child ∷ []) (cut_end call) true (runs_plan w.engine f level call plan p d) s h starts
-      (steps_requests steps (the_last (ap (λ (c : CallRequest). Ask c carry) (sym (runs_shows r).0)) refl))
+      (steps_requests steps (the_last (ap (λ (c : CallRequest). Ask c carry) (sym (runs_shows r).0)) (runs_cut r refl) refl))
 
   -- without a pick there are none
   pub runs_alone : {f : Frame} {level : ℕ} {call : CallRequest} {node : CallNode} {before after : Moment} {cut : Bool} → Runs o w f level call node before after cut → (seen node).pick ≡ None → ((seen node).carries ≡ []) × ((seen node).children ≡ [])
@@ -172,10 +209,13 @@ module _ (o : Objects) (w : World) where
 
   -- with its own call and level
   runs_at : {f : Frame} {level : ℕ} {call : CallRequest} {node : CallNode} {before after : Moment} {cut : Bool} → Runs o w f level call node before after cut → RunsAt o w f node
-  runs_at {f} {level} {call} {node} {before} {after} {cut} r =
-      (before, after, cut,
-      subst (λ (n : ℕ). Runs o w f n (seen node).call node before after cut) (sym (runs_shows r).1)
-      (subst (λ (c : CallRequest). Runs o w f level c node before after cut) (sym (runs_shows r).0) r))
+  runs_at {f} {level} {call} {node} {before} {after} {cut} r = (
+    before,
+    after,
+    cut,
+    subst (λ (n : ℕ). Runs o w f n (seen node).call node before after cut) (sym (runs_shows r).1)
+        (subst (λ (c : CallRequest). Runs o w f level c node before after cut) (sym (runs_shows r).0) r),
+  )
 
   under_own : (f : Frame) (level : ℕ) (child : CallNode) (n : ℕ) → n ≡ level → RunsUnder f level child → RunsUnder f n child
   under_own f level child n e r = subst (λ (k : ℕ). RunsUnder f k child) (sym e) r

@@ -14,6 +14,7 @@ use Rattle.rhd_session.specs.Entered.{context}
 use Rattle.rhd_session.specs.Seen.{Seen, seen, cut_end, done_of}
 use Rattle.rhd_session.specs.Steps.{Starts, Resumes}
 use Rattle.rhd_session.specs.Runs.{received_by}
+use Rattle.rhd_session.specs.Trees.{CutTree}
 
 -- From this step on the function keeps these carries, its requests are the calls of these children, and the call ends so.
 -- The truth value says whether the budget was spent.
@@ -25,6 +26,7 @@ pub data Requests (o : Objects) (f : Frame) (level : ℕ) (call : CallRequest) (
   -- the budget is spent within the call that it asks for
   the_last : {step : NativeStep} {carry : Carry} {child : CallNode} {end : End} →
       step ≡ Ask (seen child).call carry →
+      CutTree child →
       end ≡ cut_end call →
       Requests o f level call plan pick step (carry ∷ []) (child ∷ []) end true
   -- it is given the answer to the call that it asks for, and goes on

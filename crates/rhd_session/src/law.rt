@@ -1,7 +1,7 @@
 //! Laws of calls.
 
-ghost use Rattle.std.specs.Prelude.{◌≡◌, ◌↔◌, ◌+◌, ◌<◌, ◌≤◌, ℕ, Bool, true, false, [], Option, Some, None, Err};
-ghost use Rattle.std.specs.List.{Contains};
+ghost use Rattle.std.specs.Prelude.{◌≡◌, ◌↔◌, ◌+◌, ◌<◌, ◌≤◌, ℕ, Bool, true, false, if◌then◌else◌, [], length, Option, Some, None, Err};
+ghost use Rattle.std.specs.List.{Contains, sum_by};
 ghost use Rattle.rhd_value.specs.declared.fault.EvalAltResult.TheVariants.{ErrorTooManyOperations, ErrorStackOverflow};
 ghost use Rattle.rhd_func.specs.declared.request.CallRequest.{CallRequest};
 ghost use Rattle.rhd_func.specs.Shapes.{given, pos_of};
@@ -41,9 +41,11 @@ pub fn a_node_shows_the_first_declaration(session: &Session)
     ensures unbegun { (f : Frame) (level : ℕ) (call : CallRequest) (node : CallNode) (before after : Moment) (cut : Bool) → Runs (objects_of allows_call allows_resume (natives_of session.now)) (world_of info session.now) f level call node before after cut → (seen node).begun ≡ false → (before.begun ≡ (world_of info session.now).engine.limits.budget) × (after ≡ before) × (seen node ≡ unbegun_node call level) }
 {}
 
-/// The calls that a call begins are counted by its tree.
+/// The calls that a call begins are counted by its tree: the call itself if it is begun, and those of
+/// the trees of its children.
 pub fn the_calls_begun_are_counted_by_the_tree(session: &Session)
     ensures counted { (f : Frame) (level : ℕ) (call : CallRequest) (node : CallNode) (before after : Moment) (cut : Bool) → Runs (objects_of allows_call allows_resume (natives_of session.now)) (world_of info session.now) f level call node before after cut → after.begun ≡ before.begun + begun_in node }
+    ensures parts { (node : CallNode) → begun_in node ≡ (if (seen node).begun then 1 else 0) + sum_by begun_in (seen node).children }
 {}
 
 /// While the budget lasts, every call of a tree is begun. Where it is spent, the last call of the
@@ -51,6 +53,8 @@ pub fn the_calls_begun_are_counted_by_the_tree(session: &Session)
 pub fn a_spent_budget_ends_the_tree(session: &Session)
     ensures lasts { (f : Frame) (level : ℕ) (call : CallRequest) (node : CallNode) (before after : Moment) → Runs (objects_of allows_call allows_resume (natives_of session.now)) (world_of info session.now) f level call node before after false → AllBegun node }
     ensures spent { (f : Frame) (level : ℕ) (call : CallRequest) (node : CallNode) (before after : Moment) → Runs (objects_of allows_call allows_resume (natives_of session.now)) (world_of info session.now) f level call node before after true → CutTree node }
+    ensures stands { (f : Frame) (level : ℕ) (call : CallRequest) (node : CallNode) (before after : Moment) → Runs (objects_of allows_call allows_resume (natives_of session.now)) (world_of info session.now) f level call node before after true → after.begun ≡ (world_of info session.now).engine.limits.budget }
+    ensures within { (f : Frame) (level : ℕ) (call : CallRequest) (node : CallNode) (before after : Moment) (cut : Bool) → Runs (objects_of allows_call allows_resume (natives_of session.now)) (world_of info session.now) f level call node before after cut → before.begun ≤ (world_of info session.now).engine.limits.budget → after.begun ≤ (world_of info session.now).engine.limits.budget }
     ensures unbegun { (f : Frame) (level : ℕ) (call : CallRequest) (node : CallNode) (before after : Moment) (cut : Bool) → Runs (objects_of allows_call allows_resume (natives_of session.now)) (world_of info session.now) f level call node before after cut → ((seen node).begun ≡ false) ↔ (before.begun ≡ (world_of info session.now).engine.limits.budget) }
     ensures answered { (f : Frame) (level : ℕ) (call : CallRequest) (node : CallNode) (before after : Moment) (cut : Bool) → Runs (objects_of allows_call allows_resume (natives_of session.now)) (world_of info session.now) f level call node before after cut → (cut ≡ true) ↔ (((seen node).end.whose ≡ Call) × ((seen node).end.answer ≡ Err (ErrorTooManyOperations (pos_of call)))) }
 {}
@@ -60,6 +64,7 @@ pub fn a_spent_budget_ends_the_tree(session: &Session)
 pub fn the_children_of_a_node_are_its_requests(session: &Session)
     ensures shown { (f : Frame) (level : ℕ) (call : CallRequest) (node : CallNode) (before after : Moment) (cut : Bool) (pick : Pick) → Runs (objects_of allows_call allows_resume (natives_of session.now)) (world_of info session.now) f level call node before after cut → (seen node).pick ≡ Some pick → ShowsRequests (objects_of allows_call allows_resume (natives_of session.now)) f (seen node) pick cut }
     ensures alone { (f : Frame) (level : ℕ) (call : CallRequest) (node : CallNode) (before after : Moment) (cut : Bool) → Runs (objects_of allows_call allows_resume (natives_of session.now)) (world_of info session.now) f level call node before after cut → (seen node).pick ≡ None → ((seen node).carries ≡ []) × ((seen node).children ≡ []) }
+    ensures as_many { (f : Frame) (level : ℕ) (call : CallRequest) (node : CallNode) (before after : Moment) (cut : Bool) → Runs (objects_of allows_call allows_resume (natives_of session.now)) (world_of info session.now) f level call node before after cut → length (seen node).carries ≡ length (seen node).children }
 {}
 
 /// Each call of a tree runs as a call of its own, in the frame in which it is asked for, one level
