@@ -16,6 +16,7 @@ use Rattle.rhd_session.specs.Ends.{End, failed}
 use Rattle.rhd_session.specs.Decisions.{ends, runs, pick_of, decided, refusal, unless_refused, decision}
 use Rattle.rhd_session.specs.Seen.{seen, unbegun_node}
 use Rattle.rhd_session.specs.Runs.{Runs, not_begun, ended, finished, cut_short}
+use Rattle.rhd_session.proofs.Found.{pick_asks}
 use Rattle.rhd_session.specs.FirstAsks.{IsAnsweredFirst, IsUnanswered, EndsAlone, missing_end, asks_of}
 
 -- what is found first is the first that is found
@@ -58,26 +59,26 @@ pub runs_first : (e : EngineLists) (f : Frame) (level : ℕ) (call : CallRequest
 unfolding decision
 runs_first e f level call plan pick d =
     let r = runs_by (refusal e level call) (plan_of call) (pick_of e f (plan_of call)) plan pick d in
-    (r.0, r.1, first_is-first (looked e f) pick (asks_of call) r.2)
+    (r.0, r.1, first_is-first (looked e f) pick (asks_of call) (sym (pick_asks e f call) ∙ r.2))
 
 pub first_runs : (e : EngineLists) (f : Frame) (level : ℕ) (call : CallRequest) (plan : Plan) (pick : Pick) → (refusal e level call ≡ None) × (plan ≡ plan_of call) × IsAnsweredFirst e f call pick → decision e f level call ≡ runs plan pick
 unfolding decision
 first_runs e f level call plan pick r =
     ap (λ (o : Option End). unless_refused o (decided (plan_of call) (pick_of e f (plan_of call)))) r.0
-    ∙ ap (decided (plan_of call)) (is-first_first (looked e f) pick (asks_of call) r.2) ∙ (λ i. runs (sym r.1 i) pick)
+    ∙ ap (decided (plan_of call)) (pick_asks e f call ∙ is-first_first (looked e f) pick (asks_of call) r.2) ∙ (λ i. runs (sym r.1 i) pick)
 
 -- it ends without a pick exactly where it is refused, or where no ask is found
 pub ends_missing : (e : EngineLists) (f : Frame) (level : ℕ) (call : CallRequest) (pick : Option Pick) (end : End) → decision e f level call ≡ ends pick end → (pick ≡ None) × EndsAlone e f level call end
 unfolding decision
 ends_missing e f level call pick end d =
     let r = ends_by (refusal e level call) (plan_of call) (pick_of e f (plan_of call)) pick end d in
-    (r.0, elim r.1 [ inl refused ↦ inl refused | inr m ↦ inr (m.0, m.1, first_none (looked e f) (asks_of call) m.2) ])
+    (r.0, elim r.1 [ inl refused ↦ inl refused | inr m ↦ inr (m.0, m.1, first_none (looked e f) (asks_of call) (sym (pick_asks e f call) ∙ m.2)) ])
 
 missing_by : (e : EngineLists) (f : Frame) (level : ℕ) (call : CallRequest) (end : End) → EndsAlone e f level call end → unless_refused (refusal e level call) (decided (plan_of call) (pick_of e f (plan_of call))) ≡ ends None end
 missing_by e f level call end (inl refused) = ap (λ (o : Option End). unless_refused o (decided (plan_of call) (pick_of e f (plan_of call)))) refused
 missing_by e f level call end (inr m) =
     ap (λ (o : Option End). unless_refused o (decided (plan_of call) (pick_of e f (plan_of call)))) m.0
-    ∙ ap (decided (plan_of call)) (none_first (looked e f) (asks_of call) m.2) ∙ ap (ends None) (sym m.1)
+    ∙ ap (decided (plan_of call)) (pick_asks e f call ∙ none_first (looked e f) (asks_of call) m.2) ∙ ap (ends None) (sym m.1)
 
 pub missing_ends : (e : EngineLists) (f : Frame) (level : ℕ) (call : CallRequest) (pick : Option Pick) (end : End) → (pick ≡ None) × EndsAlone e f level call end → decision e f level call ≡ ends pick end
 unfolding decision

@@ -8,3 +8,4 @@ pub mod FirstAnswered
 pub mod TreeLaws
 pub mod TreeFaults
 pub mod TreePlants
+pub mod Places

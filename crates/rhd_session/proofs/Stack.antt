@@ -9,8 +9,6 @@ use Rattle.rhd_func.specs.declared.request.Carry.{Carry}
 use Rattle.rhd_func.specs.declared.request.CallDone.{CallDone}
 use Rattle.rhd_func.specs.declared.request.NativeStep.{NativeStep}
 use Rattle.rhd_func.specs.declared.request.NativeStep.TheVariants.{Done, Failed, Ask}
-use Rattle.rhd_func.specs.Funcs.{native_of}
-use Rattle.rhd_module.specs.Tree.{ModuleTree}
 use Rattle.rhd_session.specs.Engine.{Frame}
 use Rattle.rhd_session.specs.World.{World, Objects, Moment, moment, one_begun}
 use Rattle.rhd_session.specs.declared.pick.Pick.{Pick}
@@ -21,7 +19,7 @@ use Rattle.rhd_session.specs.declared.machine.Outcome.{Outcome}
 use Rattle.rhd_session.specs.declared.machine.Outcome.TheVariants.{Waiting, Finished}
 use Rattle.rhd_session.specs.declared.machine.Hand.{Hand}
 use Rattle.rhd_session.specs.declared.machine.Hand.TheVariants.{Asked, Answered}
-use Rattle.rhd_session.specs.Held.{names_held}
+use Rattle.rhd_session.specs.Held.{func_held, all_held}
 use Rattle.rhd_session.specs.Nodes.{nodes_in}
 use Rattle.rhd_session.specs.Plans.{Plan, plan_of}
 use Rattle.rhd_session.specs.Ends.{called, end_of}
@@ -56,46 +54,46 @@ puts_node old outcome node is = subst (λ (x : Outcome). Put old x (Answered nod
 
 module _ {B : Type 0} (o : Objects B) (w : World) where
   -- a step of a call that is under way
-  pub settled : {f : Frame} {level : ℕ} {call : CallRequest} {before after : Moment B} {plan : Plan} {pick : Pick} {first step : NativeStep} {carries : List Carry} {children : List CallNode} {work : Work} {outcome : Outcome} →
+  pub settled : {f : Frame} {level : ℕ} {call : CallRequest} {before started after : Moment B} {plan : Plan} {pick : Pick} {first step : NativeStep} {carries : List Carry} {children : List CallNode} {work : Work} {outcome : Outcome} →
       kept work ≡ keeping call level pick carries children →
       before.begun < w.engine.limits.budget →
       decision w.engine f level call ≡ runs plan pick →
-      Starts o (context f level plan) pick.func (received_by plan pick) first →
-      Steps o w f level plan pick first carries children step (one_begun before) after →
+      Starts o (context f level plan) pick.func (received_by plan pick) (one_begun before) first started →
+      Steps o w f level plan pick first carries children step started after →
       Settled work step outcome →
       Comes_to o w f level call outcome before after
-  settled {f} {level} {call} {before} {after} {plan} {pick} {first} {step} {carries} {children} k b d s steps (asks {request = request} {carry = carry} {frame = frame} is carry_is) =
-      it_waits (function_waits {frame = frame} (ap kept is ∙ k) b d s (subst (λ (c : Carry). Steps o w f level plan pick first carries children (Ask request c) (one_begun before) after) (sym carry_is) steps))
+  settled {f} {level} {call} {before} {started} {after} {plan} {pick} {first} {step} {carries} {children} k b d s steps (asks {request = request} {carry = carry} {frame = frame} is carry_is) =
+      it_waits (function_waits {frame = frame} (ap kept is ∙ k) b d s (subst (λ (c : Carry). Steps o w f level plan pick first carries children (Ask request c) started after) (sym carry_is) steps))
   settled {f} {level} {call} {plan = plan} {pick = pick} {step = step} k b d s steps (ends_with {end = end} e h) =
       it_is_answered (finished b d s steps
       (ap (λ (p : Plan). end_of p step) (runs_plan w.engine f level call plan pick d ∙ ap plan_of (sym (ap (λ (x : Kept). x.call) k))) ∙ e)
       (h ∙ ap (λ (x : Kept). begun_node x.call x.level (Some x.pick) x.carries x.children end) k))
 
   -- the next step of a call, after the answer to its request
-  pub resumes_with : (base inner : Frame) (n level : ℕ) (call waited : CallRequest) (before mid after : Moment B) (frame : Suspended) (child : CallNode) (work : Work) (step : NativeStep) (outcome : Outcome) →
+  pub resumes_with : (base inner : Frame) (n level : ℕ) (call waited : CallRequest) (before mid answered after : Moment B) (frame : Suspended) (child : CallNode) (work : Work) (step : NativeStep) (outcome : Outcome) →
       Open o w (entered base n) level call frame inner waited before mid →
-      Runs o w inner (level + 1) waited child mid after false →
-      Resumes o (context base frame.work.level (plan_of frame.work.call)) frame.work.pick.func frame.carry (done_of child) step →
+      Runs o w inner (level + 1) waited child mid answered false →
+      Resumes o (context base frame.work.level (plan_of frame.work.call)) frame.work.pick.func frame.carry (done_of child) answered step after →
       kept work ≡ keeping frame.work.call frame.work.level frame.work.pick (frame.work.carries ++ frame.carry ∷ []) (nodes_in frame.work.children ++ child ∷ []) →
       Settled work step outcome →
       Comes_to o w (entered base n) level call outcome before after
-  resumes_with base inner n level call waited before mid after frame child work step outcome opened r next works q = goes_on base (entered base n) refl opened r next works q
+  resumes_with base inner n level call waited before mid answered after frame child work step outcome opened r next works q = goes_on base (entered base n) refl opened r next works q
     where
-      goes_on : (base f : Frame) → f ≡ entered base f.level → {inner : Frame} {level : ℕ} {call waited : CallRequest} {before mid after : Moment B} {frame : Suspended} {child : CallNode} {work : Work} {step : NativeStep} {outcome : Outcome} →
+      goes_on : (base f : Frame) → f ≡ entered base f.level → {inner : Frame} {level : ℕ} {call waited : CallRequest} {before mid answered after : Moment B} {frame : Suspended} {child : CallNode} {work : Work} {step : NativeStep} {outcome : Outcome} →
           Open o w f level call frame inner waited before mid →
-          Runs o w inner (level + 1) waited child mid after false →
-          Resumes o (context base frame.work.level (plan_of frame.work.call)) frame.work.pick.func frame.carry (done_of child) step →
+          Runs o w inner (level + 1) waited child mid answered false →
+          Resumes o (context base frame.work.level (plan_of frame.work.call)) frame.work.pick.func frame.carry (done_of child) answered step after →
           kept work ≡ keeping frame.work.call frame.work.level frame.work.pick (frame.work.carries ++ frame.carry ∷ []) (nodes_in frame.work.children ++ child ∷ []) →
           Settled work step outcome →
           Comes_to o w f level call outcome before after
-      goes_on base f is {level = level} {call = call} {frame = frame} {child = child} {step = step} (function_waits {plan = plan} {pick = pick} {carries = carries} {children = children} k b d s steps) r next works q =
+      goes_on base f is {level = level} {call = call} {answered = answered} {after = after} {frame = frame} {child = child} {step = step} (function_waits {plan = plan} {pick = pick} {carries = carries} {children = children} k b d s steps) r next works q =
           let same : keeping frame.work.call frame.work.level frame.work.pick (frame.work.carries ++ frame.carry ∷ []) (nodes_in frame.work.children ++ child ∷ []) ≡ keeping call level pick (carries ++ frame.carry ∷ []) (children ++ child ∷ []) =
           ap (λ (x : Kept). keeping x.call x.level x.pick (x.carries ++ frame.carry ∷ []) (x.children ++ child ∷ [])) k in
           let p : plan_of frame.work.call ≡ plan = ap (λ (x : Kept). plan_of x.call) k ∙ sym (runs_plan w.engine f level call plan pick d) in
-          let resumed : Resumes o (context f level plan) pick.func frame.carry (done_of child) step =
-          subst (λ (x : Frame). Resumes o (context x level plan) pick.func frame.carry (done_of child) step) (sym is)
-          (subst (λ (x : Plan). Resumes o (context base level x) pick.func frame.carry (done_of child) step) p
-          (subst (λ (x : Kept). Resumes o (context base x.level (plan_of frame.work.call)) x.pick.func frame.carry (done_of child) step) k next)) in
+          let resumed : Resumes o (context f level plan) pick.func frame.carry (done_of child) answered step after =
+          subst (λ (x : Frame). Resumes o (context x level plan) pick.func frame.carry (done_of child) answered step after) (sym is)
+          (subst (λ (x : Plan). Resumes o (context base level x) pick.func frame.carry (done_of child) answered step after) p
+          (subst (λ (x : Kept). Resumes o (context base x.level (plan_of frame.work.call)) x.pick.func frame.carry (done_of child) answered step after) k next)) in
           settled (works ∙ same) b d s (one_more steps r resumed refl refl) q
 
   -- the stack, seen from its top
@@ -212,15 +210,15 @@ module _ {B : Type 0} (o : Objects B) (w : World) where
       p
 
   -- the function of the top is held
-  pub top_held : (stack : List Suspended) (frame : Suspended) (base : Frame) (call : CallRequest) (before after : Moment B) (hand : Hand) (n : ℕ) (m : ModuleTree) →
-      w.engine.globals ≡ m ∷ [] → names_held n m ≡ true → Going o w (stack ++ frame ∷ []) base call before hand after → (native_of frame.work.pick.func).0 < n
-  top_held stack frame base call before after hand n m one all g =
+  pub top_held : (stack : List Suspended) (frame : Suspended) (base : Frame) (call : CallRequest) (before after : Moment B) (hand : Hand) (n : ℕ) →
+      all_held n w.engine.globals ≡ true → all_held n base.libs ≡ true → Going o w (stack ++ frame ∷ []) base call before hand after → func_held n frame.work.pick.func ≡ true
+  top_held stack frame base call before after hand n globals libs g =
       let q = opened_at stack frame base g.f call g.waited before g.mid g.waits in
-      open_held q.opened
+      open_held q.opened libs
     where
-      open_held : {f inner : Frame} {level : ℕ} {own waited : CallRequest} {begun mid : Moment B} → Open o w f level own frame inner waited begun mid → (native_of frame.work.pick.func).0 < n
-      open_held (function_waits {f = f} {level = level} {call = own} {plan = plan} {pick = pick} k b d s steps) =
-          subst (λ (x : Kept). (native_of x.pick.func).0 < n) (sym k) (runs_is_held w.engine f level own plan pick n m one all d)
+      open_held : {f inner : Frame} {level : ℕ} {own waited : CallRequest} {begun mid : Moment B} → Open o w f level own frame inner waited begun mid → all_held n f.libs ≡ true → func_held n frame.work.pick.func ≡ true
+      open_held (function_waits {f = f} {level = level} {call = own} {plan = plan} {pick = pick} k b d s steps) libs' =
+          ap (λ (x : Kept). func_held n x.pick.func) k ∙ runs_is_held w.engine f level own plan pick n globals libs' d
 
   -- a call that waits is closed
   cut_opened : {f inner : Frame} {level : ℕ} {own waited : CallRequest} {frame : Suspended} {child node : CallNode} {begun mid after : Moment B} →

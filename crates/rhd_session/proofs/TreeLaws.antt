@@ -25,6 +25,7 @@ use Rattle.rhd_session.specs.Runs.{Runs, not_begun, ended, finished, cut_short, 
 use Rattle.rhd_session.specs.Trees.{InTree, is_root, is_below, frame_at, RunsAt, AllBegun, CutTree, cut_here, cut_below, begun_in, begun_in_nodes, begun_in_row}
 use Rattle.rhd_session.specs.Requests.{Requests, no_more, the_last, one_then, ShowsRequests}
 use Rattle.rhd_session.proofs.Found.{runs_within, runs_plan}
+use Rattle.rhd_session.proofs.Stepped.{starts_begun, resumes_begun}
 use Rattle.rhd_session.proofs.FirstAnswered.{ends_missing}
 
 -- how many calls were begun, of a node with the trees of its children
@@ -78,24 +79,24 @@ module _ {B : Type 0} (o : Objects B) (w : World) where
     pub runs_count : {f : Frame} {level : ℕ} {call : CallRequest} {node : CallNode} {before after : Moment B} {cut : Bool} → Runs o w f level call node before after cut → after.begun ≡ before.begun + begun_in node
     runs_count (not_begun {node = node} b s) = omega (arith, unbegun_count node s)
     runs_count (ended {node = node} b d s) = omega (arith, begun_count node s)
-    runs_count (finished {node = node} b d starts steps e s) = omega (arith, begun_count node s, steps_count steps)
-    runs_count (cut_short {node = node} {child = child} {children = children} b d starts steps r s) = omega (arith, begun_count node s, sum_by_push begun_in children child, steps_count steps, runs_count r)
+    runs_count (finished {node = node} b d starts steps e s) = omega (arith, begun_count node s, starts_begun starts, steps_count steps)
+    runs_count (cut_short {node = node} {child = child} {children = children} b d starts steps r s) = omega (arith, begun_count node s, starts_begun starts, sum_by_push begun_in children child, steps_count steps, runs_count r)
 
     pub steps_count : {f : Frame} {level : ℕ} {plan : Plan} {pick : Pick} {first last : NativeStep} {carries : List Carry} {children : List CallNode} {before after : Moment B} → Steps o w f level plan pick first carries children last before after → after.begun ≡ before.begun + sum_by begun_in children
     steps_count none_yet = omega arith
-    steps_count (one_more {child = child} {children = children} steps r next p q) = omega (arith, ap (sum_by begun_in) q, sum_by_push begun_in children child, steps_count steps, runs_count r)
+    steps_count (one_more {child = child} {children = children} steps r next p q) = omega (arith, ap (sum_by begun_in) q, sum_by_push begun_in children child, resumes_begun next, steps_count steps, runs_count r)
 
   mutual
     -- no call is begun beyond the budget
     pub runs_spend : {f : Frame} {level : ℕ} {call : CallRequest} {node : CallNode} {before after : Moment B} {cut : Bool} → Runs o w f level call node before after cut → before.begun ≤ w.engine.limits.budget → after.begun ≤ w.engine.limits.budget
     runs_spend (not_begun b s) h = h
     runs_spend (ended b d s) h = omega arith
-    runs_spend (finished b d starts steps e s) h = steps_spend steps (omega arith)
-    runs_spend (cut_short b d starts steps r s) h = runs_spend r (steps_spend steps (omega arith))
+    runs_spend (finished b d starts steps e s) h = steps_spend steps (omega (arith, starts_begun starts))
+    runs_spend (cut_short b d starts steps r s) h = runs_spend r (steps_spend steps (omega (arith, starts_begun starts)))
 
     pub steps_spend : {f : Frame} {level : ℕ} {plan : Plan} {pick : Pick} {first last : NativeStep} {carries : List Carry} {children : List CallNode} {before after : Moment B} → Steps o w f level plan pick first carries children last before after → before.begun ≤ w.engine.limits.budget → after.begun ≤ w.engine.limits.budget
     steps_spend none_yet h = h
-    steps_spend (one_more steps r next p q) h = runs_spend r (steps_spend steps h)
+    steps_spend (one_more steps r next p q) h = let spent = runs_spend r (steps_spend steps h) in omega (arith, resumes_begun next, spent)
 
   -- where it was spent, the calls begun stand at it
   pub runs_spent : {f : Frame} {level : ℕ} {call : CallRequest} {node : CallNode} {before after : Moment B} {cut : Bool} → Runs o w f level call node before after cut → cut ≡ true → after.begun ≡ w.engine.limits.budget
@@ -150,17 +151,17 @@ module _ {B : Type 0} (o : Objects B) (w : World) where
       (subst (λ (ns : List CallNode). Requests o f level call plan pick first (carries ++ carry ∷ rest_carries) ns end cut) q2
       (steps_requests steps (one_then (ap (λ (c : CallRequest). Ask c carry) (sym (runs_shows r).0)) next requests)))
 
-  shows_by : (f : Frame) (level : ℕ) (call : CallRequest) (node : CallNode) (plan : Plan) (p pick : Pick) (first : NativeStep) (carries : List Carry) (children : List CallNode) (end : End) (cut : Bool) →
+  shows_by : (f : Frame) (level : ℕ) (call : CallRequest) (node : CallNode) (plan : Plan) (p pick : Pick) (first : NativeStep) (carries : List Carry) (children : List CallNode) (end : End) (cut : Bool) (from to : Moment B) →
       plan ≡ plan_of call → seen node ≡ begun_node call level (Some p) carries children end → (seen node).pick ≡ Some pick →
-      Starts o (context f level plan) p.func (received_by plan p) first →
+      Starts o (context f level plan) p.func (received_by plan p) from first to →
       Requests o f level call plan p first carries children end cut →
       ShowsRequests o f (seen node) pick cut
-  shows_by f level call node plan p pick first carries children end cut is s h starts requests =
+  shows_by f level call node plan p pick first carries children end cut from to is s h starts requests =
       let q : Some p ≡ Some pick = sym (ap (λ (x : Seen). x.pick) s) ∙ h in
       let same : p ≡ pick = cc in
       subst (λ (x : Pick). ShowsRequests o f (seen node) x cut) same
       (subst (λ (x : Seen). ShowsRequests o f x p cut) (sym s)
-      (subst (λ (x : Plan). (step : NativeStep) × Starts o (context f level x) p.func (received_by x p) step × Requests o f level call x p step carries children end cut) is (first, starts, requests)))
+      (subst (λ (x : Plan). (before : Moment B) × (step : NativeStep) × (after : Moment B) × Starts o (context f level x) p.func (received_by x p) before step after × Requests o f level call x p step carries children end cut) is (from, first, to, starts, requests)))
 
   -- the children of a node with a pick are its requests
   pub runs_requests : {f : Frame} {level : ℕ} {call : CallRequest} {node : CallNode} {before after : Moment B} {cut : Bool} (pick : Pick) → Runs o w f level call node before after cut → (seen node).pick ≡ Some pick → ShowsRequests o f (seen node) pick cut
@@ -168,12 +169,12 @@ module _ {B : Type 0} (o : Objects B) (w : World) where
   runs_requests pick (ended {f = f} {level = level} {call = call} {pick = p} {end = end} b d s) h =
       let q : None ≡ Some pick = sym (ends_missing w.engine f level call p end d).0 ∙ sym (ap (λ (x : Seen). x.pick) s) ∙ h in absurd cc
   runs_requests pick (finished {f = f} {level = level} {call = call} {node = node} {plan = plan} {pick = p} {first = first} {carries = carries} {children = children} {end = end} b d starts steps e s) h =
-      shows_by f level call node plan p pick first carries children end false (runs_plan w.engine f level call plan p d) s h starts
+      shows_by f level call node plan p pick first carries children end false _ _ (runs_plan w.engine f level call plan p d) s h starts
       (subst (λ (ks : List Carry). Requests o f level call plan p first ks children end false) (append-nil carries)
       (subst (λ (ns : List CallNode). Requests o f level call plan p first (carries ++ []) ns end false) (append-nil children)
       (steps_requests steps (no_more e))))
   runs_requests pick (cut_short {f = f} {level = level} {call = call} {node = node} {child = child} {plan = plan} {pick = p} {first = first} {carries = carries} {carry = carry} {children = children} b d starts steps r s) h =
-      shows_by f level call node plan p pick first (carries ++ carry ∷ []) (children ++ child ∷ []) (cut_end call) true (runs_plan w.engine f level call plan p d) s h starts
+      shows_by f level call node plan p pick first (carries ++ carry ∷ []) (children ++ child ∷ []) (cut_end call) true _ _ (runs_plan w.engine f level call plan p d) s h starts
       (steps_requests steps (the_last (ap (λ (c : CallRequest). Ask c carry) (sym (runs_shows r).0)) (runs_cut r refl) refl))
 
   -- without a pick there are none
@@ -189,8 +190,8 @@ module _ {B : Type 0} (o : Objects B) (w : World) where
 
   steps_run : {f : Frame} {level : ℕ} {plan : Plan} {pick : Pick} {first last : NativeStep} {carries : List Carry} {children : List CallNode} {before after : Moment B} → Steps o w f level plan pick first carries children last before after → All (RunsUnder f level) children
   steps_run {f} {level} none_yet = All-nil (RunsUnder f level)
-  steps_run {f} {level} (one_more {waited = waited} {child = child} {children = children} {more_children = more} {mid = mid} {after = after} steps r next p q) =
-      All-same (RunsUnder f level) more (children ++ child ∷ []) q (All-push (RunsUnder f level) children child (steps_run steps) (waited, mid, after, false, r))
+  steps_run {f} {level} (one_more {waited = waited} {child = child} {children = children} {more_children = more} {mid = mid} {answered = answered} steps r next p q) =
+      All-same (RunsUnder f level) more (children ++ child ∷ []) q (All-push (RunsUnder f level) children child (steps_run steps) (waited, mid, answered, false, r))
 
   none_run : (f : Frame) (level : ℕ) (children : List CallNode) → children ≡ [] → All (RunsUnder f level) children
   none_run f level children e = All-same (RunsUnder f level) children [] e (All-nil (RunsUnder f level))

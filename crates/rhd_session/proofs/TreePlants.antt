@@ -10,7 +10,7 @@ use Rattle.rhd_func.specs.declared.request.NativeStep.TheVariants.{Ask}
 use Rattle.rhd_session.specs.declared.node.CallNode.{CallNode}
 use Rattle.rhd_session.specs.declared.pick.Pick.{Pick}
 use Rattle.rhd_session.specs.Engine.{Frame}
-use Rattle.rhd_session.specs.World.{Objects}
+use Rattle.rhd_session.specs.World.{Objects, Moment}
 use Rattle.rhd_session.specs.Plans.{Plan}
 use Rattle.rhd_session.specs.Ends.{End, end_of}
 use Rattle.rhd_session.specs.Entered.{context}
@@ -43,20 +43,20 @@ module _ {B : Type 0} (o : Objects B) (f : Frame) (level : ℕ) (call : CallRequ
   another_call request carry carries child children end cut requests = other_by requests request carry child children refl refl
 
   second_by : {step : NativeStep} {carries : List Carry} {children : List CallNode} {end : End} {cut : Bool} → Requests o f level call plan pick step carries children end cut → (request : CallRequest) (carry : Carry) (child : CallNode) →
-      ((next : NativeStep) → Resumes o (context f level plan) pick.func carry (done_of child) next → (again : CallRequest) × (kept : Carry) × (next ≡ Ask again kept)) →
+      ((next : NativeStep) (from to : Moment B) → Resumes o (context f level plan) pick.func carry (done_of child) from next to → (again : CallRequest) × (kept : Carry) × (next ≡ Ask again kept)) →
       step ≡ Ask request carry → children ≡ child ∷ [] → cut ≡ true
   second_by (no_more e) request carry child asks is these = absurd cc
   second_by (the_last is' short e) request carry child asks is these = refl
-  second_by (one_then {next = next} {carry = c} {child = n} {children = rest} is' resumed requests) request carry child asks is these =
+  second_by (one_then {next = next} {carry = c} {child = n} {children = rest} {before = from} {after = to} is' resumed requests) request carry child asks is these =
       let k : c ≡ carry = (let same : Ask (seen n).call c ≡ Ask request carry = sym is' ∙ is in cc) in
       let m : n ≡ child = cc in
       let none : rest ≡ [] = cc in
-      let again = asks next (subst (λ (x : Carry). Resumes o (context f level plan) pick.func x (done_of child) next) k (subst (λ (x : CallNode). Resumes o (context f level plan) pick.func c (done_of x) next) m resumed)) in
+      let again = asks next from to (subst (λ (x : Carry). Resumes o (context f level plan) pick.func x (done_of child) from next to) k (subst (λ (x : CallNode). Resumes o (context f level plan) pick.func c (done_of x) from next to) m resumed)) in
       absurd (dropped_by requests again.0 again.1 again.2 none)
 
   -- a function that asks again after the answer to its first request has a second child, unless the budget was spent in the first
   pub second_dropped : (request : CallRequest) (carry : Carry) (carries : List Carry) (child : CallNode) (end : End) (cut : Bool) →
-      ((next : NativeStep) → Resumes o (context f level plan) pick.func carry (done_of child) next → (again : CallRequest) × (kept : Carry) × (next ≡ Ask again kept)) →
+      ((next : NativeStep) (from to : Moment B) → Resumes o (context f level plan) pick.func carry (done_of child) from next to → (again : CallRequest) × (kept : Carry) × (next ≡ Ask again kept)) →
       Requests o f level call plan pick (Ask request carry) carries (child ∷ []) end cut → cut ≡ true
   second_dropped request carry carries child end cut asks requests = second_by requests request carry child asks refl refl
 

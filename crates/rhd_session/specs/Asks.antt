@@ -32,9 +32,13 @@ script_asks name (Plain args) = script name (length args) ∷ []
 abbrev pub native_ask : Bytes → CallShape → Asked
 native_ask name shape = native name (map tag_of (all_args shape))
 
--- all of them in order: scripts, where they are allowed, and then natives
+-- the scripts where they are allowed
+abbrev pub allowed_asks : Bytes → Bool → CallShape → List Asked
+allowed_asks name native_only shape = if native_only then [] else script_asks name shape
+
+-- all of them in order: scripts, and then natives
 abbrev pub asks : Bytes → Bool → CallShape → List Asked
-asks name native_only shape = (if native_only then [] else script_asks name shape) ++ native_ask name shape ∷ []
+asks name native_only shape = allowed_asks name native_only shape ++ native_ask name shape ∷ []
 
 abbrev pub pick_unqualified : EngineLists → Frame → Bytes → Bool → CallShape → Option Pick
 pick_unqualified e f name native_only shape = first_of (looked e f) (asks name native_only shape)

@@ -7,7 +7,9 @@ ghost use Rattle.rhd_session.specs.declared.machine.Hand.TheVariants.{Asked, Ans
 ghost use Rattle.rhd_session.specs.Engine.{Frame};
 ghost use Rattle.rhd_session.specs.World.{Moment, moment};
 ghost use Rattle.rhd_session.specs.Objects.{objects_of};
+ghost use Rattle.rhd_value.specs.Firsts.{first_of};
 ghost use Rattle.rhd_session.specs.Held.{func_held};
+ghost use Rattle.rhd_session.specs.Asks.{looked, allowed_asks, native_ask};
 ghost use Rattle.rhd_session.specs.Plans.{plan_of};
 ghost use Rattle.rhd_session.specs.NotFound.{not_found};
 ghost use Rattle.rhd_session.specs.Ends.{failed};
@@ -29,7 +31,7 @@ use crate::session::Session;
 use rhd_func::{
     Bodies, CallDone, CallRequest, CallShape, Carry, NativeCallContext, NativeStep, RhaiFunc,
 };
-use rhd_value::{EvalAltResult, OutOfMemory};
+use rhd_value::{EvalAltResult, OutOfMemory, Text};
 use std::alloc::Global;
 
 impl Session {
@@ -138,19 +140,47 @@ impl Session {
         }
     }
 
-    /// The function that a call means.
+    /// The function that a call means: of the scripts, where they are allowed, and then of the
+    /// natives.
     fn pick(&self, alloc: Global, call: &CallRequest) -> Result<Option<Pick>, OutOfMemory>
         ensures pick { IfOk result (λ pick. pick ≡ pick_of (world_of info self.now).engine (frame_of self.now) (plan_of call.now)) }
         ensures held { IfOk result (λ pick. IfSome pick (λ p. func_held (length (natives_of self.now).items.items) p.func ≡ true)) }
     {
-        if !native_only_of(call) {
-            let key = script_key_of(alloc, name_of(call), shape_of(call))?;
-            let pick = find(alloc, &self.libraries, &self.global, &key)?;
-            if pick.is_some() {
-                return Ok(pick);
-            }
+        let name = name_of(call);
+        let shape = shape_of(call);
+        match self.pick_script(alloc, name, native_only_of(call), shape)? {
+            Some(pick) => Ok(Some(pick)),
+            None => self.pick_native(alloc, name, shape),
         }
-        let key = native_key_of(alloc, name_of(call), shape_of(call))?;
+    }
+
+    /// The script that a call means, where scripts are allowed.
+    fn pick_script(
+        &self,
+        alloc: Global,
+        name: &Text,
+        native_only: bool,
+        shape: &CallShape,
+    ) -> Result<Option<Pick>, OutOfMemory>
+        ensures { IfOk result (λ pick. pick ≡ first_of (looked (world_of info self.now).engine (frame_of self.now)) (allowed_asks name.now native_only shape.now)) }
+    {
+        if native_only {
+            return Ok(None);
+        }
+        let key = script_key_of(alloc, name, shape)?;
+        find(alloc, &self.libraries, &self.global, &key)
+    }
+
+    /// The native that a call means.
+    fn pick_native(
+        &self,
+        alloc: Global,
+        name: &Text,
+        shape: &CallShape,
+    ) -> Result<Option<Pick>, OutOfMemory>
+        ensures { IfOk result (λ pick. pick ≡ looked (world_of info self.now).engine (frame_of self.now) (native_ask name.now shape.now)) }
+    {
+        let key = native_key_of(alloc, name, shape)?;
         find(alloc, &self.libraries, &self.global, &key)
     }
 

@@ -80,9 +80,9 @@ fn find_library(
     while number > 0 {
         number -= 1;
         let library = libs[number].module();
-        let found = pick_at(alloc, library, Layer::Library(number as u64), key)?;
-        if found.is_some() {
-            return Ok(found);
+        match pick_at(alloc, library, Layer::Library(number as u64), key)? {
+            Some(pick) => return Ok(Some(pick)),
+            None => {}
         }
     }
     Ok(None)
@@ -97,9 +97,8 @@ pub fn find(
 ) -> Result<Option<Pick>, OutOfMemory>
     ensures { IfOk result (λ found. found ≡ first_of (pick_at key.now) (places libs.now ++ own_place Layer.Global (0, global.now) ∷ [])) }
 {
-    let found = find_library(alloc, libs, key)?;
-    if found.is_some() {
-        return Ok(found);
+    match find_library(alloc, libs, key)? {
+        Some(pick) => Ok(Some(pick)),
+        None => pick_at(alloc, global, Layer::Global(0), key),
     }
-    pick_at(alloc, global, Layer::Global(0), key)
 }

@@ -4,7 +4,7 @@ use Rattle.rhd_session.specs.Objects.{infos_of}
 use Rattle.rhd_session.specs.Of.{world_of}
 use Rattle.rhd_session.proofs.Registers.{unknown, known}
 use Rattle.rhd_session.proofs.HeldLaws.{stays_either, on_err}
-use Rattle.rhd_session.proofs.session.Session.register.Goals as goal
+use Rattle.rhd_session.proofs.session.Session.register_fn.Goals as goal
 
 pub returns-in_default-clause-applied : goal.returns-in_default-clause-applied
 unfolding world_of infos_of
