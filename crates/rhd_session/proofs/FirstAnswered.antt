@@ -17,7 +17,7 @@ use Rattle.rhd_session.specs.Decisions.{ends, runs, pick_of, decided, refusal, u
 use Rattle.rhd_session.specs.Seen.{seen, unbegun_node}
 use Rattle.rhd_session.specs.Runs.{Runs, not_begun, ended, finished, cut_short}
 use Rattle.rhd_session.proofs.Found.{pick_asks}
-use Rattle.rhd_session.specs.FirstAsks.{IsAnsweredFirst, IsUnanswered, EndsAlone, missing_end, asks_of}
+use Rattle.rhd_session.specs.FirstAsks.{IsAnsweredFirst, EndsAlone, asks_of}
 
 -- what is found first is the first that is found
 pub first_is-first : {A B : Type 0} (f : A → Option B) (y : B) (xs : List A) → first_of f xs ≡ Some y → IsFirst f y xs

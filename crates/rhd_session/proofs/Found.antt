@@ -1,23 +1,19 @@
 -- What is refused, what is picked, and what is decided by it.
-use Rattle.std.proofs.Common.{◌≡◌, ◌<◌, ◌≤◌, ℕ, Bool, false, ltb, List, [], ◌∷◌, ◌++◌, length, map, true, refl, sym, ap, subst, ◌∙◌}
+use Rattle.std.proofs.Common.{◌≡◌, ◌<◌, ◌≤◌, ℕ, Bool, false, ltb, List, [], ◌∷◌, ◌++◌, length, map, true, refl, sym, ap, ◌∙◌}
 use Rattle.std.specs.Prelude.{Option, Some, None, IfSome, option_map}
 use Rattle.std.specs.Option.{option_or}
 use Rattle.std.proofs.lemmas.Bool.{lt-ltb, le-ltb, ltb-false}
 use Rattle.rhd_value.specs.Firsts.{first_of, first_some, where_holds}
 use Rattle.rhd_value.specs.declared.fault.EvalAltResult.TheVariants.{ErrorStackOverflow}
-use Rattle.rhd_value.specs.Kinds.{tag_of}
 use Rattle.rhd_func.specs.declared.request.CallRequest.{CallRequest}
 use Rattle.rhd_func.specs.declared.request.CallRequest.TheVariants.{Named}
 use Rattle.rhd_value.specs.Tree.{Bytes}
 use Rattle.rhd_func.specs.declared.request.CallShape.{CallShape}
 use Rattle.rhd_func.specs.declared.request.CallShape.TheVariants.{Plain}
 use Rattle.rhd_func.specs.Shapes.{all_args, given, pos_of}
-use Rattle.rhd_func.specs.Funcs.{native_of}
 use Rattle.rhd_module.specs.declared.key.Key.{Key}
 use Rattle.rhd_module.specs.declared.key.Key.TheVariants.{Script}
-use Rattle.rhd_module.specs.declared.declaration.Declaration.{Declaration}
 use Rattle.rhd_module.specs.Tree.{ModuleTree}
-use Rattle.rhd_module.specs.Shown.{own_decl}
 use Rattle.rhd_session.specs.declared.pick.Pick.{Pick}
 use Rattle.rhd_session.specs.declared.pick.Layer.TheVariants.{Global}
 use Rattle.rhd_session.specs.Engine.{EngineLists, Frame}
@@ -28,8 +24,9 @@ use Rattle.rhd_session.specs.Asks.{Asked, asked_key, looked, allowed_asks, nativ
 use Rattle.rhd_session.specs.FirstAsks.{asks_of}
 use Rattle.rhd_session.specs.NotFound.{not_found}
 use Rattle.rhd_session.specs.Plans.{by_name, Plan, plan_of}
+use Rattle.rhd_session.specs.Entered.{entered}
 use Rattle.rhd_session.specs.Ends.{End, failed}
-use Rattle.rhd_session.specs.Decisions.{Decision, ends, runs, pick_of, decided, refusal, unless_refused, decision}
+use Rattle.rhd_session.specs.Decisions.{ends, runs, pick_of, decided, refusal, unless_refused, decision}
 use Rattle.rhd_session.proofs.HeldLaws.{found_is_held}
 
 -- the pick is the first ask's that is found
@@ -76,6 +73,10 @@ found_by e f m libs key same o one l k is = is ∙ (λ i. first_of (pick_at (k i
 
 pub script_asked : (e : EngineLists) (f : Frame) (name : Bytes) (native_only : Bool) (shape : CallShape) (o : Option Pick) → native_only ≡ false → o ≡ found e f (Script None name (length (all_args shape))) → o ≡ first_of (looked e f) (allowed_asks name native_only shape)
 script_asked e f name native_only (Plain args) o only is = is ∙ sym (ap (λ (b : Bool). first_of (looked e f) (allowed_asks name b (Plain args))) only ∙ or_none (found e f (Script None name (length args))))
+
+-- the level of a frame doesn't matter to it
+pub pick_entered : (e : EngineLists) (f : Frame) (n : ℕ) (call : CallRequest) → pick_of e (entered f n) (plan_of call) ≡ pick_of e f (plan_of call)
+pick_entered e f n (Named name native_only shape pos) = refl
 
 -- the position of a request is that of its plan
 pub plan_pos : (call : CallRequest) → (plan_of call).pos ≡ pos_of call

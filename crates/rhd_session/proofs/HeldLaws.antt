@@ -1,5 +1,5 @@
 -- The natives that modules name stay held, and what a key finds is held.
-use Rattle.std.proofs.Common.{◌≡◌, ◌<◌, ℕ, ◌+◌, Bool, true, false, cond, ◌&&◌, List, [], ◌∷◌, ◌++◌, length, map, ltb, refl, sym, ap, subst, ◌∙◌}
+use Rattle.std.proofs.Common.{◌≡◌, ◌<◌, ℕ, ◌+◌, Bool, true, false, cond, ◌&&◌, List, [], ◌∷◌, ◌++◌, length, map, refl, sym, ap, ◌∙◌}
 use Rattle.std.specs.Prelude.{zero, suc, Option, Some, None, Result, Ok, Err, OnOk, OnErr, slice_get, slice_set, reverse, option_map}
 use Rattle.std.specs.List.{list_all, enumerate_from}
 use Rattle.std.specs.Map.{lookup}
@@ -11,20 +11,19 @@ use Rattle.std.proofs.lemmas.List.Folds.{list_all-append}
 use Rattle.rhd_value.specs.declared.tag.FnId.{FnId}
 use Rattle.rhd_value.specs.Firsts.{first_of}
 use Rattle.rhd_func.specs.declared.func.RhaiFunc.{RhaiFunc}
-use Rattle.rhd_func.specs.declared.func.ScriptFuncDef.{ScriptFuncDef}
 use Rattle.rhd_func.specs.Funcs.{native_of}
 use Rattle.rhd_module.specs.declared.key.Key.{Key}
 use Rattle.rhd_module.specs.declared.declaration.Declaration.{Declaration}
 use Rattle.rhd_module.specs.Keys.{key_eq}
 use Rattle.rhd_module.specs.Tree.{ModuleTree, Pairs}
 use Rattle.rhd_module.specs.Shown.{own_decl}
-use Rattle.rhd_module.specs.Registered.{put, with_decl, script_key, script_decl}
+use Rattle.rhd_module.specs.Registered.{put, with_decl}
 use Rattle.rhd_session.specs.Held.{is_below, func_held, names_held, all_held}
 use Rattle.rhd_session.specs.declared.pick.Layer.{Layer}
 use Rattle.rhd_session.specs.declared.pick.Layer.TheVariants.{Library, Global}
 use Rattle.rhd_session.specs.declared.pick.Pick.{Pick}
 use Rattle.rhd_session.specs.Engine.{EngineLists, Frame}
-use Rattle.rhd_session.specs.Searched.{Place, own_place, libraries, global_modules, searched, pick_at, found}
+use Rattle.rhd_session.specs.Searched.{Place, own_place, global_modules, pick_at, found}
 
 abbrev is_held : ℕ → Declaration → Bool
 is_held n d = func_held n d.func

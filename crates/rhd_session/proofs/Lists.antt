@@ -38,13 +38,14 @@ module _ {B : Type 0} (o : Objects B) where
   answered_length w f s (c ∷ commands) [] w2 f2 s2 a = absurd a
 
   -- stopped after as many commands as replies
-  pub stopped_at : (w : World) (f : Frame) (s : Moment B) (commands : List Command) (i : ℕ) (replies now : List Reply) (w1 w2 : World) (f2 : Frame) (s1 : Moment B) →
-      i ≤ length commands → now ≡ replies → w2 ≡ w1 → Answered o w f s (take i commands) replies w1 f2 s1 → Answered o w f s (take (length now) commands) now w2 f2 s1
-  stopped_at w f s commands i replies now w1 w2 f2 s1 h e n a =
-      let l : i ≡ length now = omega (arith, answered_length w f s (take i commands) replies w1 f2 s1 a, length-take i commands, ap length e) in
+  pub stopped_at : (w : World) (f : Frame) (s : Moment B) (commands : List Command) (i : ℕ) (replies now : List Reply) (w1 w2 : World) (f1 f2 : Frame) (s1 : Moment B) →
+      i ≤ length commands → now ≡ replies → w2 ≡ w1 → f2 ≡ f1 → Answered o w f s (take i commands) replies w1 f1 s1 → Answered o w f s (take (length now) commands) now w2 f2 s1
+  stopped_at w f s commands i replies now w1 w2 f1 f2 s1 h e n m a =
+      let l : i ≡ length now = omega (arith, answered_length w f s (take i commands) replies w1 f1 s1 a, length-take i commands, ap length e) in
       subst (λ (k : ℕ). Answered o w f s (take k commands) now w2 f2 s1) l
       (subst (λ (r : List Reply). Answered o w f s (take i commands) r w2 f2 s1) (sym e)
-      (subst (λ (x : World). Answered o w f s (take i commands) replies x f2 s1) (sym n) a))
+      (subst (λ (x : World). Answered o w f s (take i commands) replies x f2 s1) (sym n)
+      (subst (λ (x : Frame). Answered o w f s (take i commands) replies w1 x s1) (sym m) a)))
 
   -- one turn of the loop
   pub turn : (w : World) (f : Frame) (s : Moment B) (commands : List Command) (i : ℕ) (command : Command) (replies roomy now : List Reply) (reply : Reply) (w1 w2 : World) (f1 f2 : Frame) (s1 s2 : Moment B) →

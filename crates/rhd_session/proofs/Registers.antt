@@ -1,6 +1,6 @@
 -- A registration is answered by its first cause of a refusal, or is done.
-use Rattle.std.proofs.Common.{◌≡◌, ◌≤◌, ◌<◌, ℕ, List, [], ◌∷◌, ◌++◌, length, map, refl, sym, ap, subst, ◌∙◌, inl, inr}
-use Rattle.std.specs.Prelude.{Option, Some, None, slice_get, option_map}
+use Rattle.std.proofs.Common.{◌≡◌, ◌≤◌, ◌<◌, ℕ, List, [], ◌∷◌, ◌++◌, length, map, refl, sym, ap, subst, ◌∙◌, inl, inr, get_or, arith}
+use Rattle.std.specs.Prelude.{zero, suc, Option, Some, None, slice_get, slice_set, option_map}
 use Rattle.std.proofs.lemmas.Bool.{lt-ltb, le-ltb}
 use Rattle.std.proofs.lemmas.Option.{slice_get_cases, slice_get_within, slice_get-map}
 use Rattle.rhd_value.specs.Tree.{Bytes}
@@ -16,6 +16,7 @@ use Rattle.rhd_value.specs.Firsts.{first_of}
 use Rattle.rhd_session.specs.declared.command.Command.{Command}
 use Rattle.rhd_session.specs.declared.command.ModuleId.{ModuleId}
 use Rattle.rhd_session.specs.declared.command.Command.TheVariants as commands
+use Rattle.rhd_session.specs.declared.reply.Reply.{Reply}
 use Rattle.rhd_session.specs.declared.reply.Reply.TheVariants.{Done, Made, Refused}
 use Rattle.rhd_session.specs.Engine.{Frame}
 use Rattle.rhd_session.specs.World.{World}
@@ -125,7 +126,23 @@ pop_done w f libs m is =
     let left : but_last f.libs ≡ libs = ap but_last is ∙ but_last_push libs m in
     subst (λ (ms : List ModuleTree). Applied w f commands.PopLib Done w (record f { libs = ms })) left (done none refl)
 
-pub pop_refused : (w : World) (f : Frame) (n h : ℕ) → f.libs ≡ [] → n ≡ 0 → h ≡ 0 → Applied w f commands.PopLib (Refused (UnknownNumber n h)) w f
-pop_refused w f n h none en eh =
+pub pop_refused : (w : World) (f f2 : Frame) → f.libs ≡ [] → f2 ≡ f → Applied w f commands.PopLib (Refused (UnknownNumber 0 0)) w f2
+pop_refused w f f2 none same =
     let found : cause w f commands.PopLib ≡ Some (UnknownNumber 0 0) = ap (λ (ms : List ModuleTree). first_of unknown_of (pop_operand ms)) none in
-    refused (found ∙ (λ i. Some (UnknownNumber (sym en i) (sym eh i))))
+    subst (λ (x : Frame). Applied w f commands.PopLib (Refused (UnknownNumber 0 0)) w x) (sym same) (refused found)
+
+-- an equal reply
+pub same_reply : (w w2 : World) (f f2 : Frame) (command : Command) (reply same : Reply) → reply ≡ same → Applied w f command same w2 f2 → Applied w f command reply w2 f2
+same_reply w w2 f f2 command reply same e a = subst (λ (r : Reply). Applied w f command r w2 f2) (sym e) a
+
+-- what stands at a place
+pub at_place : (ms : List ModuleTree) (i : ℕ) (m : ModuleTree) → i < length ms → m ≡ get_or ms i m → slice_get ms i ≡ Some m
+at_place [] i m h is = absurd (omega arith)
+at_place (x ∷ ms) zero m h is = ap Some (sym is)
+at_place (x ∷ ms) (suc i) m h is = at_place ms i m (omega arith) is
+
+-- the same put there changes nothing
+pub set_same : (ms : List ModuleTree) (i : ℕ) (m new : ModuleTree) → i < length ms → m ≡ get_or ms i m → new ≡ m → slice_set ms i new ≡ ms
+set_same [] i m new h is e = absurd (omega arith)
+set_same (x ∷ ms) zero m new h is e = ap (λ (y : ModuleTree). y ∷ ms) (e ∙ is)
+set_same (x ∷ ms) (suc i) m new h is e = ap (λ (ns : List ModuleTree). x ∷ ns) (set_same ms i m new (omega arith) is e)

@@ -1,16 +1,15 @@
 -- What each step of the machine makes of a call, and of the stack.
 use Rattle.std.proofs.Common.{◌≡◌, ℕ, ◌+◌, ◌<◌, ◌≤◌, Bool, true, false, List, [], ◌∷◌, ◌++◌, refl, sym, subst, ap, ◌∙◌, arith, length}
-use Rattle.std.specs.Prelude.{Option, None, Some, Ok, Err}
+use Rattle.std.specs.Prelude.{Option, Some, Ok, Err}
 use Rattle.rhd_value.specs.Tree.{Tree}
 use Rattle.rhd_value.specs.declared.fault.EvalAltResult.{EvalAltResult}
 use Rattle.std.proofs.lemmas.List.{same_from_push, length_push}
 use Rattle.rhd_func.specs.declared.request.CallRequest.{CallRequest}
 use Rattle.rhd_func.specs.declared.request.Carry.{Carry}
-use Rattle.rhd_func.specs.declared.request.CallDone.{CallDone}
 use Rattle.rhd_func.specs.declared.request.NativeStep.{NativeStep}
 use Rattle.rhd_func.specs.declared.request.NativeStep.TheVariants.{Done, Failed, Ask}
 use Rattle.rhd_session.specs.Engine.{Frame}
-use Rattle.rhd_session.specs.World.{World, Objects, Moment, moment, one_begun}
+use Rattle.rhd_session.specs.World.{World, Objects, Moment, one_begun}
 use Rattle.rhd_session.specs.declared.pick.Pick.{Pick}
 use Rattle.rhd_session.specs.declared.node.CallNode.{CallNode}
 use Rattle.rhd_session.specs.declared.machine.Work.{Work}
@@ -27,7 +26,7 @@ use Rattle.rhd_session.specs.Seen.{seen, begun_node, unbegun_node, cut_end, done
 use Rattle.rhd_session.specs.Decisions.{runs, decision}
 use Rattle.rhd_session.specs.Entered.{context, entered}
 use Rattle.rhd_session.specs.Steps.{Starts, Resumes}
-use Rattle.rhd_session.specs.Runs.{Runs, Steps, received_by, not_begun, finished, cut_short, none_yet, one_more}
+use Rattle.rhd_session.specs.Runs.{Runs, Steps, received_by, not_begun, finished, cut_short, one_more}
 use Rattle.rhd_session.specs.Waits.{Kept, kept, keeping, Open, function_waits, Settled, asks, ends_with, Comes_to, it_waits, it_is_answered, Waits, lowest, above, Holds, holds_request, holds_answer, Going, Cutting, Put, put_frame, put_node}
 use Rattle.rhd_session.proofs.Found.{runs_within, runs_plan, runs_is_held}
 

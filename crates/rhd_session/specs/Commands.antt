@@ -6,7 +6,6 @@ use Rattle.rhd_value.specs.declared.tag.FnId.{FnId}
 use Rattle.rhd_func.specs.Natives.{NativeInfo, info_of}
 use Rattle.rhd_module.specs.declared.fault.DeclFault.{DeclFault}
 use Rattle.rhd_module.specs.declared.fault.DeclFault.TheVariants.{UnknownNumber}
-use Rattle.rhd_func.specs.declared.func.ScriptFuncDef.{ScriptFuncDef}
 use Rattle.rhd_module.specs.Tree.{ModuleTree, empty_module}
 use Rattle.rhd_module.specs.Registered.{with_decl, native_key, native_decl, script_key, script_decl}
 use Rattle.rhd_session.specs.declared.command.Command.{Command}

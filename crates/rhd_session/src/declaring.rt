@@ -120,10 +120,11 @@ impl Session {
         ensures begun { calls_begun_of self.new ≡ calls_begun_of self.old }
         ensures count { modules_of self.new ≡ modules_of self.old }
     {
-        let Some(found) = self.modules.get(id.0 as usize) else {
+        let at = id.0 as usize;
+        if at >= self.modules.len() {
             return Ok(refused(id.0, self.modules.len()));
-        };
-        let library = found.dup(alloc)?;
+        }
+        let library = self.modules[at].dup(alloc)?;
         self.libraries.push(library)?;
         Ok(Reply::Done)
     }
@@ -135,9 +136,9 @@ impl Session {
         ensures begun { calls_begun_of self.new ≡ calls_begun_of self.old }
         ensures count { modules_of self.new ≡ modules_of self.old }
     {
-        match self.libraries.pop() {
-            Some(_) => Reply::Done,
-            None => refused(0, 0),
-        }
+        let Some(_library) = self.libraries.pop() else {
+            return refused(0, 0);
+        };
+        Reply::Done
     }
 }

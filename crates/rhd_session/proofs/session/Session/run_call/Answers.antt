@@ -1,9 +1,8 @@
-use Rattle.std.proofs.Common.{rules, arith, ◌≡◌, ◌≤◌, length, true, false, ◌∙◌, ap, refl}
+use Rattle.std.proofs.Common.{rules, arith, ◌≡◌, length, true, false, refl}
 use Rattle.std.proofs.lemmas.Result.{IfOk-weaker}
 use Rattle.std.proofs.lemmas.List.{nil_from_length}
 use Rattle.rhd_session.specs.World.{moment}
 use Rattle.rhd_session.specs.Of.{world_of, frame_of}
-use Rattle.rhd_session.specs.Seen.{unbegun_node}
 use Rattle.rhd_session.proofs.HeldLaws.{both}
 use Rattle.rhd_session.proofs.Stack.{spent, begins_with, answer_ends, top_held, stack_limited}
 use Rattle.rhd_session.proofs.session.Session.run_call.Goals as goal
@@ -62,7 +61,7 @@ pub answer-requires : goal.answer-requires
 unfolding world_of
 answer-requires g c =
     let going = rw (c.in-Answered.is, c.in-Some.ensures.items) at c.loop-hand.invariant.going in
-    top_held _ _ c.pop.new.self.items c.in-Some.frame (frame_of c.args.self.now) c.args.call (moment c.args.begun.now c.args.bodies.now) (moment c.loop-hand.begun c.loop-hand.bodies) _ (both _ _ c.args.self.now.held refl) c.args.self.now.libraries_held going
+    top_held _ _ c.pop.new.self.items c.in-Some.frame (frame_of c.args.self.now) c.args.call (moment c.args.begun.now c.args.bodies.now) (moment c.loop-hand.begun c.loop-hand.bodies) _ _ (both _ _ c.args.self.now.held refl) c.args.self.now.libraries_held going
 
 pub loop-hand-preserved : goal.loop-hand-preserved
 loop-hand-preserved g c =
