@@ -4,6 +4,9 @@ pub mod NumberLaws
 pub mod Agrees
 pub mod WordLaws
 pub mod ListLaws
+pub mod ByteLaws
+pub mod QuoteLaws
+pub mod ValueLaws
 pub mod OperandLaws
 pub mod RowLaws
 pub mod SessionLaws

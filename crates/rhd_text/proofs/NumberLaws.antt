@@ -93,6 +93,12 @@ pub tells_text : {X E : Type 0} (Q : X → Type 0) (P : E → Type 0) (r : Resul
 tells_text Q P (Ok x) bs h = sym (is_utf8-from_IsUtf8 bs h.1)
 tells_text Q P (Err e) bs h = not_true (is_utf8 bs) (λ t. h.0 (IsUtf8-from_is_utf8 bs t))
 
+pub is_text : (bs : List ℕ) → IsUtf8 bs → is_utf8 bs ≡ true
+is_text bs h = is_utf8-from_IsUtf8 bs h
+
+pub is_no_text : (bs : List ℕ) → ¬ (IsUtf8 bs) → is_utf8 bs ≡ false
+is_no_text bs h = sym (not_true (is_utf8 bs) (λ t. h (IsUtf8-from_is_utf8 bs t)))
+
 -- ---- names
 
 lower_is_ascii : (c : ℕ) → is_ascii_lowercase c ≡ true → c < 128

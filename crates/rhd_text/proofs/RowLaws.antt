@@ -8,7 +8,7 @@ use Rattle.rhd_text.specs.declared.place.Place.{Place}
 use Rattle.rhd_text.specs.declared.line.Line.{Line}
 use Rattle.rhd_text.specs.declared.line.Line.TheVariants.{Skipped, Says}
 use Rattle.rhd_text.specs.declared.keyword.Keyword.{Keyword}
-use Rattle.rhd_text.specs.declared.keyword.Keyword.TheVariants.{Register, Call}
+use Rattle.rhd_text.specs.declared.keyword.Keyword.TheVariants.{Register, Call, CallNative}
 use Rattle.rhd_text.specs.Bytes.{is_blank}
 use Rattle.rhd_text.specs.Rows.{Operand, Meaning, From, row, keyword, keywords}
 use Rattle.rhd_text.specs.Spans.{blanks, bare}
@@ -57,11 +57,13 @@ keyword_complete : (k : Keyword) → keyword_of (keyword k) ≡ Some k
 unfolding keyword_in
 keyword_complete Register = refl
 keyword_complete Call = refl
+keyword_complete CallNative = refl
 
 -- a keyword begins no comment
 keyword_shows : (k : Keyword) (rest : List ℕ) → begins_no_command (keyword k ++ rest) ≡ false
 keyword_shows Register rest = refl
 keyword_shows Call rest = refl
+keyword_shows CallNative rest = refl
 
 -- ---- a line
 

@@ -1,11 +1,8 @@
 -- BYTES AND WORDS: which bytes part words, and what a word may say.
 use Rattle.std.specs.Prelude.{ℕ, ◌^◌, Bool, true, false, ◌&&◌, ◌||◌, not, List, [], ◌∷◌, length, drop, Option, Some, None, ℤ, pos, neg_ℤ, nat_le, nat_lt, ◌==◌, slice_index, if◌then◌else◌}
-use Rattle.std.specs.Option.{option_map}
 use Rattle.std.specs.List.{list_all}
 use Rattle.std.specs.Char.{is_ascii_digit, is_ascii_lowercase}
 use Rattle.std.specs.Str.Parse.{digits_value}
-use Rattle.rhd_value.specs.Tree.{Tree, integer}
-use Rattle.rhd_value.specs.Kinds.{plain}
 
 -- a space or a tab
 abbrev pub is_blank : ℕ → Bool
@@ -27,6 +24,17 @@ may_end (b ∷ bytes) = is_blank b || is_bracket b
 -- the first byte
 abbrev pub begins : ℕ → List ℕ → Bool
 begins b bytes = slice_index bytes 0 == b
+
+-- the byte that a backslash and this byte stand for
+abbrev pub unescaped : ℕ → Option ℕ
+unescaped b =
+    if b == 92 then Some 92
+    else (if b == 34 then Some 34
+    else (if b == 39 then Some 39
+    else (if b == 110 then Some 10
+    else (if b == 116 then Some 9
+    else (if b == 114 then Some 13
+    else None)))))
 
 -- one lower-case letter, and digits, possibly none
 abbrev pub is_name : List ℕ → Bool
@@ -55,7 +63,3 @@ fitting_int w =
 -- the integer of any number of digits with or without `-`, where it has 64 bits
 unfoldable pub int_of : List ℕ → Option ℤ
 int_of w = if is_signed_digits w then fitting_int w else None
-
--- the integer as a value without marks
-abbrev pub value_of : List ℕ → Option Tree
-value_of w = option_map (λ z. plain (integer z)) (int_of w)

@@ -6,14 +6,14 @@ use Rattle.rhd_text.specs.declared.place.Place.{Place}
 use Rattle.rhd_text.specs.declared.line.Line.{Line}
 use Rattle.rhd_text.specs.declared.line.Line.TheVariants.{Skipped, Says}
 use Rattle.rhd_text.specs.declared.keyword.Keyword.{Keyword}
-use Rattle.rhd_text.specs.Rows.{Operand, NAME, NUM, INTS, Meaning, From, row, keyword}
+use Rattle.rhd_text.specs.Rows.{Operand, NAME, NUM, VALUES, Meaning, From, row, keyword}
 use Rattle.rhd_text.specs.Spans.{Span, blanks, bare, name, number, value, each}
 
 -- how each kind of operand is written
 abbrev pub operand : (o : Operand) → Meaning o → Span
 operand NAME = name
 operand NUM = number
-operand INTS = λ ts bytes rest. each value ts bytes rest × blanks rest []
+operand VALUES = λ ts bytes rest. each value ts bytes rest × blanks rest []
 
 -- the operands of a row, to the end of the line, where the row gives this of what they say
 abbrev pub operands : {R : Type 0} (os : List Operand) → From os (Option R) → R → List ℕ → Type 0

@@ -6,14 +6,14 @@ use Rattle.rhd_text.specs.declared.place.Place.{Place}
 use Rattle.rhd_text.specs.declared.line.Line.{Line}
 use Rattle.rhd_text.specs.declared.line.Line.TheVariants.{Skipped, Says}
 use Rattle.rhd_text.specs.declared.keyword.Keyword.{Keyword}
-use Rattle.rhd_text.specs.Rows.{Operand, NAME, NUM, INTS, Meaning, From, row, keyword, keywords}
+use Rattle.rhd_text.specs.Rows.{Operand, NAME, NUM, VALUES, Meaning, From, Row, row, keyword, keywords}
 use Rattle.rhd_text.specs.Reading.{◌>>=◌, skip_blanks, is_end, word_at, name_at, num_at, values_at}
 
 -- how each kind of operand is read
 abbrev pub operand_at : (o : Operand) → List ℕ → Option (Meaning o × List ℕ)
 operand_at NAME bytes = name_at bytes
 operand_at NUM bytes = num_at bytes
-operand_at INTS bytes = values_at bytes
+operand_at VALUES bytes = values_at bytes
 
 -- the operands of a row, to the end of the line
 abbrev pub operands_at : {R : Type 0} (os : List Operand) → From os (Option R) → List ℕ → Option R
@@ -22,9 +22,13 @@ operands_at (o ∷ os) says bytes = do
   x ← operand_at o bytes
   operands_at os (says x.0) x.1
 
+-- what a row says
+abbrev pub row_says : Place → Row → List ℕ → Option Command
+row_says place r bytes = operands_at r.operands (r.command place) bytes
+
 -- what stands after a keyword
 unfoldable pub row_at : Place → Keyword → List ℕ → Option Command
-row_at place k bytes = operands_at (row k).operands ((row k).command place) bytes
+row_at place k bytes = row_says place (row k) bytes
 
 -- the first of these keywords that is spelled so
 unfoldable pub keyword_in : List Keyword → List ℕ → Option Keyword

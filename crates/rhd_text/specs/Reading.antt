@@ -1,8 +1,10 @@
 -- How operands are read, from the left.
-use Rattle.std.specs.Prelude.{ℕ, zero, suc, ◌&&◌, Bool, List, [], ◌∷◌, ◌++◌, length, take, drop, Option, Some, None, nat_lt, ◌==◌, if◌then◌else◌, option_and_then}
+use Rattle.std.specs.Prelude.{ℕ, zero, suc, ◌&&◌, Bool, true, false, List, [], ◌∷◌, ◌++◌, length, take, drop, Option, Some, None, nat_lt, ◌==◌, if◌then◌else◌, option_and_then}
 use Rattle.std.specs.List.{prefix_len}
-use Rattle.rhd_value.specs.Tree.{Tree}
-use Rattle.rhd_text.specs.Bytes.{is_blank, is_word_byte, may_end, is_name, num_of, value_of}
+use Rattle.std.specs.Str.{is_utf8}
+use Rattle.rhd_value.specs.Tree.{Tree, unit, integer, text}
+use Rattle.rhd_value.specs.Kinds.{plain}
+use Rattle.rhd_text.specs.Bytes.{is_blank, is_word_byte, may_end, begins, unescaped, is_name, num_of, int_of}
 
 -- what is read first, and then with it
 infixl 10 ◌>>=◌
@@ -42,12 +44,72 @@ num_at bytes = do
   n ← num_of w.0
   Some (n, w.1)
 
--- the value of the next word
+-- whether this byte comes next, after any blanks
+abbrev pub closes : ℕ → List ℕ → Bool
+closes b bytes = begins b (skip_blanks bytes)
+
+-- what stands after the next byte that is no blank
+abbrev pub after_bracket : List ℕ → List ℕ
+after_bracket bytes = drop 1 (skip_blanks bytes)
+
+-- ---- quoted texts
+
+abbrev pub put : Option ℕ → Option (List ℕ × List ℕ) → Option (List ℕ × List ℕ)
+put b read = do
+  c ← b
+  r ← read
+  Some (c ∷ r.0, r.1)
+
+abbrev pub plain_byte : ℕ → List ℕ → Option (List ℕ × List ℕ) → Option (List ℕ × List ℕ)
+plain_byte b bytes read = if b == 34 then Some ([], bytes) else (if b == 92 then read else put (Some b) read)
+
+-- a text up to the quotation mark that ends it; escaped says whether a backslash stands before the bytes
+abbrev pub text_at : Bool → Parse (List ℕ)
+text_at escaped [] = None
+text_at true (b ∷ bytes) = put (unescaped b) (text_at false bytes)
+text_at false (b ∷ bytes) = plain_byte b bytes (text_at (b == 92) bytes)
+
+-- these bytes, where they are UTF-8
+abbrev pub text_of : List ℕ → Option (List ℕ)
+text_of w = if is_utf8 w then Some w else None
+
+-- the rest of a quoted text, after the quotation mark that begins it
+unfoldable pub quoted_at : Parse (List ℕ)
+quoted_at bytes = do
+  t ← text_at false bytes
+  if may_end t.1 then (do
+    s ← text_of t.0
+    Some (s, t.1)) else None
+
+-- ---- values
+
+-- the rest of `()`, after its first byte
+abbrev pub unit_at : Parse Tree
+unit_at bytes = if closes 41 bytes then Some (plain unit, after_bracket bytes) else None
+
+-- a run as an integer
+abbrev pub int_at : Parse Tree
+int_at bytes = do
+  w ← run_at bytes
+  z ← int_of w.0
+  Some (plain (integer z), w.1)
+
+-- the rest of a quoted text as a value
+abbrev pub text_value_at : Parse Tree
+text_value_at bytes = do
+  s ← quoted_at bytes
+  Some (plain (text s.0), s.1)
+
+-- a value before which no blank is left
+unfoldable pub value_here : Parse Tree
+value_here bytes =
+    if begins 40 bytes then unit_at (drop 1 bytes)
+    else (if begins 34 bytes then text_value_at (drop 1 bytes)
+    else int_at bytes)
+
+-- the next value
 unfoldable pub value_at : Parse Tree
-value_at bytes = do
-  w ← word_at bytes
-  t ← value_of w.0
-  Some (t, w.1)
+value_at bytes = value_here (skip_blanks bytes)
 
 -- Elements until the bytes stop them. The number bounds the turns: the count of the bytes is always enough.
 unfoldable pub many : {A : Type 0} → (List ℕ → Bool) → Parse A → List A → ℕ → Parse (List A)

@@ -1,8 +1,10 @@
 -- HOW THINGS ARE WRITTEN. A span says of some bytes, and of the bytes that are left, what is written between them.
-use Rattle.std.specs.Prelude.{◌≡◌, ◌⊎◌, ◌<◌, ℕ, true, List, [], ◌∷◌, ◌++◌, length, Option, Some}
+use Rattle.std.specs.Prelude.{◌≡◌, ◌≢◌, ◌⊎◌, ◌<◌, ℕ, ℤ, true, List, [], ◌∷◌, ◌++◌, length, Option, Some}
 use Rattle.std.specs.List.{list_all}
-use Rattle.rhd_value.specs.Tree.{Tree}
-use Rattle.rhd_text.specs.Bytes.{is_blank, is_word_byte, may_end, is_name, num_of, value_of}
+use Rattle.std.specs.Str.{is_utf8}
+use Rattle.rhd_value.specs.Tree.{Kind, unit, integer, text, Tree}
+use Rattle.rhd_value.specs.Kinds.{no_marks}
+use Rattle.rhd_text.specs.Bytes.{is_blank, is_word_byte, may_end, unescaped, is_name, num_of, int_of}
 
 -- of the bytes before, and the bytes left
 abbrev pub Span : Type 1
@@ -55,9 +57,37 @@ meant of x bytes rest = (w : List ℕ) × (of w ≡ Some x) × bare w bytes rest
 abbrev pub number : ℕ → Span
 number = meant num_of
 
--- the word of a value
+-- ---- quoted texts
+
+-- a byte of a quoted text, by itself or after a backslash
+abbrev pub letter : ℕ → Span
+letter c bytes rest = ((c ≢ 34) × (c ≢ 92) × (bytes ≡ c ∷ rest)) ⊎ ((e : ℕ) × (unescaped e ≡ Some c) × (bytes ≡ 92 ∷ (e ∷ rest)))
+
+-- these bytes, and then the quotation mark that ends them
+abbrev pub letters : List ℕ → Span
+letters [] = byte 34
+letters (c ∷ cs) = letter c ▸ letters cs
+
+-- a text in UTF-8 between quotation marks, after which stands the end of the line, a blank or a bracket
+abbrev pub quotation : List ℕ → Span
+quotation s bytes rest = (is_utf8 s ≡ true) × (byte 34 ▸ letters s) bytes rest × (may_end rest ≡ true)
+
+-- ---- values
+
+-- the run of an integer
+abbrev pub number_run : ℤ → Span
+number_run z bytes rest = (w : List ℕ) × (int_of w ≡ Some z) × run w bytes rest
+
+-- each kind of value: `()`, an integer, a quoted text; no other is written yet
+abbrev pub kind : Kind → Span
+kind unit = byte 40 ▸ bracket 41
+kind (integer z) = number_run z
+kind (text s) = quotation s
+kind _ = λ bytes rest. ⊥
+
+-- a value, without marks
 abbrev pub value : Tree → Span
-value = meant value_of
+value t = blanks ▸ (λ bytes rest. (t.marks ≡ no_marks) × kind t.kind bytes rest)
 
 -- ---- lists
 

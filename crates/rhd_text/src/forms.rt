@@ -1,14 +1,17 @@
 //! One function for each row of the table.
 
+ghost use Rattle.std.specs.Prelude.{◌≡◌};
 ghost use Rattle.rhd_text.specs.declared.keyword.Keyword.TheVariants as keywords;
-ghost use Rattle.rhd_text.specs.ReadRows.{row_at};
+ghost use Rattle.rhd_text.specs.Rows.{called};
+ghost use Rattle.rhd_text.specs.ReadRows.{row_at, row_says};
 ghost use Rattle.rhd_text.specs.Answers.{Gives};
 
 use crate::fault::Stop;
 use crate::keyword::Keyword;
 use crate::numbers::num_at;
-use crate::operands::{name_at, values_at};
+use crate::operands::name_at;
 use crate::place::Place;
+use crate::values::values_at;
 use crate::words::is_end;
 use rhd_func::{CallRequest, CallShape};
 use rhd_session::Command;
@@ -21,7 +24,7 @@ fn register_at(alloc: Global, bytes: &[u8], place: Place) -> Result<Command, Sto
 {
     let (name, rest) = name_at(alloc, bytes)?;
     let (number, rest) = num_at(rest)?;
-    if number as usize >= place.held || !is_end(rest) {
+    if !is_end(rest) {
         return Err(Stop::Bad);
     }
     Ok(Command::RegisterFn {
@@ -30,9 +33,9 @@ fn register_at(alloc: Global, bytes: &[u8], place: Place) -> Result<Command, Sto
     })
 }
 
-#[tactic(auto, unfolding(crate::specs::ReadRows::row_at))]
-fn call_at(alloc: Global, bytes: &[u8], place: Place) -> Result<Command, Stop>
-    ensures { Gives (λ x. x) result (row_at place keywords.Call bytes.now) }
+/// A call by name, of natives alone or not.
+fn called_at(alloc: Global, bytes: &[u8], place: Place, native_only: bool) -> Result<Command, Stop>
+    ensures { Gives (λ x. x) result (row_says place (called native_only) bytes.now) }
 {
     let (name, rest) = name_at(alloc, bytes)?;
     let (args, rest) = values_at(alloc, rest)?;
@@ -41,13 +44,27 @@ fn call_at(alloc: Global, bytes: &[u8], place: Place) -> Result<Command, Stop>
     }
     Ok(Command::Call(CallRequest::Named {
         name,
-        native_only: false,
+        native_only,
         shape: CallShape::Plain(args),
         pos: Position {
             line: place.line,
             column: 1,
         },
     }))
+}
+
+#[tactic(auto, unfolding(crate::specs::ReadRows::row_at))]
+fn call_at(alloc: Global, bytes: &[u8], place: Place) -> Result<Command, Stop>
+    ensures { Gives (λ x. x) result (row_at place keywords.Call bytes.now) }
+{
+    called_at(alloc, bytes, place, false)
+}
+
+#[tactic(auto, unfolding(crate::specs::ReadRows::row_at))]
+fn call_native_at(alloc: Global, bytes: &[u8], place: Place) -> Result<Command, Stop>
+    ensures { Gives (λ x. x) result (row_at place keywords.CallNative bytes.now) }
+{
+    called_at(alloc, bytes, place, true)
 }
 
 /// The command of a line form, by what stands after its keyword.
@@ -57,5 +74,6 @@ pub fn row_at(alloc: Global, keyword: Keyword, bytes: &[u8], place: Place) -> Re
     match keyword {
         Keyword::Register => register_at(alloc, bytes, place),
         Keyword::Call => call_at(alloc, bytes, place),
+        Keyword::CallNative => call_native_at(alloc, bytes, place),
     }
 }

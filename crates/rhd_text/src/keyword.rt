@@ -9,6 +9,7 @@ ghost use Rattle.rhd_text.specs.ReadRows.{keyword_in, keyword_of};
 pub enum Keyword {
     Register,
     Call,
+    CallNative,
 }
 
 impl Keyword {
@@ -18,6 +19,7 @@ impl Keyword {
         match self {
             Keyword::Register => b"register",
             Keyword::Call => b"call",
+            Keyword::CallNative => b"call-native",
         }
     }
 }
@@ -38,5 +40,8 @@ fn keyword_in(keywords: &[Keyword], word: &[u8]) -> Option<Keyword>
 pub fn keyword_of(word: &[u8]) -> Option<Keyword>
     ensures { result ≡ keyword_of word.now }
 {
-    keyword_in(&[Keyword::Register, Keyword::Call], word)
+    keyword_in(
+        &[Keyword::Register, Keyword::Call, Keyword::CallNative],
+        word,
+    )
 }

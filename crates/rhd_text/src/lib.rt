@@ -11,8 +11,10 @@ mod numbers;
 mod operands;
 mod place;
 mod printing;
+mod quoted;
 mod reading;
 mod session;
+mod values;
 mod words;
 
 pub use fault::TextFault;

@@ -1,7 +1,7 @@
 use Rattle.std.proofs.Common.{◌≡◌, ◌++◌, ◌∷◌, [], sym, ◌∙◌}
 use Rattle.rhd_text.specs.Reading.{is_end, value_at}
 use Rattle.rhd_text.proofs.Loops.{turn}
-use Rattle.rhd_text.proofs.operands.values_at.Goals as goal
+use Rattle.rhd_text.proofs.values.values_at.Goals as goal
 
 pub loop-most-preserved : goal.loop-most-preserved
 loop-most-preserved c =
