@@ -2,7 +2,7 @@
 use Rattle.std.proofs.Common.{◌≡◌, ℕ, true, List, [], length}
 use Rattle.rhd_value.specs.Tree.{Tree}
 use Rattle.rhd_text.specs.Bytes.{is_name, num_of}
-use Rattle.rhd_text.specs.Rows.{Operand, NAME, NUM, VALUES, Meaning}
+use Rattle.rhd_text.specs.Rows.{Operand, NAME, NUM, LONG, VALUES, Meaning}
 use Rattle.rhd_text.specs.Spans.{bare, name, number, value, each}
 use Rattle.rhd_text.specs.Grammar.{operand}
 use Rattle.rhd_text.specs.Reading.{is_end, word_at, name_at, num_at, value_at, many, values_at}
@@ -16,9 +16,9 @@ name_agrees : Agrees (List ℕ) name_at name
 unfolding name_at
 name_agrees = tested_agrees is_name word_at bare bare_agrees
 
-number_agrees : Agrees ℕ num_at number
+number_agrees : (bits : ℕ) → Agrees ℕ (num_at bits) (number bits)
 unfolding num_at
-number_agrees = meaning_agrees ℕ num_of word_at bare bare_agrees
+number_agrees bits = meaning_agrees ℕ (num_of bits) word_at bare bare_agrees
 
 list_agrees : Agrees (List Tree) (λ bytes. many is_end value_at [] (length bytes) bytes) (λ ts bytes rest. each value ts bytes rest × (is_end rest ≡ true))
 list_agrees = many_agrees Tree is_end value_at value value_agrees value_goes
@@ -32,5 +32,6 @@ values_agree = record {
 
 pub operand_agrees : (o : Operand) → Agrees (Meaning o) (operand_at o) (operand o)
 operand_agrees NAME = name_agrees
-operand_agrees NUM = number_agrees
+operand_agrees NUM = number_agrees 32
+operand_agrees LONG = number_agrees 64
 operand_agrees VALUES = values_agree

@@ -3,18 +3,18 @@ use Rattle.std.proofs.Common.{◌≡◌, ◌⊎◌, ℕ, Bool, true, false, cond
 use Rattle.std.specs.Str.{is_utf8, bytes_eq}
 use Rattle.std.proofs.lemmas.Slice.Eq.{bytes_eq-Decides}
 use Rattle.std.proofs.lemmas.Bool.{eqb-true}
-use Rattle.rhd_session.specs.declared.command.Command.{Command}
+use Rattle.rhd_text.specs.declared.part.Part.{Part}
 use Rattle.rhd_text.specs.declared.place.Place.{Place}
 use Rattle.rhd_text.specs.declared.line.Line.{Line}
 use Rattle.rhd_text.specs.declared.line.Line.TheVariants.{Skipped, Says}
 use Rattle.rhd_text.specs.declared.keyword.Keyword.{Keyword}
-use Rattle.rhd_text.specs.declared.keyword.Keyword.TheVariants.{Register, Call, CallNative}
+use Rattle.rhd_text.specs.declared.keyword.Keyword.TheVariants.{Register, Call, CallNative, Limits}
 use Rattle.rhd_text.specs.Bytes.{is_blank}
-use Rattle.rhd_text.specs.Rows.{Operand, Meaning, From, row, keyword, keywords}
+use Rattle.rhd_text.specs.Rows.{Operand, Meaning, From, row, keyword, all_keywords}
 use Rattle.rhd_text.specs.Spans.{blanks, bare}
-use Rattle.rhd_text.specs.Grammar.{operands, command, WrittenLine, IsLine}
+use Rattle.rhd_text.specs.Grammar.{operands, part, WrittenLine, IsLine}
 use Rattle.rhd_text.specs.Reading.{◌>>=◌, skip_blanks, is_end, word_at}
-use Rattle.rhd_text.specs.ReadRows.{operand_at, operands_at, row_at, keyword_in, keyword_of, begins_no_command, is_skipped, line_at, line_of}
+use Rattle.rhd_text.specs.ReadRows.{operand_at, operands_at, row_at, keyword_in, keyword_of, begins_no_part, is_skipped, line_at, line_of}
 use Rattle.rhd_text.proofs.Agrees.{bind_some, same_some}
 use Rattle.rhd_text.proofs.WordLaws.{stops_nil, head_stop, skipped, skips_to, bare_agrees, bare_here, end_sound, end_complete}
 use Rattle.rhd_text.proofs.OperandLaws.{operand_agrees}
@@ -50,7 +50,7 @@ keyword_found [] w k e = absurd cc
 keyword_found (j ∷ ks) w k e = keyword_test (bytes_eq (keyword j) w) w j k (keyword_in ks w) refl e (λ f. keyword_found ks w k f)
 
 keyword_sound : (w : List ℕ) (k : Keyword) → keyword_of w ≡ Some k → w ≡ keyword k
-keyword_sound w k e = keyword_found keywords w k e
+keyword_sound w k e = keyword_found all_keywords w k e
 
 -- no earlier keyword is spelled so
 keyword_complete : (k : Keyword) → keyword_of (keyword k) ≡ Some k
@@ -58,16 +58,18 @@ unfolding keyword_in
 keyword_complete Register = refl
 keyword_complete Call = refl
 keyword_complete CallNative = refl
+keyword_complete Limits = refl
 
 -- a keyword begins no comment
-keyword_shows : (k : Keyword) (rest : List ℕ) → begins_no_command (keyword k ++ rest) ≡ false
+keyword_shows : (k : Keyword) (rest : List ℕ) → begins_no_part (keyword k ++ rest) ≡ false
 keyword_shows Register rest = refl
 keyword_shows Call rest = refl
 keyword_shows CallNative rest = refl
+keyword_shows Limits rest = refl
 
 -- ---- a line
 
-skipped_sound : (s bytes : List ℕ) → blanks bytes s → begins_no_command s ≡ true → blanks bytes [] ⊎ ((comment : List ℕ) × blanks bytes (59 ∷ comment))
+skipped_sound : (s bytes : List ℕ) → blanks bytes s → begins_no_part s ≡ true → blanks bytes [] ⊎ ((comment : List ℕ) × blanks bytes (59 ∷ comment))
 skipped_sound [] bytes b e = inl b
 skipped_sound (x ∷ s) bytes b e = inr (s, subst (λ (y : ℕ). blanks bytes (y ∷ s)) (eqb-true x 59 e) b)
 
@@ -79,7 +81,7 @@ not_skipped place l bytes e =
     let d = bind_some (row_at place b.0 a.0.1) (λ c. Some (Says c)) l b.2 in
     let w = subst (λ (v : List ℕ). bare v bytes a.0.1) (keyword_sound a.0.0 b.0 b.1) (bare_agrees.sound a.0.0 bytes a.0.1 a.1) in
     subst (λ (j : Line). WrittenLine place j bytes) (same_some (Says d.0) l d.2)
-    (b.0, a.0.1, w, row_sound (row b.0).operands ((row b.0).command place) d.0 a.0.1 d.1)
+    (b.0, a.0.1, w, row_sound (row b.0).operands ((row b.0).part place) d.0 a.0.1 d.1)
 
 line_cases : (t s : Bool) (held n : ℕ) (l : Line) (bytes : List ℕ) → is_utf8 bytes ≡ t → is_skipped bytes ≡ s → cond (not t) None (cond s (Some Skipped) (word_at bytes >>= λ w. keyword_of w.0 >>= λ k. row_at (record { held = held; line = n }) k w.1 >>= λ c. Some (Says c))) ≡ Some l → IsLine held n l bytes
 line_cases true true held n l bytes ht hs e = record {
@@ -94,21 +96,21 @@ unfolding line_at
 line_sound held n l bytes e = line_cases (is_utf8 bytes) (is_skipped bytes) held n l bytes refl refl e
 
 skip_complete : (bytes : List ℕ) → blanks bytes [] ⊎ ((comment : List ℕ) × blanks bytes (59 ∷ comment)) → is_skipped bytes ≡ true
-skip_complete bytes (inl b) = ap begins_no_command (skips_to bytes [] b (stops_nil is_blank))
-skip_complete bytes (inr c) = ap begins_no_command (skips_to bytes (59 ∷ c.0) c.1 (head_stop 59 c.0 refl))
+skip_complete bytes (inl b) = ap begins_no_part (skips_to bytes [] b (stops_nil is_blank))
+skip_complete bytes (inr c) = ap begins_no_part (skips_to bytes (59 ∷ c.0) c.1 (head_stop 59 c.0 refl))
 
-command_complete : (place : Place) (c : Command) (bytes : List ℕ) → command place c bytes → (is_skipped bytes ≡ false) × ((word_at bytes >>= λ w. keyword_of w.0 >>= λ k. row_at place k w.1 >>= λ d. Some (Says d)) ≡ Some (Says c))
+part_complete : (place : Place) (c : Part) (bytes : List ℕ) → part place c bytes → (is_skipped bytes ≡ false) × ((word_at bytes >>= λ w. keyword_of w.0 >>= λ k. row_at place k w.1 >>= λ d. Some (Says d)) ≡ Some (Says c))
 unfolding row_at
-command_complete place c bytes w =
+part_complete place c bytes w =
     let h = bare_here (keyword w.0) bytes w.1 w.2 in (
-      ap begins_no_command h.2 ∙ keyword_shows w.0 w.1,
-      rw (bare_agrees.complete (keyword w.0) bytes w.1 w.2, keyword_complete w.0, row_complete (row w.0).operands ((row w.0).command place) c w.1 w.3) refl,
+      ap begins_no_part h.2 ∙ keyword_shows w.0 w.1,
+      rw (bare_agrees.complete (keyword w.0) bytes w.1 w.2, keyword_complete w.0, row_complete (row w.0).operands ((row w.0).part place) c w.1 w.3) refl,
     )
 
 written_complete : (place : Place) (l : Line) (bytes : List ℕ) → is_utf8 bytes ≡ true → WrittenLine place l bytes → line_at place bytes ≡ Some l
 unfolding line_at
 written_complete place Skipped bytes t w = rw (t, skip_complete bytes w) refl
-written_complete place (Says c) bytes t w = let k = command_complete place c bytes w in rw (t, k.0) k.1
+written_complete place (Says c) bytes t w = let k = part_complete place c bytes w in rw (t, k.0) k.1
 
 pub line_complete : (held n : ℕ) (l : Line) (bytes : List ℕ) → IsLine held n l bytes → line_of held n bytes ≡ Some l
 line_complete held n l bytes w = written_complete (record { held = held; line = n }) l bytes w.text w.written

@@ -45,9 +45,9 @@ is_name (c ∷ cs) = is_ascii_lowercase c && list_all is_ascii_digit cs
 abbrev pub is_digits : List ℕ → Bool
 is_digits w = nat_lt 0 (length w) && list_all is_ascii_digit w
 
--- the number of 1 to 20 digits, where it is below 2 ^ 32
-unfoldable pub num_of : List ℕ → Option ℕ
-num_of w = if is_digits w && nat_le (length w) 20 && nat_lt (digits_value 10 w) (2 ^ 32) then Some (digits_value 10 w) else None
+-- the number of 1 to 20 digits, where it has so many bits
+unfoldable pub num_of : ℕ → List ℕ → Option ℕ
+num_of bits w = if is_digits w && nat_le (length w) 20 && nat_lt (digits_value 10 w) (2 ^ bits) then Some (digits_value 10 w) else None
 
 -- digits, or `-` and digits
 abbrev pub is_signed_digits : List ℕ → Bool

@@ -1,18 +1,19 @@
 -- HOW A LINE IS WRITTEN, by the table of Rows.
 use Rattle.std.specs.Prelude.{◌≡◌, ◌⊎◌, ℕ, true, List, [], ◌∷◌, Option, Some}
 use Rattle.std.specs.Str.{is_utf8}
-use Rattle.rhd_session.specs.declared.command.Command.{Command}
+use Rattle.rhd_text.specs.declared.part.Part.{Part}
 use Rattle.rhd_text.specs.declared.place.Place.{Place}
 use Rattle.rhd_text.specs.declared.line.Line.{Line}
 use Rattle.rhd_text.specs.declared.line.Line.TheVariants.{Skipped, Says}
 use Rattle.rhd_text.specs.declared.keyword.Keyword.{Keyword}
-use Rattle.rhd_text.specs.Rows.{Operand, NAME, NUM, VALUES, Meaning, From, row, keyword}
+use Rattle.rhd_text.specs.Rows.{Operand, NAME, NUM, LONG, VALUES, Meaning, From, row, keyword}
 use Rattle.rhd_text.specs.Spans.{Span, blanks, bare, name, number, value, each}
 
 -- how each kind of operand is written
 abbrev pub operand : (o : Operand) → Meaning o → Span
 operand NAME = name
-operand NUM = number
+operand NUM = number 32
+operand LONG = number 64
 operand VALUES = λ ts bytes rest. each value ts bytes rest × blanks rest []
 
 -- the operands of a row, to the end of the line, where the row gives this of what they say
@@ -20,14 +21,14 @@ abbrev pub operands : {R : Type 0} (os : List Operand) → From os (Option R) �
 operands [] says c bytes = blanks bytes [] × (says ≡ Some c)
 operands (o ∷ os) says c bytes = (x : Meaning o) × (rest : List ℕ) × operand o x bytes rest × operands os (says x) c rest
 
--- a command is written in one of the rows
-abbrev pub command : Place → Command → List ℕ → Type 0
-command place c bytes = (k : Keyword) × (rest : List ℕ) × bare (keyword k) bytes rest × operands (row k).operands ((row k).command place) c rest
+-- a part of a text is written in one of the rows
+abbrev pub part : Place → Part → List ℕ → Type 0
+part place p bytes = (k : Keyword) × (rest : List ℕ) × bare (keyword k) bytes rest × operands (row k).operands ((row k).part place) p rest
 
--- only blanks, or a comment; else a command
+-- only blanks, or a comment; else a part of the text
 abbrev pub WrittenLine : Place → Line → List ℕ → Type 0
 WrittenLine place Skipped bytes = blanks bytes [] ⊎ ((comment : List ℕ) × blanks bytes (59 ∷ comment))
-WrittenLine place (Says c) bytes = command place c bytes
+WrittenLine place (Says p) bytes = part place p bytes
 
 -- line n is in UTF-8, and written so
 pub record IsLine (held : ℕ) (n : ℕ) (line : Line) (bytes : List ℕ) : Type 0 where

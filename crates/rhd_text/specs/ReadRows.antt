@@ -1,18 +1,19 @@
 -- How rows and lines are read.
 use Rattle.std.specs.Prelude.{ℕ, Bool, true, not, List, [], ◌∷◌, Option, Some, None, ◌==◌, if◌then◌else◌}
 use Rattle.std.specs.Str.{is_utf8, bytes_eq}
-use Rattle.rhd_session.specs.declared.command.Command.{Command}
+use Rattle.rhd_text.specs.declared.part.Part.{Part}
 use Rattle.rhd_text.specs.declared.place.Place.{Place}
 use Rattle.rhd_text.specs.declared.line.Line.{Line}
 use Rattle.rhd_text.specs.declared.line.Line.TheVariants.{Skipped, Says}
 use Rattle.rhd_text.specs.declared.keyword.Keyword.{Keyword}
-use Rattle.rhd_text.specs.Rows.{Operand, NAME, NUM, VALUES, Meaning, From, Row, row, keyword, keywords}
+use Rattle.rhd_text.specs.Rows.{Operand, NAME, NUM, LONG, VALUES, Meaning, From, Row, row, keyword, all_keywords}
 use Rattle.rhd_text.specs.Reading.{◌>>=◌, skip_blanks, is_end, word_at, name_at, num_at, values_at}
 
 -- how each kind of operand is read
 abbrev pub operand_at : (o : Operand) → List ℕ → Option (Meaning o × List ℕ)
 operand_at NAME bytes = name_at bytes
-operand_at NUM bytes = num_at bytes
+operand_at NUM bytes = num_at 32 bytes
+operand_at LONG bytes = num_at 64 bytes
 operand_at VALUES bytes = values_at bytes
 
 -- the operands of a row, to the end of the line
@@ -23,11 +24,11 @@ operands_at (o ∷ os) says bytes = do
   operands_at os (says x.0) x.1
 
 -- what a row says
-abbrev pub row_says : Place → Row → List ℕ → Option Command
-row_says place r bytes = operands_at r.operands (r.command place) bytes
+abbrev pub row_says : Place → Row → List ℕ → Option Part
+row_says place r bytes = operands_at r.operands (r.part place) bytes
 
 -- what stands after a keyword
-unfoldable pub row_at : Place → Keyword → List ℕ → Option Command
+unfoldable pub row_at : Place → Keyword → List ℕ → Option Part
 row_at place k bytes = row_says place (row k) bytes
 
 -- the first of these keywords that is spelled so
@@ -36,23 +37,23 @@ keyword_in [] word = None
 keyword_in (k ∷ ks) word = if bytes_eq (keyword k) word then Some k else keyword_in ks word
 
 abbrev pub keyword_of : List ℕ → Option Keyword
-keyword_of word = keyword_in keywords word
+keyword_of word = keyword_in all_keywords word
 
 -- the end, or a comment
-abbrev pub begins_no_command : List ℕ → Bool
-begins_no_command [] = true
-begins_no_command (b ∷ bytes) = b == 59
+abbrev pub begins_no_part : List ℕ → Bool
+begins_no_part [] = true
+begins_no_part (b ∷ bytes) = b == 59
 
 abbrev pub is_skipped : List ℕ → Bool
-is_skipped line = begins_no_command (skip_blanks line)
+is_skipped line = begins_no_part (skip_blanks line)
 
 -- what the line at a place says
 unfoldable pub line_at : Place → List ℕ → Option Line
 line_at place line = if not (is_utf8 line) then None else (if is_skipped line then Some Skipped else (do
   w ← word_at line
   k ← keyword_of w.0
-  c ← row_at place k w.1
-  Some (Says c)))
+  p ← row_at place k w.1
+  Some (Says p)))
 
 -- what line n says, where so many natives are held
 abbrev pub line_of : ℕ → ℕ → List ℕ → Option Line

@@ -37,11 +37,11 @@ name_at bytes = do
   w ← word_at bytes
   if is_name w.0 then Some w else None
 
--- the number of the next word
-unfoldable pub num_at : Parse ℕ
-num_at bytes = do
+-- the number of so many bits of the next word
+unfoldable pub num_at : ℕ → Parse ℕ
+num_at bits bytes = do
   w ← word_at bytes
-  n ← num_of w.0
+  n ← num_of bits w.0
   Some (n, w.1)
 
 -- whether this byte comes next, after any blanks

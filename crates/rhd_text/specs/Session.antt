@@ -1,20 +1,37 @@
 -- WHAT A SESSION TEXT SAYS: its lines one after the other, and which line is the first bad one.
-use Rattle.std.specs.Prelude.{◌≡◌, ℕ, ◌+◌, List, [], ◌∷◌, ◌++◌, length, Option, Some, Result, Ok, Err}
+use Rattle.std.specs.Prelude.{◌≡◌, ℕ, ◌+◌, ◌&&◌, ◌==◌, Bool, List, [], ◌∷◌, ◌++◌, length, Option, Some, None, Result, Ok, Err, if◌then◌else◌}
+use Rattle.std.specs.Option.{is_none}
+use Rattle.rhd_session.specs.declared.limits.Limits.{Limits}
 use Rattle.rhd_text.specs.declared.fault.TextFault.{TextFault}
 use Rattle.rhd_text.specs.declared.fault.TextFault.TheVariants.{BadLine, OutOfMemory}
 use Rattle.rhd_text.specs.declared.session.SessionText.{SessionText}
+use Rattle.rhd_text.specs.declared.part.Part.{Part}
+use Rattle.rhd_text.specs.declared.part.Part.TheVariants as parts
 use Rattle.rhd_text.specs.declared.line.Line.{Line}
 use Rattle.rhd_text.specs.declared.line.Line.TheVariants.{Skipped, Says}
 use Rattle.rhd_text.specs.Grammar.{IsLine}
 
 -- what a text without lines says
 abbrev pub empty_text : SessionText
-empty_text = record { commands = [] }
+empty_text = record { limits = None; commands = [] }
+
+-- whether headers may still stand: no command has come
+abbrev pub takes_headers : SessionText → Bool
+takes_headers t = length t.commands == 0
+
+-- limits are set once at most, before the first command
+unfoldable pub with_limits : SessionText → Limits → Option SessionText
+with_limits t limits = if takes_headers t && is_none t.limits then Some (record t { limits = Some limits }) else None
+
+-- what is said with a part more; none where it may not stand there
+abbrev pub with_part : SessionText → Part → Option SessionText
+with_part t (parts.Limits limits) = with_limits t limits
+with_part t (parts.Command c) = Some (record t { commands = t.commands ++ c ∷ [] })
 
 -- what is said with a line more; none where it may not stand there
 abbrev pub with_line : SessionText → Line → Option SessionText
 with_line t Skipped = Some t
-with_line t (Says c) = Some (record { commands = t.commands ++ c ∷ [] })
+with_line t (Says p) = with_part t p
 
 -- after what t says these lines come, of which the first is line n, and then u is said
 abbrev pub IsText : ℕ → ℕ → SessionText → List (List ℕ) → SessionText → Type 0

@@ -53,9 +53,9 @@ name w bytes rest = (is_name w ≡ true) × bare w bytes rest
 abbrev pub meant : {A : Type 0} → (List ℕ → Option A) → A → Span
 meant of x bytes rest = (w : List ℕ) × (of w ≡ Some x) × bare w bytes rest
 
--- the word of a number
-abbrev pub number : ℕ → Span
-number = meant num_of
+-- the word of a number of so many bits
+abbrev pub number : ℕ → ℕ → Span
+number bits = meant (num_of bits)
 
 -- ---- quoted texts
 

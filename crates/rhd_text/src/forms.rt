@@ -8,18 +8,19 @@ ghost use Rattle.rhd_text.specs.Answers.{Gives};
 
 use crate::fault::Stop;
 use crate::keyword::Keyword;
-use crate::numbers::num_at;
+use crate::numbers::{long_at, num_at};
 use crate::operands::name_at;
+use crate::part::Part;
 use crate::place::Place;
 use crate::values::values_at;
 use crate::words::is_end;
 use rhd_func::{CallRequest, CallShape};
-use rhd_session::Command;
+use rhd_session::{Command, Limits};
 use rhd_value::{FnId, Position};
 use std::alloc::Global;
 
 #[tactic(auto, unfolding(crate::specs::ReadRows::row_at))]
-fn register_at(alloc: Global, bytes: &[u8], place: Place) -> Result<Command, Stop>
+fn register_at(alloc: Global, bytes: &[u8], place: Place) -> Result<Part, Stop>
     ensures { Gives (λ x. x) result (row_at place keywords.Register bytes.now) }
 {
     let (name, rest) = name_at(alloc, bytes)?;
@@ -27,14 +28,14 @@ fn register_at(alloc: Global, bytes: &[u8], place: Place) -> Result<Command, Sto
     if !is_end(rest) {
         return Err(Stop::Bad);
     }
-    Ok(Command::RegisterFn {
+    Ok(Part::Command(Command::RegisterFn {
         name,
         id: FnId(number),
-    })
+    }))
 }
 
 /// A call by name, of natives alone or not.
-fn called_at(alloc: Global, bytes: &[u8], place: Place, native_only: bool) -> Result<Command, Stop>
+fn called_at(alloc: Global, bytes: &[u8], place: Place, native_only: bool) -> Result<Part, Stop>
     ensures { Gives (λ x. x) result (row_says place (called native_only) bytes.now) }
 {
     let (name, rest) = name_at(alloc, bytes)?;
@@ -42,7 +43,7 @@ fn called_at(alloc: Global, bytes: &[u8], place: Place, native_only: bool) -> Re
     if !is_end(rest) {
         return Err(Stop::Bad);
     }
-    Ok(Command::Call(CallRequest::Named {
+    Ok(Part::Command(Command::Call(CallRequest::Named {
         name,
         native_only,
         shape: CallShape::Plain(args),
@@ -50,30 +51,52 @@ fn called_at(alloc: Global, bytes: &[u8], place: Place, native_only: bool) -> Re
             line: place.line,
             column: 1,
         },
-    }))
+    })))
 }
 
 #[tactic(auto, unfolding(crate::specs::ReadRows::row_at))]
-fn call_at(alloc: Global, bytes: &[u8], place: Place) -> Result<Command, Stop>
+fn call_at(alloc: Global, bytes: &[u8], place: Place) -> Result<Part, Stop>
     ensures { Gives (λ x. x) result (row_at place keywords.Call bytes.now) }
 {
     called_at(alloc, bytes, place, false)
 }
 
 #[tactic(auto, unfolding(crate::specs::ReadRows::row_at))]
-fn call_native_at(alloc: Global, bytes: &[u8], place: Place) -> Result<Command, Stop>
+fn call_native_at(alloc: Global, bytes: &[u8], place: Place) -> Result<Part, Stop>
     ensures { Gives (λ x. x) result (row_at place keywords.CallNative bytes.now) }
 {
     called_at(alloc, bytes, place, true)
 }
 
-/// The command of a line form, by what stands after its keyword.
-pub fn row_at(alloc: Global, keyword: Keyword, bytes: &[u8], place: Place) -> Result<Command, Stop>
+#[tactic(auto, unfolding(crate::specs::ReadRows::row_at))]
+fn limits_at(bytes: &[u8], place: Place) -> Result<Part, Stop>
+    ensures { Gives (λ x. x) result (row_at place keywords.Limits bytes.now) }
+{
+    let (array, rest) = num_at(bytes)?;
+    let (map, rest) = num_at(rest)?;
+    let (text, rest) = num_at(rest)?;
+    let (level, rest) = num_at(rest)?;
+    let (budget, rest) = long_at(rest)?;
+    if level > 1000 || !is_end(rest) {
+        return Err(Stop::Bad);
+    }
+    Ok(Part::Limits(Limits {
+        array,
+        map,
+        text,
+        level,
+        budget,
+    }))
+}
+
+/// The part of a line form, by what stands after its keyword.
+pub fn row_at(alloc: Global, keyword: Keyword, bytes: &[u8], place: Place) -> Result<Part, Stop>
     ensures { Gives (λ x. x) result (row_at place keyword bytes.now) }
 {
     match keyword {
         Keyword::Register => register_at(alloc, bytes, place),
         Keyword::Call => call_at(alloc, bytes, place),
         Keyword::CallNative => call_native_at(alloc, bytes, place),
+        Keyword::Limits => limits_at(bytes, place),
     }
 }

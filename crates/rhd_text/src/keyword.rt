@@ -4,12 +4,13 @@ ghost use Rattle.std.specs.Prelude.{◌≡◌};
 ghost use Rattle.rhd_text.specs.Rows.{keyword};
 ghost use Rattle.rhd_text.specs.ReadRows.{keyword_in, keyword_of};
 
-/// The first word of a command's line.
+/// The first word of a line.
 #[derive(Clone, Copy, Debug, PartialEq, Eq)]
 pub enum Keyword {
     Register,
     Call,
     CallNative,
+    Limits,
 }
 
 impl Keyword {
@@ -20,6 +21,7 @@ impl Keyword {
             Keyword::Register => b"register",
             Keyword::Call => b"call",
             Keyword::CallNative => b"call-native",
+            Keyword::Limits => b"limits",
         }
     }
 }
@@ -41,7 +43,12 @@ pub fn keyword_of(word: &[u8]) -> Option<Keyword>
     ensures { result ≡ keyword_of word.now }
 {
     keyword_in(
-        &[Keyword::Register, Keyword::Call, Keyword::CallNative],
+        &[
+            Keyword::Register,
+            Keyword::Call,
+            Keyword::CallNative,
+            Keyword::Limits,
+        ],
         word,
     )
 }

@@ -9,6 +9,7 @@ mod line;
 mod lines;
 mod numbers;
 mod operands;
+mod part;
 mod place;
 mod printing;
 mod quoted;
