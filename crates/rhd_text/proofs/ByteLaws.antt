@@ -5,11 +5,11 @@ use Rattle.std.proofs.lemmas.Bool.{ne_eqb, eqb-true}
 use Rattle.std.proofs.lemmas.Bool.Decides.{eqb_tells}
 use Rattle.rhd_text.specs.Bytes.{is_blank, is_word_byte, begins}
 use Rattle.rhd_text.specs.Spans.{Span, ◌▸◌, blanks, bracket, run}
-use Rattle.rhd_text.specs.Reading.{Parse, skip_blanks, is_end, closes, after_bracket}
+use Rattle.rhd_text.specs.Reading.{Parse, skip_blanks, is_end, comes, after_bracket}
 use Rattle.rhd_text.proofs.Agrees.{Agrees, and_parts}
 use Rattle.rhd_text.proofs.WordLaws.{Stops, skipped, skips_to, blanks_shrink, head_stop}
 
-not_both : (b : Bool) → b ≡ true → b ≡ false → ⊥
+pub not_both : (b : Bool) → b ≡ true → b ≡ false → ⊥
 not_both true t f = absurd cc
 not_both false t f = absurd cc
 
@@ -50,10 +50,10 @@ byte_shrinks c bytes rest e = omega (arith, ap length e)
 
 -- ---- brackets
 
-pub bracket_sound : (c : ℕ) (bytes : List ℕ) → 0 < c → closes c bytes ≡ true → bracket c bytes (after_bracket bytes)
+pub bracket_sound : (c : ℕ) (bytes : List ℕ) → 0 < c → comes c bytes ≡ true → bracket c bytes (after_bracket bytes)
 bracket_sound c bytes some e = (skip_blanks bytes, skipped bytes, begins_is c (skip_blanks bytes) some e)
 
-pub bracket_complete : (c : ℕ) (bytes rest : List ℕ) → is_blank c ≡ false → bracket c bytes rest → (closes c bytes ≡ true) × (after_bracket bytes ≡ rest)
+pub bracket_complete : (c : ℕ) (bytes rest : List ℕ) → is_blank c ≡ false → bracket c bytes rest → (comes c bytes ≡ true) × (after_bracket bytes ≡ rest)
 bracket_complete c bytes rest other b =
     let s = skips_to bytes b.0 b.1 (byte_stops c b.0 rest other b.2) in
     (begins_same c (skip_blanks bytes) rest (s ∙ b.2), drops_to c (skip_blanks bytes) rest (s ∙ b.2))

@@ -7,9 +7,11 @@ pub mod ListLaws
 pub mod ByteLaws
 pub mod QuoteLaws
 pub mod ValueLaws
+pub mod ArgumentLaws
 pub mod OperandLaws
 pub mod RowLaws
 pub mod SessionLaws
+pub mod BodyLaws
 pub mod PrintingWeights
 pub mod PrintingEntries
 pub mod PrintingTrees

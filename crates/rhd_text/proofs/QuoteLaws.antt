@@ -1,13 +1,14 @@
--- Quoted texts.
-use Rattle.std.proofs.Common.{◌≡◌, ℕ, ◌<◌, Bool, true, false, cond, List, [], ◌∷◌, length, Option, Some, None, refl, sym, ap, subst, ◌∙◌, arith, inl, inr}
+-- Texts, quoted or not.
+use Rattle.std.proofs.Common.{◌≡◌, ℕ, ◌<◌, Bool, true, false, cond, List, [], ◌∷◌, length, Option, Some, None, refl, sym, ap, subst, ◌∙◌, arith, inl, inr, drop}
 use Rattle.std.specs.Str.{is_utf8}
 use Rattle.std.proofs.lemmas.Bool.{ne_eqb}
 use Rattle.std.proofs.lemmas.Bool.Decides.{eqb_tells}
-use Rattle.rhd_text.specs.Bytes.{may_end, unescaped}
-use Rattle.rhd_text.specs.Spans.{Span, letter, letters}
-use Rattle.rhd_text.specs.Reading.{◌>>=◌, put, text_at, text_of, quoted_at}
+use Rattle.rhd_text.specs.Bytes.{is_blank, may_end, begins, unescaped}
+use Rattle.rhd_text.specs.Spans.{Span, letter, letters, either, run, quotation, unquoted, word}
+use Rattle.rhd_text.specs.Reading.{◌>>=◌, run_at, put, text_at, text_of, quoted_at, plain_text_at, text_here, wording_at}
 use Rattle.rhd_text.proofs.Agrees.{Agrees, bind_some, some_pair, cond_some}
-use Rattle.rhd_text.proofs.ByteLaws.{byte_shrinks}
+use Rattle.rhd_text.proofs.WordLaws.{Stops, run_agrees, run_stops}
+use Rattle.rhd_text.proofs.ByteLaws.{begins_is, begins_same, drops_to, run_begins, byte_stops, byte_shrinks, spaced}
 
 put_some : (o : Option ℕ) (read : Option (List ℕ × List ℕ)) (t r : List ℕ) → put o read ≡ Some (t, r) → (c : ℕ) × (u : List ℕ) × (o ≡ Some c) × (read ≡ Some (u, r)) × (t ≡ c ∷ u)
 put_some (Some c) (Some (u, s)) t r e = let p = some_pair (c ∷ u) t s r e in (c, u, refl, ap (λ (x : List ℕ). Some (u, x)) p.1, sym p.0)
@@ -95,3 +96,43 @@ letter_shrinks c bytes rest (inr l) = omega (arith, ap length l.2)
 pub letters_shrink : (s bytes rest : List ℕ) → letters s bytes rest → length rest < length bytes
 letters_shrink [] bytes rest l = byte_shrinks 34 bytes rest l
 letters_shrink (c ∷ s) bytes rest l = omega (arith, letter_shrinks c bytes l.0 l.1, letters_shrink s l.0 rest l.2)
+
+-- ---- texts, quoted or not
+
+pub quotation_stops : (s bytes rest : List ℕ) → quotation s bytes rest → Stops is_blank bytes
+quotation_stops s bytes rest q = byte_stops 34 bytes q.1.0 refl q.1.1
+
+plain_sound : (s bytes rest : List ℕ) → plain_text_at bytes ≡ Some (s, rest) → unquoted s bytes rest
+plain_sound s bytes rest e =
+    let a = bind_some (run_at bytes) (λ w. text_of w.0 >>= λ u. Some (u, w.1)) (s, rest) e in
+    let d = bind_some (text_of a.0.0) (λ u. Some (u, a.0.1)) (s, rest) a.2 in
+    let p = some_pair d.0 s a.0.1 rest d.2 in
+    let u = cond_some (is_utf8 a.0.0) a.0.0 d.0 d.1 in
+    let same : a.0.0 ≡ s = u.1 ∙ p.0 in (
+      subst (λ (x : List ℕ). is_utf8 x ≡ true) same u.0,
+      subst (λ (x : List ℕ). run x bytes rest) same (subst (λ (r : List ℕ). run a.0.0 bytes r) p.1 (run_agrees.sound a.0.0 bytes a.0.1 a.1)),
+    )
+
+wording_sound : (b : Bool) (s bytes rest : List ℕ) → begins 34 bytes ≡ b → cond b (quoted_at (drop 1 bytes)) (plain_text_at bytes) ≡ Some (s, rest) → either (unquoted s) (quotation s) bytes rest
+wording_sound true s bytes rest h e = let w = tail_agrees.sound s (drop 1 bytes) rest e in inr (w.0, (drop 1 bytes, begins_is 34 bytes (omega arith) h, w.1), w.2)
+wording_sound false s bytes rest h e = inl (plain_sound s bytes rest e)
+
+wording_complete : (s bytes rest : List ℕ) → either (unquoted s) (quotation s) bytes rest → text_here bytes ≡ Some (s, rest)
+unfolding text_here
+wording_complete s bytes rest (inl r) = rw (run_begins 34 s bytes rest refl r.1, run_agrees.complete s bytes rest r.1, r.0) refl
+wording_complete s bytes rest (inr q) = rw (begins_same 34 bytes q.1.0 q.1.1, drops_to 34 bytes q.1.0 q.1.1) (tail_agrees.complete s q.1.0 rest (q.0, q.1.2, q.2))
+
+wording_stops : (s bytes rest : List ℕ) → either (unquoted s) (quotation s) bytes rest → Stops is_blank bytes
+wording_stops s bytes rest (inl r) = run_stops s bytes rest r.1
+wording_stops s bytes rest (inr q) = quotation_stops s bytes rest q
+
+here_agrees : Agrees (List ℕ) text_here (λ s. either (unquoted s) (quotation s))
+unfolding text_here
+here_agrees = record {
+  sound = λ s bytes rest e. wording_sound (begins 34 bytes) s bytes rest refl e;
+  complete = λ s bytes rest w. wording_complete s bytes rest w;
+}
+
+pub word_agrees : Agrees (List ℕ) wording_at word
+unfolding wording_at
+word_agrees = spaced (List ℕ) text_here (λ s. either (unquoted s) (quotation s)) here_agrees (λ s bytes rest w. wording_stops s bytes rest w)

@@ -1,14 +1,16 @@
 -- Values: what is read is what is written.
-use Rattle.std.proofs.Common.{◌≡◌, ℕ, ◌<◌, Bool, true, false, cond, List, length, drop, Option, Some, None, refl, sym, ap, subst, ◌∙◌, arith}
+use Rattle.std.proofs.Common.{◌≡◌, ℕ, ◌<◌, Bool, true, false, cond, ltb, List, length, drop, Option, Some, None, refl, sym, ap, subst, ◌∙◌, arith, ℤ, ◌++◌, ◌∷◌, []}
+use Rattle.std.specs.List.{list_all}
+use Rattle.std.specs.Char.{is_ascii_digit}
 use Rattle.rhd_value.specs.declared.tag.Marks.{Marks}
 use Rattle.rhd_value.specs.Tree.{Kind, unit, boolean, integer, character, text, array, object, pointer, custom, Tree}
 use Rattle.rhd_value.specs.Kinds.{no_marks, plain}
-use Rattle.rhd_text.specs.Bytes.{is_blank, begins, int_of}
+use Rattle.rhd_text.specs.Bytes.{is_blank, begins, is_digits, is_signed_digits, fitting_int, int_of}
 use Rattle.rhd_text.specs.Spans.{Span, bracket, run, quotation, kind, value}
-use Rattle.rhd_text.specs.Reading.{◌>>=◌, is_end, run_at, closes, after_bracket, quoted_at, unit_at, int_at, text_value_at, value_here, value_at}
-use Rattle.rhd_text.proofs.Agrees.{Agrees, bind_some, some_pair}
-use Rattle.rhd_text.proofs.WordLaws.{Stops, blanks_shrink, run_agrees, run_stops, run_shrinks}
-use Rattle.rhd_text.proofs.ByteLaws.{begins_is, begins_same, begins_other, drops_to, run_begins, byte_stops, byte_shrinks, bracket_sound, bracket_complete, bracket_shrinks, spaced, spaced_begun}
+use Rattle.rhd_text.specs.Reading.{◌>>=◌, is_end, run_at, comes, after_bracket, quoted_at, unit_at, int_at, text_value_at, value_here, value_at}
+use Rattle.rhd_text.proofs.Agrees.{Agrees, bind_some, some_pair, and_parts}
+use Rattle.rhd_text.proofs.WordLaws.{Stops, skips_to, blanks_shrink, run_agrees, run_stops, run_shrinks}
+use Rattle.rhd_text.proofs.ByteLaws.{not_both, begins_is, begins_same, begins_other, drops_to, run_begins, byte_stops, byte_shrinks, bracket_sound, bracket_complete, bracket_shrinks, spaced, spaced_begun}
 use Rattle.rhd_text.proofs.QuoteLaws.{tail_agrees, letters_shrink}
 use Rattle.rhd_text.proofs.ListLaws.{Goes}
 
@@ -21,7 +23,7 @@ made k t bytes rest e w = subst (λ (u : Tree). Unmarked u bytes rest) e (refl, 
 
 -- ---- each form
 
-unit_sound : (b : Bool) (t : Tree) (bytes rest : List ℕ) → begins 40 bytes ≡ true → closes 41 (drop 1 bytes) ≡ b → cond {A = Option (Tree × List ℕ)} b (Some (plain unit, after_bracket (drop 1 bytes))) None ≡ Some (t, rest) → Unmarked t bytes rest
+unit_sound : (b : Bool) (t : Tree) (bytes rest : List ℕ) → begins 40 bytes ≡ true → comes 41 (drop 1 bytes) ≡ b → cond {A = Option (Tree × List ℕ)} b (Some (plain unit, after_bracket (drop 1 bytes))) None ≡ Some (t, rest) → Unmarked t bytes rest
 unit_sound true t bytes rest h c e =
     let p = some_pair (plain unit) t (after_bracket (drop 1 bytes)) rest e in
     made unit t bytes rest p.0 (drop 1 bytes, begins_is 40 bytes (omega arith) h, subst (λ (r : List ℕ). bracket 41 (drop 1 bytes) r) p.1 (bracket_sound 41 (drop 1 bytes) (omega arith) c))
@@ -42,7 +44,7 @@ int_sound t bytes rest e =
     made (integer b.0) t bytes rest p.0 (a.0.0, b.1, subst (λ (r : List ℕ). run a.0.0 bytes r) p.1 (run_agrees.sound a.0.0 bytes a.0.1 a.1))
 
 here_sound : (b d : Bool) (t : Tree) (bytes rest : List ℕ) → begins 40 bytes ≡ b → begins 34 bytes ≡ d → cond b (unit_at (drop 1 bytes)) (cond d (text_value_at (drop 1 bytes)) (int_at bytes)) ≡ Some (t, rest) → Unmarked t bytes rest
-here_sound true d t bytes rest hb hd e = unit_sound (closes 41 (drop 1 bytes)) t bytes rest hb refl e
+here_sound true d t bytes rest hb hd e = unit_sound (comes 41 (drop 1 bytes)) t bytes rest hb refl e
 here_sound false true t bytes rest hb hd e = text_sound t bytes rest hd e
 here_sound false false t bytes rest hb hd e = int_sound t bytes rest e
 
@@ -101,3 +103,39 @@ value_goes = record {
   shrinks = λ t bytes rest w. omega (arith, blanks_shrink bytes w.0 w.1, kind_shrinks t.kind w.0 rest w.2.1);
   begun = λ t bytes rest w. spaced_begun bytes w.0 w.1 (kind_stops t.kind w.0 rest w.2.1) (omega (arith, kind_shrinks t.kind w.0 rest w.2.1));
 }
+
+-- ---- a value begins with no `$`
+
+signed : (b : Bool) (o : Option ℤ) (z : ℤ) → cond b o None ≡ Some z → b ≡ true
+signed true o z e = refl
+signed false o z e = absurd cc
+
+no_digit : (w : List ℕ) (z : ℤ) → int_of (36 ∷ w) ≡ Some z → ⊥
+unfolding int_of
+no_digit w z e =
+    let s : is_digits (36 ∷ w) ≡ true = signed (is_signed_digits (36 ∷ w)) (fitting_int (36 ∷ w)) z e in
+    let all = and_parts (ltb 0 (length (36 ∷ w))) (list_all is_ascii_digit (36 ∷ w)) s in
+    let one = and_parts (is_ascii_digit 36) (list_all is_ascii_digit w) all.1 in
+    not_both (is_ascii_digit 36) one.0 refl
+
+not_number : (b : Bool) (w : List ℕ) (z : ℤ) → begins 36 w ≡ b → int_of w ≡ Some z → b ≡ false
+not_number true w z h e = absurd (no_digit (drop 1 w) z (ap int_of (sym (begins_is 36 w (omega arith) h)) ∙ e))
+not_number false w z h e = refl
+
+run_head : (b : Bool) (w rest : List ℕ) → 0 < length w → begins 36 w ≡ b → begins 36 (w ++ rest) ≡ b
+run_head b [] rest some h = absurd (omega (arith, some))
+run_head b (x ∷ w) rest some h = h
+
+kind_head : (k : Kind) (bytes rest : List ℕ) → kind k bytes rest → begins 36 bytes ≡ false
+kind_head unit bytes rest w = begins_other 40 36 bytes w.0 refl w.1
+kind_head (integer z) bytes rest w = ap (begins 36) w.2.2 ∙ run_head false w.0 rest w.2.1 (not_number (begins 36 w.0) w.0 z refl w.1)
+kind_head (text s) bytes rest w = begins_other 34 36 bytes w.1.0 refl w.1.1
+kind_head (boolean b) bytes rest w = absurd w
+kind_head (character c) bytes rest w = absurd w
+kind_head (array ts) bytes rest w = absurd w
+kind_head (object es) bytes rest w = absurd w
+kind_head (pointer n ts p) bytes rest w = absurd w
+kind_head (custom n z) bytes rest w = absurd w
+
+pub value_head : (t : Tree) (bytes rest : List ℕ) → value t bytes rest → comes 36 bytes ≡ false
+value_head t bytes rest w = ap (begins 36) (skips_to bytes w.0 w.1 (kind_stops t.kind w.0 rest w.2.1)) ∙ kind_head t.kind w.0 rest w.2.1

@@ -1,8 +1,12 @@
 -- BYTES AND WORDS: which bytes part words, and what a word may say.
-use Rattle.std.specs.Prelude.{ℕ, ◌^◌, Bool, true, false, ◌&&◌, ◌||◌, not, List, [], ◌∷◌, length, drop, Option, Some, None, ℤ, pos, neg_ℤ, nat_le, nat_lt, ◌==◌, slice_index, if◌then◌else◌}
+use Rattle.std.specs.Prelude.{ℕ, ◌^◌, Bool, true, false, ◌&&◌, ◌||◌, not, List, [], ◌∷◌, length, drop, Option, Some, None, ℤ, pos, neg_ℤ, nat_le, nat_lt, ◌==◌, slice_index, codes, if◌then◌else◌}
+use Rattle.std.specs.Option.{option_map}
+use Rattle.std.specs.Str.{bytes_eq}
 use Rattle.std.specs.List.{list_all}
 use Rattle.std.specs.Char.{is_ascii_digit, is_ascii_lowercase}
 use Rattle.std.specs.Str.Parse.{digits_value}
+use Rattle.rhd_text.specs.declared.body.Given.{Given}
+use Rattle.rhd_text.specs.declared.body.Given.TheVariants.{This, Last, Arg}
 
 -- a space or a tab
 abbrev pub is_blank : ℕ → Bool
@@ -48,6 +52,13 @@ is_digits w = nat_lt 0 (length w) && list_all is_ascii_digit w
 -- the number of 1 to 20 digits, where it has so many bits
 unfoldable pub num_of : ℕ → List ℕ → Option ℕ
 num_of bits w = if is_digits w && nat_le (length w) 20 && nat_lt (digits_value 10 w) (2 ^ bits) then Some (digits_value 10 w) else None
+
+-- `$this`, `$last`, or `$` and the number of an argument
+unfoldable pub given_of : List ℕ → Option Given
+given_of w =
+    if bytes_eq w (codes "$this") then Some This
+    else (if bytes_eq w (codes "$last") then Some Last
+    else (if begins 36 w then option_map (λ n. Arg n) (num_of 32 (drop 1 w)) else None))
 
 -- digits, or `-` and digits
 abbrev pub is_signed_digits : List ℕ → Bool

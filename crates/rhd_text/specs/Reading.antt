@@ -4,7 +4,11 @@ use Rattle.std.specs.List.{prefix_len}
 use Rattle.std.specs.Str.{is_utf8}
 use Rattle.rhd_value.specs.Tree.{Tree, unit, integer, text}
 use Rattle.rhd_value.specs.Kinds.{plain}
-use Rattle.rhd_text.specs.Bytes.{is_blank, is_word_byte, may_end, begins, unescaped, is_name, num_of, int_of}
+use Rattle.rhd_text.specs.Bytes.{is_blank, is_word_byte, may_end, begins, unescaped, is_name, num_of, int_of, given_of}
+use Rattle.rhd_text.specs.declared.arguments.Argument.{Argument}
+use Rattle.rhd_text.specs.declared.arguments.Argument.TheVariants as argument
+use Rattle.rhd_text.specs.declared.arguments.Arguments.{Arguments}
+use Rattle.rhd_text.specs.Arguments.{together}
 
 -- what is read first, and then with it
 infixl 10 ◌>>=◌
@@ -45,8 +49,8 @@ num_at bits bytes = do
   Some (n, w.1)
 
 -- whether this byte comes next, after any blanks
-abbrev pub closes : ℕ → List ℕ → Bool
-closes b bytes = begins b (skip_blanks bytes)
+abbrev pub comes : ℕ → List ℕ → Bool
+comes b bytes = begins b (skip_blanks bytes)
 
 -- what stands after the next byte that is no blank
 abbrev pub after_bracket : List ℕ → List ℕ
@@ -81,11 +85,26 @@ quoted_at bytes = do
     s ← text_of t.0
     Some (s, t.1)) else None
 
+-- an unquoted text
+abbrev pub plain_text_at : Parse (List ℕ)
+plain_text_at bytes = do
+  w ← run_at bytes
+  s ← text_of w.0
+  Some (s, w.1)
+
+-- a text, quoted or not, before which no blank is left
+unfoldable pub text_here : Parse (List ℕ)
+text_here bytes = if begins 34 bytes then quoted_at (drop 1 bytes) else plain_text_at bytes
+
+-- the next text, quoted or not
+unfoldable pub wording_at : Parse (List ℕ)
+wording_at bytes = text_here (skip_blanks bytes)
+
 -- ---- values
 
 -- the rest of `()`, after its first byte
 abbrev pub unit_at : Parse Tree
-unit_at bytes = if closes 41 bytes then Some (plain unit, after_bracket bytes) else None
+unit_at bytes = if comes 41 bytes then Some (plain unit, after_bracket bytes) else None
 
 -- a run as an integer
 abbrev pub int_at : Parse Tree
@@ -118,6 +137,23 @@ many stop one found (suc most) bytes = if stop bytes then Some (found, bytes) el
   x ← one bytes
   many stop one (found ++ x.0 ∷ []) most x.1)
 
--- values up to the end of the line
-unfoldable pub values_at : Parse (List Tree)
-values_at bytes = many is_end value_at [] (length bytes) bytes
+-- ---- arguments
+
+-- the word of a given value
+unfoldable pub given_at : Parse Argument
+given_at bytes = do
+  w ← word_at bytes
+  g ← given_of w.0
+  Some (argument.Given g, w.1)
+
+-- the next argument, which may be a given value where those are allowed
+unfoldable pub argument_at : Bool → Parse Argument
+argument_at given bytes = if given && comes 36 bytes then given_at bytes else (do
+  t ← value_at bytes
+  Some (argument.Value t.0, t.1))
+
+-- arguments up to the end of the line
+unfoldable pub arguments_at : Bool → Parse Arguments
+arguments_at given bytes = do
+  x ← many is_end (argument_at given) [] (length bytes) bytes
+  Some (together x.0, x.1)

@@ -1,10 +1,14 @@
 -- HOW THINGS ARE WRITTEN. A span says of some bytes, and of the bytes that are left, what is written between them.
-use Rattle.std.specs.Prelude.{◌≡◌, ◌≢◌, ◌⊎◌, ◌<◌, ℕ, ℤ, true, List, [], ◌∷◌, ◌++◌, length, Option, Some}
+use Rattle.std.specs.Prelude.{◌≡◌, ◌≢◌, ◌⊎◌, ◌<◌, ℕ, ℤ, Bool, true, List, [], ◌∷◌, ◌++◌, length, Option, Some}
 use Rattle.std.specs.List.{list_all}
 use Rattle.std.specs.Str.{is_utf8}
 use Rattle.rhd_value.specs.Tree.{Kind, unit, integer, text, Tree}
 use Rattle.rhd_value.specs.Kinds.{no_marks}
-use Rattle.rhd_text.specs.Bytes.{is_blank, is_word_byte, may_end, unescaped, is_name, num_of, int_of}
+use Rattle.rhd_text.specs.Bytes.{is_blank, is_word_byte, may_end, unescaped, is_name, num_of, int_of, given_of}
+use Rattle.rhd_text.specs.declared.arguments.Argument.{Argument}
+use Rattle.rhd_text.specs.declared.arguments.Argument.TheVariants as one
+use Rattle.rhd_text.specs.declared.arguments.Arguments.{Arguments}
+use Rattle.rhd_text.specs.Arguments.{together}
 
 -- of the bytes before, and the bytes left
 abbrev pub Span : Type 1
@@ -72,6 +76,14 @@ letters (c ∷ cs) = letter c ▸ letters cs
 abbrev pub quotation : List ℕ → Span
 quotation s bytes rest = (is_utf8 s ≡ true) × (byte 34 ▸ letters s) bytes rest × (may_end rest ≡ true)
 
+-- an unquoted text in UTF-8
+abbrev pub unquoted : List ℕ → Span
+unquoted s bytes rest = (is_utf8 s ≡ true) × run s bytes rest
+
+-- a text, quoted or not
+abbrev pub word : List ℕ → Span
+word s = blanks ▸ either (unquoted s) (quotation s)
+
 -- ---- values
 
 -- the run of an integer
@@ -93,5 +105,16 @@ value t = blanks ▸ (λ bytes rest. (t.marks ≡ no_marks) × kind t.kind bytes
 
 -- elements one after the other
 abbrev pub each : {A : Type 0} → (A → Span) → List A → Span
-each one [] = nothing
-each one (x ∷ xs) = one x ▸ each one xs
+each span [] = nothing
+each span (x ∷ xs) = span x ▸ each span xs
+
+-- ---- arguments
+
+-- a value; or a given one, where those may stand
+abbrev pub argument : Bool → Argument → Span
+argument given (one.Value t) = value t
+argument given (one.Given g) = λ bytes rest. (given ≡ true) × meant given_of g bytes rest
+
+-- arguments to the end of the line
+abbrev pub arguments : Bool → Arguments → Span
+arguments given a bytes rest = (xs : List Argument) × (a ≡ together xs) × each (argument given) xs bytes rest × blanks rest []

@@ -2,17 +2,19 @@
 
 ghost use Rattle.std.specs.Prelude.{◌≡◌};
 ghost use Rattle.rhd_text.specs.declared.keyword.Keyword.TheVariants as keywords;
-ghost use Rattle.rhd_text.specs.Rows.{called};
-ghost use Rattle.rhd_text.specs.ReadRows.{row_at, row_says};
+ghost use Rattle.rhd_text.specs.Rows.{answered};
+ghost use Rattle.rhd_text.specs.ReadRows.{row_at};
 ghost use Rattle.rhd_text.specs.Answers.{Gives};
 
+use crate::arguments::{Argument, argument_at, arguments_at};
+use crate::body::{BodyEnd, CallPlan};
 use crate::fault::Stop;
-use crate::keyword::Keyword;
+use crate::keyword::{CallWord, Keyword};
 use crate::numbers::{long_at, num_at};
 use crate::operands::name_at;
 use crate::part::Part;
 use crate::place::Place;
-use crate::values::values_at;
+use crate::quoted::wording_at;
 use crate::words::is_end;
 use rhd_func::{CallRequest, CallShape};
 use rhd_session::{Command, Limits};
@@ -34,38 +36,82 @@ fn register_at(alloc: Global, bytes: &[u8], place: Place) -> Result<Part, Stop>
     }))
 }
 
-/// A call by name, of natives alone or not.
-fn called_at(alloc: Global, bytes: &[u8], place: Place, native_only: bool) -> Result<Part, Stop>
-    ensures { Gives (λ x. x) result (row_says place (called native_only) bytes.now) }
+#[tactic(auto, unfolding(crate::specs::ReadRows::row_at))]
+fn call_at(alloc: Global, bytes: &[u8], place: Place, call: CallWord) -> Result<Part, Stop>
+    ensures { Gives (λ x. x) result (row_at place (keywords.Call call) bytes.now) }
 {
     let (name, rest) = name_at(alloc, bytes)?;
-    let (args, rest) = values_at(alloc, rest)?;
+    let (args, rest) = arguments_at(alloc, rest, false)?;
     if !is_end(rest) {
         return Err(Stop::Bad);
     }
     Ok(Part::Command(Command::Call(CallRequest::Named {
         name,
-        native_only,
-        shape: CallShape::Plain(args),
-        pos: Position {
-            line: place.line,
-            column: 1,
-        },
+        native_only: call.native_only(),
+        shape: CallShape::Plain(args.values),
+        pos: place.position(),
     })))
 }
 
 #[tactic(auto, unfolding(crate::specs::ReadRows::row_at))]
-fn call_at(alloc: Global, bytes: &[u8], place: Place) -> Result<Part, Stop>
-    ensures { Gives (λ x. x) result (row_at place keywords.Call bytes.now) }
+fn do_at(alloc: Global, bytes: &[u8], place: Place, call: CallWord) -> Result<Part, Stop>
+    ensures { Gives (λ x. x) result (row_at place (keywords.Do call) bytes.now) }
 {
-    called_at(alloc, bytes, place, false)
+    let (name, rest) = name_at(alloc, bytes)?;
+    let (args, rest) = arguments_at(alloc, rest, true)?;
+    if !is_end(rest) {
+        return Err(Stop::Bad);
+    }
+    Ok(Part::Do(CallPlan {
+        request: CallRequest::Named {
+            name,
+            native_only: call.native_only(),
+            shape: CallShape::Plain(args.values),
+            pos: Position::NONE,
+        },
+        places: args.places,
+    }))
 }
 
 #[tactic(auto, unfolding(crate::specs::ReadRows::row_at))]
-fn call_native_at(alloc: Global, bytes: &[u8], place: Place) -> Result<Part, Stop>
-    ensures { Gives (λ x. x) result (row_at place keywords.CallNative bytes.now) }
+fn body_at(bytes: &[u8], place: Place) -> Result<Part, Stop>
+    ensures { Gives (λ x. x) result (row_at place keywords.Body bytes.now) }
 {
-    called_at(alloc, bytes, place, true)
+    if !is_end(bytes) {
+        return Err(Stop::Bad);
+    }
+    Ok(Part::Body)
+}
+
+fn answered(argument: Argument) -> BodyEnd
+    ensures { result ≡ answered argument }
+{
+    match argument {
+        Argument::Value(value) => BodyEnd::Ret(value),
+        Argument::Given(given) => BodyEnd::RetGiven(given),
+    }
+}
+
+#[tactic(auto, unfolding(crate::specs::ReadRows::row_at))]
+fn ret_at(alloc: Global, bytes: &[u8], place: Place) -> Result<Part, Stop>
+    ensures { Gives (λ x. x) result (row_at place keywords.Ret bytes.now) }
+{
+    let (argument, rest) = argument_at(alloc, bytes, true)?;
+    if !is_end(rest) {
+        return Err(Stop::Bad);
+    }
+    Ok(Part::End(answered(argument)))
+}
+
+#[tactic(auto, unfolding(crate::specs::ReadRows::row_at))]
+fn fail_at(alloc: Global, bytes: &[u8], place: Place) -> Result<Part, Stop>
+    ensures { Gives (λ x. x) result (row_at place keywords.Fail bytes.now) }
+{
+    let (text, rest) = wording_at(alloc, bytes)?;
+    if !is_end(rest) {
+        return Err(Stop::Bad);
+    }
+    Ok(Part::End(BodyEnd::Fail(text)))
 }
 
 #[tactic(auto, unfolding(crate::specs::ReadRows::row_at))]
@@ -94,9 +140,12 @@ pub fn row_at(alloc: Global, keyword: Keyword, bytes: &[u8], place: Place) -> Re
     ensures { Gives (λ x. x) result (row_at place keyword bytes.now) }
 {
     match keyword {
-        Keyword::Register => register_at(alloc, bytes, place),
-        Keyword::Call => call_at(alloc, bytes, place),
-        Keyword::CallNative => call_native_at(alloc, bytes, place),
         Keyword::Limits => limits_at(bytes, place),
+        Keyword::Body => body_at(bytes, place),
+        Keyword::Do(call) => do_at(alloc, bytes, place, call),
+        Keyword::Ret => ret_at(alloc, bytes, place),
+        Keyword::Fail => fail_at(alloc, bytes, place),
+        Keyword::Register => register_at(alloc, bytes, place),
+        Keyword::Call(call) => call_at(alloc, bytes, place, call),
     }
 }

@@ -1,12 +1,12 @@
-//! Quoted texts.
+//! Texts, quoted or not.
 
 ghost use Rattle.std.specs.Prelude.{◌≡◌, ◌<◌, false, length, drop, IsTrue};
 ghost use Rattle.rhd_text.specs.Bytes.{begins, unescaped};
-ghost use Rattle.rhd_text.specs.Reading.{closes, after_bracket, text_at, text_of, quoted_at};
+ghost use Rattle.rhd_text.specs.Reading.{comes, after_bracket, text_at, text_of, quoted_at, plain_text_at, text_here, wording_at};
 ghost use Rattle.rhd_text.specs.Answers.{Gives};
 
 use crate::fault::Stop;
-use crate::words::{may_end, skip_blanks};
+use crate::words::{may_end, run_at, skip_blanks};
 use rhd_value::Text;
 use std::alloc::Global;
 
@@ -31,9 +31,9 @@ pub fn after_first(bytes: &[u8]) -> &[u8]
 }
 
 /// Whether this byte comes next, after any blanks.
-pub fn closes(bytes: &[u8], b: u8) -> bool
+pub fn comes(bytes: &[u8], b: u8) -> bool
     requires { 0 < b }
-    ensures { result ≡ closes b bytes.now }
+    ensures { result ≡ comes b bytes.now }
 {
     begins(skip_blanks(bytes), b)
 }
@@ -110,4 +110,32 @@ pub fn quoted_at(alloc: Global, bytes: &[u8]) -> Result<(Text, &[u8]), Stop>
     }
     let text = text_of(alloc, &text)?;
     Ok((text, rest))
+}
+
+/// An unquoted text, and the bytes after it.
+fn plain_text_at(alloc: Global, bytes: &[u8]) -> Result<(Text, &[u8]), Stop>
+    ensures { Gives (λ x. (x.0, x.1.now)) result (plain_text_at bytes.now) }
+{
+    let (word, rest) = run_at(bytes)?;
+    let text = text_of(alloc, word)?;
+    Ok((text, rest))
+}
+
+/// A text, quoted or not, before which no blank is left, and the bytes after it.
+#[tactic(auto, unfolding(crate::specs::Reading::text_here))]
+fn text_here(alloc: Global, bytes: &[u8]) -> Result<(Text, &[u8]), Stop>
+    ensures { Gives (λ x. (x.0, x.1.now)) result (text_here bytes.now) }
+{
+    if begins(bytes, b'"') {
+        return quoted_at(alloc, after_first(bytes));
+    }
+    plain_text_at(alloc, bytes)
+}
+
+/// The next text, quoted or not, and the bytes after it.
+#[tactic(auto, unfolding(crate::specs::Reading::wording_at))]
+pub fn wording_at(alloc: Global, bytes: &[u8]) -> Result<(Text, &[u8]), Stop>
+    ensures { Gives (λ x. (x.0, x.1.now)) result (wording_at bytes.now) }
+{
+    text_here(alloc, skip_blanks(bytes))
 }

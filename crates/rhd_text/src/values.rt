@@ -1,21 +1,21 @@
 //! Values.
 
 ghost use Rattle.std.specs.Prelude.{◌≡◌};
-ghost use Rattle.rhd_text.specs.Reading.{unit_at, int_at, text_value_at, value_here, value_at, values_at};
+ghost use Rattle.rhd_text.specs.Reading.{unit_at, int_at, text_value_at, value_here, value_at};
 ghost use Rattle.rhd_text.specs.Answers.{Gives};
 
 use crate::fault::Stop;
 use crate::numbers::int_of;
-use crate::quoted::{after_bracket, after_first, begins, closes, quoted_at};
-use crate::words::{is_end, run_at, skip_blanks};
-use rhd_value::{Dynamic, Value, Values};
+use crate::quoted::{after_bracket, after_first, begins, comes, quoted_at};
+use crate::words::{run_at, skip_blanks};
+use rhd_value::{Dynamic, Value};
 use std::alloc::Global;
 
 /// The rest of `()`, after its first byte, and the bytes after it.
 fn unit_at(bytes: &[u8]) -> Result<(Dynamic, &[u8]), Stop>
     ensures { Gives (λ x. (x.0, x.1.now)) result (unit_at bytes.now) }
 {
-    if !closes(bytes, b')') {
+    if !comes(bytes, b')') {
         return Err(Stop::Bad);
     }
     Ok((Dynamic::from(Value::Unit), after_bracket(bytes)))
@@ -60,28 +60,4 @@ pub fn value_at(alloc: Global, bytes: &[u8]) -> Result<(Dynamic, &[u8]), Stop>
     ensures { Gives (λ x. (x.0, x.1.now)) result (value_at bytes.now) }
 {
     value_here(alloc, skip_blanks(bytes))
-}
-
-/// Values up to the end of the line.
-#[tactic(auto, unfolding(crate::specs::Reading::many, crate::specs::Reading::values_at))]
-pub fn values_at(alloc: Global, bytes: &[u8]) -> Result<(Values, &[u8]), Stop>
-    ensures { Gives (λ x. (x.0, x.1.now)) result (values_at bytes.now) }
-{
-    let mut values = Values::new(alloc);
-    let mut rest = bytes;
-    let mut most = bytes.len();
-    while most > 0 {
-        if is_end(rest) {
-            return Ok((values, rest));
-        }
-        let (x, after) = value_at(alloc, rest)?;
-        values.push(x)?;
-        rest = after;
-        most -= 1;
-    }
-    if is_end(rest) {
-        Ok((values, rest))
-    } else {
-        Err(Stop::Bad)
-    }
 }
