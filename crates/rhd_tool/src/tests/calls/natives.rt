@@ -31,6 +31,30 @@ enum Wanted {
     Asks(&'static str, &'static str),
 }
 
+/// No values.
+const NONE: &[Item] = &[];
+
+/// Sixteen integers and one more value.
+const MANY: &[Item] = &[
+    Item::Int(1),
+    Item::Int(1),
+    Item::Int(1),
+    Item::Int(1),
+    Item::Int(1),
+    Item::Int(1),
+    Item::Int(1),
+    Item::Int(1),
+    Item::Int(1),
+    Item::Int(1),
+    Item::Int(1),
+    Item::Int(1),
+    Item::Int(1),
+    Item::Int(1),
+    Item::Int(1),
+    Item::Int(1),
+    Item::Unit,
+];
+
 const COUNT: Wanted = Wanted::Fault("wrong number of arguments");
 
 const UNBUILT: Wanted = Wanted::Fault("not built");
@@ -122,96 +146,84 @@ fn check_step(
     Ok(())
 }
 
+/// A first step: the native, the first argument where one is given, the others, the step that is
+/// wanted, and the first argument that it gives back.
+#[derive(Clone, Copy)]
+struct First(u32, Option<Item>, &'static [Item], Wanted, &'static str);
+
 /// Calls each native of the kit on arguments that fit, and some on others.
 fn check_first_steps(rt: &impl Abort, alloc: Global) -> Result<(), Fail> {
     use Item::{Array, Char, Custom, Int, Pointer, Text, Unit};
     use Wanted::{Answer, Asks, Fault};
-    let many = [
-        Int(1),
-        Int(1),
-        Int(1),
-        Int(1),
-        Int(1),
-        Int(1),
-        Int(1),
-        Int(1),
-        Int(1),
-        Int(1),
-        Int(1),
-        Int(1),
-        Int(1),
-        Int(1),
-        Int(1),
-        Int(1),
-        Unit,
-    ];
-    let table = [
-        (0, None, [].as_slice(), Answer("0"), ""),
-        (0, None, &[Int(8)], COUNT, ""),
-        (0, Some(Unit), &[], COUNT, "!()"),
-        (1, None, &[Int(8)], Answer("1"), ""),
-        (1, None, &[], COUNT, ""),
-        (1, None, &[Unit, Unit], COUNT, ""),
-        (1, None, &[Unit], UNBUILT, ""),
-        (1, Some(Int(5)), &[], Answer("1"), "!5"),
-        (1, Some(Unit), &[], UNBUILT, "!()"),
-        (1, Some(Int(5)), &[Int(8)], COUNT, "!5"),
-        (2, None, &[Int(8)], Answer("2"), ""),
-        (2, Some(Char('a')), &[], UNBUILT, "!'a'"),
-        (3, None, &[Array], Answer("3"), ""),
-        (4, None, &[Unit, Char('a')], Answer("4"), ""),
-        (4, None, &[Char('a'), Unit], UNBUILT, ""),
-        (5, Some(Int(7)), &[Text("x")], Answer("5"), "!7"),
-        (5, Some(Unit), &[Int(7)], UNBUILT, "!()"),
-        (6, None, &[Text("")], Answer("0"), ""),
-        (6, None, &[Text("a\u{e9}")], Answer("3"), ""),
-        (6, None, &[Unit], UNBUILT, ""),
-        (7, Some(Int(2)), &[Int(-5)], Answer("-3"), "!2"),
-        (
+    const CASES: &[First] = &[
+        First(0, None, NONE, Answer("0"), ""),
+        First(0, None, &[Int(8)], COUNT, ""),
+        First(0, Some(Unit), &[], COUNT, "!()"),
+        First(1, None, &[Int(8)], Answer("1"), ""),
+        First(1, None, &[], COUNT, ""),
+        First(1, None, &[Unit, Unit], COUNT, ""),
+        First(1, None, &[Unit], UNBUILT, ""),
+        First(1, Some(Int(5)), &[], Answer("1"), "!5"),
+        First(1, Some(Unit), &[], UNBUILT, "!()"),
+        First(1, Some(Int(5)), &[Int(8)], COUNT, "!5"),
+        First(2, None, &[Int(8)], Answer("2"), ""),
+        First(2, Some(Char('a')), &[], UNBUILT, "!'a'"),
+        First(3, None, &[Array], Answer("3"), ""),
+        First(4, None, &[Unit, Char('a')], Answer("4"), ""),
+        First(4, None, &[Char('a'), Unit], UNBUILT, ""),
+        First(5, Some(Int(7)), &[Text("x")], Answer("5"), "!7"),
+        First(5, Some(Unit), &[Int(7)], UNBUILT, "!()"),
+        First(6, None, &[Text("")], Answer("0"), ""),
+        First(6, None, &[Text("a\u{e9}")], Answer("3"), ""),
+        First(6, None, &[Unit], UNBUILT, ""),
+        First(7, Some(Int(2)), &[Int(-5)], Answer("-3"), "!2"),
+        First(
             7,
             None,
             &[Int(9223372036854775807), Int(2)],
             Answer("-9223372036854775807"),
             "",
         ),
-        (8, Some(Array), &[], UNBUILT, "![]"),
-        (9, None, &[Array], UNBUILT, ""),
-        (10, None, &[Text("x")], Answer("!\"x\""), ""),
-        (10, Some(Int(3)), &[], Answer("!3"), "!3"),
-        (11, None, &[Text("no")], Fault("no"), ""),
-        (11, Some(Text("no")), &[], Fault("no"), "!\"no\""),
-        (12, None, &[Text("f")], Asks("f", "()"), ""),
-        (12, Some(Text("f")), &[], Asks("f", "()"), "!\"f\""),
-        (12, None, &[Int(1)], UNBUILT, ""),
-        (13, None, &[Text("f"), Int(3)], Asks("f", "[!\"f\" 2]"), ""),
-        (
+        First(8, Some(Array), &[], UNBUILT, "![]"),
+        First(9, None, &[Array], UNBUILT, ""),
+        First(10, None, &[Text("x")], Answer("!\"x\""), ""),
+        First(10, Some(Int(3)), &[], Answer("!3"), "!3"),
+        First(11, None, &[Text("no")], Fault("no"), ""),
+        First(11, Some(Text("no")), &[], Fault("no"), "!\"no\""),
+        First(12, None, &[Text("f")], Asks("f", "()"), ""),
+        First(12, Some(Text("f")), &[], Asks("f", "()"), "!\"f\""),
+        First(12, None, &[Int(1)], UNBUILT, ""),
+        First(13, None, &[Text("f"), Int(3)], Asks("f", "[!\"f\" 2]"), ""),
+        First(
             13,
             Some(Text("f")),
             &[Int(1)],
             Asks("f", "[!\"f\" 0]"),
             "!\"f\"",
         ),
-        (13, None, &[Text("f"), Int(0)], Answer("()"), ""),
-        (13, Some(Text("f")), &[Int(-1)], Answer("()"), "!\"f\""),
-        (13, None, &[Text("f")], COUNT, ""),
-        (14, None, many.as_slice(), Answer("14"), ""),
-        (14, None, &[Int(1), Unit], COUNT, ""),
-        (15, Some(Custom(1, 4)), &[], UNBUILT, "!custom(1 4)"),
-        (16, None, &[Pointer("f")], UNBUILT, ""),
-        (17, Some(Unit), &[Unit], Answer("17"), "!()"),
-        (18, Some(Text("x")), &[], Answer("18"), "!\"x\""),
-        (18, None, &[Char('x')], UNBUILT, ""),
-        (19, Some(Int(2)), &[Int(3)], Answer("()"), "!5"),
-        (
+        First(13, None, &[Text("f"), Int(0)], Answer("()"), ""),
+        First(13, Some(Text("f")), &[Int(-1)], Answer("()"), "!\"f\""),
+        First(13, None, &[Text("f")], COUNT, ""),
+        First(14, None, MANY, Answer("14"), ""),
+        First(14, None, &[Int(1), Unit], COUNT, ""),
+        First(15, Some(Custom(1, 4)), &[], UNBUILT, "!custom(1 4)"),
+        First(16, None, &[Pointer("f")], UNBUILT, ""),
+        First(17, Some(Unit), &[Unit], Answer("17"), "!()"),
+        First(18, Some(Text("x")), &[], Answer("18"), "!\"x\""),
+        First(18, None, &[Char('x')], UNBUILT, ""),
+        First(19, Some(Int(2)), &[Int(3)], Answer("()"), "!5"),
+        First(
             19,
             Some(Int(-9223372036854775808)),
             &[Int(-1)],
             Answer("()"),
             "!9223372036854775807",
         ),
-        (19, None, &[Int(2), Int(3)], Answer("()"), ""),
+        First(19, None, &[Int(2), Int(3)], Answer("()"), ""),
     ];
-    for (number, first, args, wanted, shown) in table {
+    for case in CASES {
+        let First(number, first, args, wanted, shown) = *case;
+        assert!(rt; number < 20, "a native of the kit");
         let first = given(alloc, first)?;
         let args = listed(alloc, args)?;
         let step = KitFn::new(number).call(alloc, None, first, args)?;
@@ -244,52 +256,66 @@ fn done(alloc: Global, answer: Option<Item>) -> Result<CallDone, Fail> {
     })
 }
 
+/// A next step: the native, its first argument and what it kept, what came of the call, the step that
+/// is wanted, and the first argument that it gives back.
+#[derive(Clone, Copy)]
+struct Next(
+    u32,
+    Option<Item>,
+    Option<&'static [Item]>,
+    Option<Item>,
+    Wanted,
+    &'static str,
+);
+
 /// Goes on with natives of the kit.
 fn check_next_steps(rt: &impl Abort, alloc: Global) -> Result<(), Fail> {
     use Item::{Int, Text, Unit};
     use Wanted::{Answer, Asks, Fault};
-    let four = Some(Int(4));
-    let first = Some(Text("f"));
-    let table = [
-        (12, None, None, four, Answer("!4"), ""),
-        (12, first, None, four, Answer("!4"), "!\"f\""),
-        (12, first, None, None, Fault("low"), "!\"f\""),
-        (12, first, Some([].as_slice()), four, BAD, "!\"f\""),
-        (13, None, None, four, BAD, ""),
-        (
+    const FOUR: Option<Item> = Some(Int(4));
+    const NAME: Option<Item> = Some(Text("f"));
+    const CASES: &[Next] = &[
+        Next(12, None, None, FOUR, Answer("!4"), ""),
+        Next(12, NAME, None, FOUR, Answer("!4"), "!\"f\""),
+        Next(12, NAME, None, None, Fault("low"), "!\"f\""),
+        Next(12, NAME, Some(NONE), FOUR, BAD, "!\"f\""),
+        Next(13, None, None, FOUR, BAD, ""),
+        Next(
             13,
-            first,
+            NAME,
             Some(&[Text("g"), Int(0)]),
-            four,
+            FOUR,
             Answer("!4"),
             "!\"f\"",
         ),
-        (
+        Next(
             13,
-            first,
+            NAME,
             Some(&[Text("g"), Int(3)]),
-            four,
+            FOUR,
             Asks("g", "[!\"g\" 2]"),
             "!\"f\"",
         ),
-        (
+        Next(
             13,
-            first,
+            NAME,
             Some(&[Text("g"), Int(3)]),
             None,
             Fault("low"),
             "!\"f\"",
         ),
-        (13, first, Some(&[Text("g"), Int(-1)]), four, BAD, "!\"f\""),
-        (13, None, Some(&[Text("g"), Int(-1)]), None, BAD, ""),
-        (13, None, Some(&[Text("g")]), four, BAD, ""),
-        (13, None, Some(&[Text("g"), Unit]), four, BAD, ""),
-        (13, None, Some(&[Int(1), Int(1)]), four, BAD, ""),
-        (13, None, Some(&[Text("g"), Int(1), Int(1)]), four, BAD, ""),
-        (1, first, None, four, BAD, "!\"f\""),
-        (16, None, None, four, BAD, ""),
+        Next(13, NAME, Some(&[Text("g"), Int(-1)]), FOUR, BAD, "!\"f\""),
+        Next(13, None, Some(&[Text("g"), Int(-1)]), None, BAD, ""),
+        Next(13, None, Some(&[Text("g")]), FOUR, BAD, ""),
+        Next(13, None, Some(&[Text("g"), Unit]), FOUR, BAD, ""),
+        Next(13, None, Some(&[Int(1), Int(1)]), FOUR, BAD, ""),
+        Next(13, None, Some(&[Text("g"), Int(1), Int(1)]), FOUR, BAD, ""),
+        Next(1, NAME, None, FOUR, BAD, "!\"f\""),
+        Next(16, None, None, FOUR, BAD, ""),
     ];
-    for (number, first, kept, answer, wanted, shown) in table {
+    for case in CASES {
+        let Next(number, first, kept, answer, wanted, shown) = *case;
+        assert!(rt; number < 20, "a native of the kit");
         let carry = carry(alloc, first, kept)?;
         let done = done(alloc, answer)?;
         let step = KitFn::new(number).resume(alloc, None, carry, done)?;
