@@ -3,11 +3,10 @@ use Rattle.std.specs.Prelude.{ℕ, ◌^◌, ◌-◌, min, ℤ, pos, ◌-ℤ◌, 
 use Rattle.std.specs.Int.{int_wrapping_add, w64}
 use Rattle.std.specs.List.{list_all, zip}
 use Rattle.std.specs.Option.{option_map, option_map_or}
-use Rattle.rhd_value.specs.Tree.{Bytes, Tree, Kind, unit, integer, array, items_of, list_of}
+use Rattle.rhd_value.specs.Tree.{Bytes, Tree, unit, integer, array, items_of}
 use Rattle.rhd_value.specs.Kinds.{plain, tag_of, int_in, text_in, map_type}
 use Rattle.rhd_value.specs.Same.{tag_eq}
 use Rattle.rhd_value.specs.declared.fault.EvalAltResult.{EvalAltResult}
-use Rattle.rhd_value.specs.declared.fault.EvalAltResult.TheVariants.{ErrorRuntime}
 use Rattle.rhd_value.specs.declared.tag.Position.{Position}
 use Rattle.rhd_value.specs.declared.tag.TypeTag.{TypeTag}
 use Rattle.rhd_value.specs.declared.tag.TypeTag.TheVariants as tags
@@ -19,6 +18,7 @@ use Rattle.rhd_func.specs.declared.request.CallShape.TheVariants.{Plain}
 use Rattle.rhd_func.specs.declared.request.NativeCallContext.{NativeCallContext}
 use Rattle.rhd_func.specs.declared.request.NativeStep.{NativeStep}
 use Rattle.rhd_func.specs.declared.request.NativeStep.TheVariants.{Done, Failed, Ask}
+use Rattle.rhd_tool.specs.Values.{argument_at, int_of, text_of, values_in, own_fault, bad_carry}
 
 -- The table.
 
@@ -77,19 +77,7 @@ takes tag value = tag_eq tag tags.Dynamic || tag_eq (map_type true tag) (tag_of 
 abbrev pub all_fit : List TypeTag → List Tree → Bool
 all_fit types args = list_all (λ p. takes p.0 p.1) (zip types args)
 
--- the integer and the text that an argument is; where it is another, or none, a value that is never seen
-abbrev pub int_of : Option Tree → ℤ
-int_of None = pos 0
-int_of (Some value) = unwrap_or (int_in value.kind) (pos 0)
-
-abbrev pub text_of : Option Tree → Bytes
-text_of None = []
-text_of (Some value) = unwrap_or (text_in value.kind) []
-
--- the same of the argument at a place
-abbrev pub argument_at : List Tree → ℕ → Tree
-argument_at args at = unwrap_or (slice_get args at) (plain unit)
-
+-- what the argument at a place is
 abbrev pub int_at : List Tree → ℕ → ℤ
 int_at args at = int_of (slice_get args at)
 
@@ -97,10 +85,6 @@ abbrev pub text_at : List Tree → ℕ → Bytes
 text_at args at = text_of (slice_get args at)
 
 -- The first step.
-
--- the fault of a function's own with this text
-abbrev pub own_fault : Bytes → Option Tree → NativeStep
-own_fault text first = Failed (ErrorRuntime text (record { line = 0; column = 0 })) first
 
 -- an integer made anew
 abbrev pub answers : ℤ → Option Tree → NativeStep
@@ -173,11 +157,6 @@ abbrev pub passes_on : Result Tree EvalAltResult → Option Tree → NativeStep
 passes_on (Ok answer) first = Done answer first
 passes_on (Err fault) first = Failed fault first
 
--- the values of an array; of another kind, none
-abbrev pub values_in : Kind → List Tree
-values_in (array values) = list_of values
-values_in _ = []
-
 -- it is unit, whatever its marks
 abbrev pub is_unit : Tree → Bool
 is_unit value = tag_eq (tag_of value) tags.Unit
@@ -191,9 +170,6 @@ is_name_with_left _ = false
 abbrev pub goes_on : Option NativeCallContext → Tree → ℤ → Result Tree EvalAltResult → Option Tree → NativeStep
 goes_on ctx name left (Err fault) first = Failed fault first
 goes_on ctx name left (Ok answer) first = if int_lt left (pos 1) then Done answer first else asks_with_left ctx name (left -ℤ pos 1) first
-
-abbrev pub bad_carry : Option Tree → NativeStep
-bad_carry first = own_fault (codes "bad carry") first
 
 -- the step after a call of the native of a number, by what it kept and what came of the call
 abbrev pub kit_next : ℕ → Option NativeCallContext → Carry → Result Tree EvalAltResult → NativeStep

@@ -8,8 +8,9 @@ mod steps;
 mod table;
 
 use crate::kit::given::Given;
-use crate::kit::steps::{act, go_on, own_fault};
+use crate::kit::steps::{act, go_on};
 use crate::kit::table::kit_row;
+use crate::values::own_fault;
 use rhd_func::{CallDone, Carry, NativeCallContext, NativeStep, PluginFunc};
 use rhd_value::{Dynamic, OutOfMemory, TypeTag, Values};
 use std::alloc::Global;

@@ -1,11 +1,12 @@
 //! The arguments that a native is called with.
 
-ghost use Rattle.std.specs.Prelude.{◌≡◌, ◌==◌, IfOk, [], length, slice_get, unwrap_or, pos};
+ghost use Rattle.std.specs.Prelude.{◌≡◌, ◌==◌, IfOk, length, slice_get};
 ghost use Rattle.std.specs.Option.{option_copied};
-ghost use Rattle.rhd_value.specs.Kinds.{int_in, text_in};
-ghost use Rattle.rhd_tool.specs.Kit.{arguments, takes, all_fit, argument_at, int_of, int_at, text_of, text_at};
+ghost use Rattle.rhd_tool.specs.Kit.{arguments, takes, all_fit, int_at, text_at};
+ghost use Rattle.rhd_tool.specs.Values.{argument_at};
 
-use rhd_value::{Dynamic, OutOfMemory, TypeTag, Value, Values, map_type};
+use crate::values::{first_of, int_of, text_of};
+use rhd_value::{Dynamic, OutOfMemory, TypeTag, Values, map_type};
 use std::alloc::Global;
 
 /// The arguments of a native.
@@ -29,29 +30,6 @@ fn all_fit(types: &[TypeTag], args: &[Dynamic]) -> bool
     ensures { result ≡ all_fit types.now args.now }
 {
     types.iter().zip(args).all(|(tag, arg)| takes(*tag, arg))
-}
-
-/// The integer that a value is; 0 for another.
-pub fn int_of(value: Option<&Dynamic>) -> i64
-    ensures { result ≡ int_of (option_copied value.entry) }
-{
-    match value {
-        Some(value) => value.as_int().unwrap_or(0),
-        None => 0,
-    }
-}
-
-/// The text that a value is; empty for another.
-pub fn text_of(value: Option<&Dynamic>) -> &str
-    ensures { result.now ≡ text_of (option_copied value.entry) }
-{
-    match value {
-        Some(value) => match value.as_text() {
-            Some(text) => text.as_str(),
-            None => "",
-        },
-        None => "",
-    }
 }
 
 impl Given {
@@ -112,16 +90,5 @@ impl Given {
             Some(first) => Ok((first.dup(alloc)?, Some(first))),
             None => Ok((first_of(args), None)),
         }
-    }
-}
-
-/// The first of some values; unit where there is none.
-pub fn first_of(values: Values) -> Dynamic
-    ensures { result ≡ argument_at values 0 }
-{
-    let (first, _rest) = values.split_first();
-    match first {
-        Some(first) => first,
-        None => Dynamic::from(Value::Unit),
     }
 }

@@ -4,40 +4,14 @@ ghost use Rattle.std.specs.Prelude.{◌≡◌, IfOk};
 ghost use Rattle.std.specs.Option.{option_copied, option_map};
 ghost use Rattle.rhd_value.specs.Tree.{unit};
 ghost use Rattle.rhd_value.specs.Kinds.{plain};
-ghost use Rattle.rhd_tool.specs.Kit.{arguments, own_fault, answers, bytes_in, sum_of, changed_to, position_of, call_of, asks_once, with_left, asks_with_left, asks_often, kit_does, passes_on, values_in, is_name_with_left, goes_on, kit_next, argument_at, int_at, text_at};
+ghost use Rattle.rhd_tool.specs.Kit.{arguments, answers, bytes_in, sum_of, changed_to, position_of, call_of, asks_once, with_left, asks_with_left, asks_often, kit_does, passes_on, is_name_with_left, goes_on, kit_next, int_at, text_at};
+ghost use Rattle.rhd_tool.specs.Values.{argument_at, own_fault};
 
-use crate::kit::given::{Given, first_of, int_of, text_of};
+use crate::kit::given::Given;
+use crate::values::{answer_unit, failed, first_of, int_of, own_fault, owned, text_of, values_in};
 use rhd_func::{CallRequest, CallShape, Carry, NativeCallContext, NativeStep};
-use rhd_value::{Dynamic, EvalAltResult, OutOfMemory, Position, Text, TypeTag, Value, Values};
+use rhd_value::{Dynamic, EvalAltResult, OutOfMemory, Position, TypeTag, Value, Values};
 use std::alloc::Global;
-
-/// A text of one's own.
-fn owned(alloc: Global, text: &str) -> Result<Text, OutOfMemory>
-    ensures { IfOk result (λ owned. owned ≡ text.now) }
-{
-    Ok(Text::from_string(String::from_str(alloc, text)?))
-}
-
-/// The fault of a native's own with this text.
-fn failed(text: Text, first: Option<Dynamic>) -> NativeStep
-    ensures { result ≡ own_fault text first }
-{
-    NativeStep::Failed {
-        fault: EvalAltResult::ErrorRuntime(text, Position::NONE),
-        first,
-    }
-}
-
-/// The same, of a text that is borrowed.
-pub fn own_fault(
-    alloc: Global,
-    text: &str,
-    first: Option<Dynamic>,
-) -> Result<NativeStep, OutOfMemory>
-    ensures { IfOk result (λ step. step ≡ own_fault text.now first) }
-{
-    Ok(failed(owned(alloc, text)?, first))
-}
 
 /// The answer of an integer made anew.
 fn answer(number: i64, first: Option<Dynamic>) -> NativeStep
@@ -45,16 +19,6 @@ fn answer(number: i64, first: Option<Dynamic>) -> NativeStep
 {
     NativeStep::Done {
         answer: Dynamic::from(Value::Int(number)),
-        first,
-    }
-}
-
-/// The answer of unit.
-fn answer_unit(first: Option<Dynamic>) -> NativeStep
-    ensures { result ≡ NativeStep.Done (plain unit) first }
-{
-    NativeStep::Done {
-        answer: Dynamic::from(Value::Unit),
         first,
     }
 }
@@ -230,18 +194,6 @@ fn pass_on(answer: Result<Dynamic, EvalAltResult>, first: Option<Dynamic>) -> Na
     match answer {
         Ok(answer) => NativeStep::Done { answer, first },
         Err(fault) => NativeStep::Failed { fault, first },
-    }
-}
-
-/// The values of an array; of another kind, none.
-#[tactic(auto, using(crate::proofs::Arrays::items_list))]
-fn values_in(alloc: Global, value: Dynamic) -> Values
-    ensures { result ≡ values_in value.kind }
-{
-    let Dynamic { value, marks: _ } = value;
-    match value {
-        Value::Array(values) => values,
-        _ => Values::new(alloc),
     }
 }
 
