@@ -16,3 +16,4 @@ pub mod BodyLaws
 pub mod PrintingWeights
 pub mod PrintingEntries
 pub mod PrintingTrees
+mod TextLimits

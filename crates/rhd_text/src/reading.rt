@@ -1,6 +1,6 @@
 //! Reading a text.
 
-ghost use Rattle.std.specs.Prelude.{ℕ, ◌<◌, ◌^◌, length};
+ghost use Rattle.std.specs.Prelude.{ℕ, ◌<◌, ◌≤◌, ◌^◌, length, IfOk, IfSome};
 ghost use Rattle.std.specs.Str.Lines.{lines};
 ghost use Rattle.rhd_text.specs.declared.session.SessionText.{SessionText};
 ghost use Rattle.rhd_text.specs.Session.{IsSession, IsFirstBad, ReadsText, ReadsNoOther, NamesNoOther};
@@ -53,6 +53,10 @@ pub fn read_text(alloc: Global, bytes: &[u8], natives: &Natives) -> Result<Sessi
     ensures text { (u : SessionText) → IsSession (length natives.now.items.items) (lines bytes.now) u → ReadsNoOther result u }
     // The first bad line is named, unless memory runs out.
     ensures bad { (number : ℕ) → IsFirstBad (length natives.now.items.items) number (lines bytes.now) → NamesNoOther result number }
+    // The limits that it sets are allowed.
+    ensures limits { IfOk result (λ t. IfSome t.limits (λ l. l.level ≤ 1000)) }
+    // A command takes a line.
+    ensures count { IfOk result (λ t. length t.commands ≤ length (lines bytes.now)) }
 {
     read_lines(alloc, bytes, natives.len())
 }

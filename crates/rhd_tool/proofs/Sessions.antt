@@ -11,25 +11,26 @@ use Rattle.rhd_session.specs.Engine.{Frame}
 use Rattle.rhd_session.specs.World.{World, Objects, Moment}
 use Rattle.rhd_session.specs.Start.{start_world, start_frame, start_moment}
 use Rattle.rhd_session.specs.Answered.{Answered}
-use Rattle.rhd_tool.specs.Ends.{IsAnswered, default_limits}
+use Rattle.rhd_session.specs.declared.limits.Limits.{Limits}
+use Rattle.rhd_tool.specs.Ends.{Bodies, IsAnswered}
 
 -- no command is answered by no reply
-pub none_answered : (o : Objects) (natives : List NativeInfo) (commands : List Command) (replies : List Reply) → replies ≡ [] → IsAnswered o natives (take (length replies) commands) replies
-none_answered o natives commands replies e = rw e (record { world = start_world natives default_limits; frame = start_frame; after = start_moment; answered = (refl, refl, refl) })
+pub none_answered : (o : Objects Bodies) (natives : List NativeInfo) (limits : Limits) (bodies : Bodies) (commands : List Command) (replies : List Reply) → replies ≡ [] → IsAnswered o natives limits bodies (take (length replies) commands) replies
+none_answered o natives limits bodies commands replies e = rw e (record { world = start_world natives limits; frame = start_frame; after = start_moment bodies; answered = (refl, refl, refl) })
 
-pub all_answered : {E : Type 0} (o : Objects) (natives : List NativeInfo) (commands : List Command) (r : Result (List Reply) E) (world : World) (frame : Frame) (after : Moment)
-    → IfOk r (λ replies. Answered o (start_world natives default_limits) start_frame start_moment commands replies world frame after) → IfOk r (IsAnswered o natives commands)
-all_answered o natives commands r world frame after a =
-    IfOk-weaker r (λ replies. Answered o (start_world natives default_limits) start_frame start_moment commands replies world frame after) (IsAnswered o natives commands) (λ replies h. record { world = world; frame = frame; after = after; answered = h }) a
+pub all_answered : {E : Type 0} (o : Objects Bodies) (natives : List NativeInfo) (limits : Limits) (bodies : Bodies) (commands : List Command) (r : Result (List Reply) E) (world : World) (frame : Frame) (after : Moment Bodies)
+    → IfOk r (λ replies. Answered o (start_world natives limits) start_frame (start_moment bodies) commands replies world frame after) → IfOk r (IsAnswered o natives limits bodies commands)
+all_answered o natives limits bodies commands r world frame after a =
+    IfOk-weaker r (λ replies. Answered o (start_world natives limits) start_frame (start_moment bodies) commands replies world frame after) (IsAnswered o natives limits bodies commands) (λ replies h. record { world = world; frame = frame; after = after; answered = h }) a
 
-pub some_answered : {T : Type 0} (o : Objects) (natives : List NativeInfo) (commands : List Command) (r : Result T Stopped) (world : World) (frame : Frame) (begun : ℕ)
-    → IfErr r (λ s. (after : Moment) × Answered o (start_world natives default_limits) start_frame start_moment (take (length s.replies) commands) s.replies world frame after × (after.begun ≤ begun))
-    → IfErr r (λ s. IsAnswered o natives (take (length s.replies) commands) s.replies)
-some_answered o natives commands (Ok x) world frame begun a = tt
-some_answered o natives commands (Err s) world frame begun a = record { world = world; frame = frame; after = a.0; answered = a.1 }
+pub some_answered : {T : Type 0} (o : Objects Bodies) (natives : List NativeInfo) (limits : Limits) (bodies : Bodies) (commands : List Command) (r : Result T Stopped) (world : World) (frame : Frame) (begun : ℕ)
+    → IfErr r (λ s. (after : Moment Bodies) × Answered o (start_world natives limits) start_frame (start_moment bodies) (take (length s.replies) commands) s.replies world frame after × (after.begun ≤ begun))
+    → IfErr r (λ s. IsAnswered o natives limits bodies (take (length s.replies) commands) s.replies)
+some_answered o natives limits bodies commands (Ok x) world frame begun a = tt
+some_answered o natives limits bodies commands (Err s) world frame begun a = record { world = world; frame = frame; after = a.0; answered = a.1 }
 
 -- all replies are as many as the commands
-pub front_answered : (o : Objects) (natives : List NativeInfo) (commands : List Command) (replies now : List Reply) → now ≡ replies → length replies ≡ length commands → IsAnswered o natives commands replies → IsAnswered o natives (take (length now) commands) now
-front_answered o natives commands replies now e count a =
+pub front_answered : (o : Objects Bodies) (natives : List NativeInfo) (limits : Limits) (bodies : Bodies) (commands : List Command) (replies now : List Reply) → now ≡ replies → length replies ≡ length commands → IsAnswered o natives limits bodies commands replies → IsAnswered o natives limits bodies (take (length now) commands) now
+front_answered o natives limits bodies commands replies now e count a =
     let all : take (length now) commands ≡ commands = ap (λ (n : ℕ). take n commands) (ap length e ∙ count) ∙ take-length commands in
-    rw all (subst (IsAnswered o natives commands) (sym e) a)
+    rw all (subst (IsAnswered o natives limits bodies commands) (sym e) a)

@@ -1,5 +1,5 @@
 -- How a run ends.
-use Rattle.std.specs.Prelude.{◌⊎◌, ◌≡◌, ℕ, List, [], ◌∷◌, length, take, codes}
+use Rattle.std.specs.Prelude.{◌⊎◌, ◌≡◌, ℕ, List, [], ◌∷◌, length, take, unwrap_or, codes}
 use Rattle.std.specs.declared.option.Option.{Option}
 use Rattle.std.specs.Io.KnownBytes.{Appends}
 use Rattle.std.specs.Str.Lines.{lines}
@@ -12,6 +12,7 @@ use Rattle.rhd_session.specs.Start.{start_world, start_frame, start_moment}
 use Rattle.rhd_session.specs.declared.limits.Limits.{Limits}
 use Rattle.rhd_session.specs.Answered.{Answered}
 use Rattle.rhd_text.specs.declared.session.SessionText.{SessionText}
+use Rattle.rhd_text.specs.declared.body.BodyPlan.{BodyPlan}
 use Rattle.rhd_text.specs.Session.{IsSession, IsFirstBad}
 use Rattle.rhd_text.specs.PrintedReplies.{all_printed}
 use Rattle.rhd_tool.specs.Streams.{CameWhole, WrotePart}
@@ -28,7 +29,7 @@ run_words = codes "run" ∷ []
 abbrev pub IsStatus : ℕ → Type 0
 IsStatus n = (n ≡ 0) ⊎ (n ≡ 1) ⊎ (n ≡ 2) ⊎ (n ≡ 3) ⊎ (n ≡ 4) ⊎ (n ≡ 5) ⊎ (n ≡ 6)
 
--- Below, `held` is the number of natives, `natives` what they say of themselves and `o` what they may do.
+-- Below, `held` is the number of natives, `natives` what they say of themselves, and `o` what they and the bodies may do.
 
 -- all bytes of the source were read, and this line is the first that is no line of a session text
 pub record WasBad (held : ℕ) (old new : Option (List ℕ)) (line : ℕ) : Type 0 where
@@ -36,49 +37,57 @@ pub record WasBad (held : ℕ) (old new : Option (List ℕ)) (line : ℕ) : Type
   pub whole : CameWhole most_bytes old new bytes
   pub first : IsFirstBad held line (lines bytes)
 
+-- the bodies of a text, by number
+abbrev pub Bodies : Type 0
+Bodies = List BodyPlan
+
 -- the limits where a text sets none
 abbrev pub default_limits : Limits
 default_limits = record { array = 65536; map = 65536; text = 1048576; level = 64; budget = 1000000 }
 
--- the replies answer the commands, one after the other, in a new session
-pub record IsAnswered (o : Objects) (natives : List NativeInfo) (commands : List Command) (replies : List Reply) : Type 0 where
+-- the limits that a text sets, or else the default ones
+abbrev pub limits_of : SessionText → Limits
+limits_of text = unwrap_or text.limits default_limits
+
+-- the replies answer the commands, one after the other, in a new session with these limits and bodies
+pub record IsAnswered (o : Objects Bodies) (natives : List NativeInfo) (limits : Limits) (bodies : Bodies) (commands : List Command) (replies : List Reply) : Type 0 where
   pub world : World
   pub frame : Frame
-  pub after : Moment
-  pub answered : Answered o (start_world natives default_limits) start_frame start_moment commands replies world frame after
+  pub after : Moment Bodies
+  pub answered : Answered o (start_world natives limits) start_frame (start_moment bodies) commands replies world frame after
 
 -- these bytes are a session text, and the replies answer its commands
-pub record Ran (o : Objects) (natives : List NativeInfo) (held : ℕ) (bytes : List ℕ) (replies : List Reply) : Type 0 where
+pub record Ran (o : Objects Bodies) (natives : List NativeInfo) (held : ℕ) (bytes : List ℕ) (replies : List Reply) : Type 0 where
   pub text : SessionText
   pub says : IsSession held (lines bytes) text
-  pub answers : IsAnswered o natives text.commands replies
+  pub answers : IsAnswered o natives (limits_of text) text.bodies text.commands replies
 
 -- they are one, and the replies answer as many of its first commands
-pub record RanFront (o : Objects) (natives : List NativeInfo) (held : ℕ) (bytes : List ℕ) (replies : List Reply) : Type 0 where
+pub record RanFront (o : Objects Bodies) (natives : List NativeInfo) (held : ℕ) (bytes : List ℕ) (replies : List Reply) : Type 0 where
   pub text : SessionText
   pub says : IsSession held (lines bytes) text
-  pub answers : IsAnswered o natives (take (length replies) text.commands) replies
+  pub answers : IsAnswered o natives (limits_of text) text.bodies (take (length replies) text.commands) replies
 
 -- the same, or there are no replies
-abbrev pub RanPart : Objects → List NativeInfo → ℕ → List ℕ → List Reply → Type 0
+abbrev pub RanPart : Objects Bodies → List NativeInfo → ℕ → List ℕ → List Reply → Type 0
 RanPart o natives held bytes replies = (replies ≡ []) ⊎ RanFront o natives held bytes replies
 
 -- all bytes of the source are a session text, and the replies to it were written, printed
-pub record WasDone (o : Objects) (natives : List NativeInfo) (held : ℕ) (left_old left_new written_old written_new : Option (List ℕ)) (replies : List Reply) : Type 0 where
+pub record WasDone (o : Objects Bodies) (natives : List NativeInfo) (held : ℕ) (left_old left_new written_old written_new : Option (List ℕ)) (replies : List Reply) : Type 0 where
   pub bytes : List ℕ
   pub whole : CameWhole most_bytes left_old left_new bytes
   pub ran : Ran o natives held bytes replies
   pub wrote : Appends written_old written_new (all_printed replies)
 
 -- the same, of which a front was written
-pub record WasCut (o : Objects) (natives : List NativeInfo) (held : ℕ) (left_old left_new written_old written_new : Option (List ℕ)) (replies : List Reply) : Type 0 where
+pub record WasCut (o : Objects Bodies) (natives : List NativeInfo) (held : ℕ) (left_old left_new written_old written_new : Option (List ℕ)) (replies : List Reply) : Type 0 where
   pub bytes : List ℕ
   pub whole : CameWhole most_bytes left_old left_new bytes
   pub ran : Ran o natives held bytes replies
   pub wrote : WrotePart written_old written_new (all_printed replies)
 
 -- all bytes of the source are a session text, and the replies answer as many of its first commands
-pub record WasStopped (o : Objects) (natives : List NativeInfo) (held : ℕ) (left_old left_new : Option (List ℕ)) (replies : List Reply) : Type 0 where
+pub record WasStopped (o : Objects Bodies) (natives : List NativeInfo) (held : ℕ) (left_old left_new : Option (List ℕ)) (replies : List Reply) : Type 0 where
   pub bytes : List ℕ
   pub whole : CameWhole most_bytes left_old left_new bytes
   pub ran : RanFront o natives held bytes replies
