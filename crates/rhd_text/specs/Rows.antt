@@ -18,24 +18,28 @@ use Rattle.rhd_text.specs.declared.keyword.CallWord.TheVariants as words
 use Rattle.rhd_text.specs.declared.keyword.Keyword.{Keyword}
 use Rattle.rhd_text.specs.declared.keyword.Keyword.TheVariants as keywords
 
--- an operand of a line: a name; a text, quoted or not; a number of 32 or of 64 bits; one argument, which may be
--- given; arguments up to the end of the line, which may be given or not
+-- an operand of a line: a name; a text, quoted or not; texts between brackets; a number of 32 or of 64 bits; one
+-- argument, which may be given; arguments up to the end of the line, which may be given or not; a word that may be left out
 pub data Operand : Type 0 where
   NAME : Operand
   WORD : Operand
+  WORDS : Operand
   NUM : Operand
   LONG : Operand
   ARG : Operand
   ARGS : Bool → Operand
+  OPTIONAL : List ℕ → Operand
 
 -- what an operand says
 abbrev pub Meaning : Operand → Type 0
 Meaning NAME = List ℕ
 Meaning WORD = List ℕ
+Meaning WORDS = List (List ℕ)
 Meaning NUM = ℕ
 Meaning LONG = ℕ
 Meaning ARG = Argument
 Meaning (ARGS given) = Arguments
+Meaning (OPTIONAL w) = Bool
 
 -- a function of what these operands say
 abbrev pub From : List Operand → Type 0 → Type 0
