@@ -9,7 +9,7 @@ use Rattle.rhd_text.specs.declared.place.Place.{Place}
 use Rattle.rhd_text.specs.declared.line.Line.{Line}
 use Rattle.rhd_text.specs.declared.line.Line.TheVariants.{Skipped, Says}
 use Rattle.rhd_text.specs.declared.keyword.Keyword.{Keyword}
-use Rattle.rhd_text.specs.declared.keyword.Keyword.TheVariants.{Limits, Body, Do, Ret, Fail, Register, Call}
+use Rattle.rhd_text.specs.declared.keyword.Keyword.TheVariants.{Limits, Body, Do, Ret, Fail, Register, Module, Script, Lib, PopLib, Call}
 use Rattle.rhd_text.specs.declared.keyword.CallWord.{CallWord}
 use Rattle.rhd_text.specs.declared.keyword.CallWord.TheVariants as words
 use Rattle.rhd_text.specs.Bytes.{is_blank}
@@ -94,6 +94,10 @@ row_placed (Do v) = refl
 row_placed Ret = refl
 row_placed Fail = refl
 row_placed Register = refl
+row_placed Module = refl
+row_placed Script = refl
+row_placed Lib = refl
+row_placed PopLib = refl
 row_placed (Call v) = refl
 
 keyword_test : (b : Bool) (w : List ℕ) (j k : Keyword) (more : Option Keyword) → bytes_eq (keyword j) w ≡ b → cond b (Some j) more ≡ Some k → (more ≡ Some k → w ≡ keyword k) → w ≡ keyword k
@@ -117,6 +121,10 @@ keyword_complete (Do v) h = absurd cc
 keyword_complete Ret h = refl
 keyword_complete Fail h = refl
 keyword_complete Register h = refl
+keyword_complete Module h = refl
+keyword_complete Script h = refl
+keyword_complete Lib h = refl
+keyword_complete PopLib h = refl
 keyword_complete (Call words.Call) h = refl
 keyword_complete (Call words.CallNative) h = refl
 
@@ -128,6 +136,10 @@ keyword_shows (Do v) rest = refl
 keyword_shows Ret rest = refl
 keyword_shows Fail rest = refl
 keyword_shows Register rest = refl
+keyword_shows Module rest = refl
+keyword_shows Script rest = refl
+keyword_shows Lib rest = refl
+keyword_shows PopLib rest = refl
 keyword_shows (Call words.Call) rest = refl
 keyword_shows (Call words.CallNative) rest = refl
 
@@ -139,6 +151,10 @@ alone (Do v) bytes rest h w = absurd cc
 alone Ret bytes rest h w = w
 alone Fail bytes rest h w = w
 alone Register bytes rest h w = w
+alone Module bytes rest h w = w
+alone Script bytes rest h w = w
+alone Lib bytes rest h w = w
+alone PopLib bytes rest h w = w
 alone (Call v) bytes rest h w = w
 
 step_is : (k s : Keyword) → step_of k ≡ Some s → (v : CallWord) × (k ≡ Call v) × (Do v ≡ s)
@@ -148,6 +164,10 @@ step_is (Do v) s e = absurd cc
 step_is Ret s e = absurd cc
 step_is Fail s e = absurd cc
 step_is Register s e = absurd cc
+step_is Module s e = absurd cc
+step_is Script s e = absurd cc
+step_is Lib s e = absurd cc
+step_is PopLib s e = absurd cc
 step_is (Call v) s e = (v, refl, same_some (Do v) s e)
 
 step_sound : (k : Keyword) (first bytes rest : List ℕ) → bare (codes "do") first bytes → step_at bytes ≡ Some (k, rest) → head k first rest
@@ -202,6 +222,10 @@ head_complete (Do v) bytes rest w = do_complete v bytes rest w
 head_complete Ret bytes rest w = one_word_complete Ret bytes rest refl w
 head_complete Fail bytes rest w = one_word_complete Fail bytes rest refl w
 head_complete Register bytes rest w = one_word_complete Register bytes rest refl w
+head_complete Module bytes rest w = one_word_complete Module bytes rest refl w
+head_complete Script bytes rest w = one_word_complete Script bytes rest refl w
+head_complete Lib bytes rest w = one_word_complete Lib bytes rest refl w
+head_complete PopLib bytes rest w = one_word_complete PopLib bytes rest refl w
 head_complete (Call words.Call) bytes rest w = one_word_complete (Call words.Call) bytes rest refl w
 head_complete (Call words.CallNative) bytes rest w = one_word_complete (Call words.CallNative) bytes rest refl w
 
@@ -213,6 +237,10 @@ first_word (Do v) bytes rest w = (w.0, w.1)
 first_word Ret bytes rest w = (rest, w)
 first_word Fail bytes rest w = (rest, w)
 first_word Register bytes rest w = (rest, w)
+first_word Module bytes rest w = (rest, w)
+first_word Script bytes rest w = (rest, w)
+first_word Lib bytes rest w = (rest, w)
+first_word PopLib bytes rest w = (rest, w)
 first_word (Call v) bytes rest w = (rest, w)
 
 -- ---- a line
