@@ -12,6 +12,7 @@ pub mod ArgumentLaws
 pub mod OperandLaws
 pub mod RowLaws
 pub mod SessionLaws
+pub mod Utf8Laws
 pub mod BodyLaws
 pub mod PrintingWeights
 pub mod PrintingEntries

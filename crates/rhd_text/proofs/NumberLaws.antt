@@ -67,7 +67,7 @@ parsed_i64 w r h p =
           rw f.0 (pos_or_none r (digits_value 10 w) (2 ^ 63) (0 < length w) (ltb-true _ _ a.0) (parse_signed_digits own w64 w r p a.1))
     ]
 
-ascii-cons : (b : ℕ) (bs : List ℕ) → b < 128 → IsAscii bs → IsAscii (b ∷ bs)
+pub ascii-cons : (b : ℕ) (bs : List ℕ) → b < 128 → IsAscii bs → IsAscii (b ∷ bs)
 ascii-cons b bs lt h zero = lt
 ascii-cons b bs lt h (suc i) = h i
 

@@ -7,9 +7,9 @@ ghost use Rattle.rhd_text.specs.Reading.{given_at, argument_at, arguments_at};
 ghost use Rattle.rhd_text.specs.Answers.{Gives};
 
 use crate::body::{Given, GivenAt, Places};
+use crate::brackets::comes;
 use crate::fault::Stop;
 use crate::numbers::num_of;
-use crate::quoted::{begins, comes};
 use crate::values::value_at;
 use crate::words::{is_end, word_at};
 use rhd_value::{Dynamic, OutOfMemory, Value, Values};

@@ -1,8 +1,11 @@
 //! What is read is what is written.
 
-ghost use Rattle.std.specs.Prelude.{◌≡◌, ◌↔◌, List, ℕ, Some};
+ghost use Rattle.std.specs.Prelude.{◌≡◌, ◌↔◌, List, ◌∷◌, ◌++◌, ℕ, Some, true};
 ghost use Rattle.rhd_text.specs.declared.line.Line.{Line};
 ghost use Rattle.rhd_text.specs.declared.session.SessionText.{SessionText};
+ghost use Rattle.std.specs.Str.{is_utf8};
+ghost use Rattle.rhd_text.specs.Bytes.{is_blank};
+ghost use Rattle.rhd_text.specs.Spans.{◌▸◌, byte, letters, run};
 ghost use Rattle.rhd_text.specs.Grammar.{IsLine};
 ghost use Rattle.rhd_text.specs.Session.{IsSession, IsFirstBad};
 ghost use Rattle.rhd_text.specs.ReadRows.{line_of};
@@ -16,4 +19,11 @@ pub fn lines_are_read_as_they_are_written()
 pub fn texts_say_one_thing()
     ensures one { (held : ℕ) (lines : List (List ℕ)) (t u : SessionText) → IsSession held lines t → IsSession held lines u → t ≡ u }
     ensures not_bad { (held : ℕ) (lines : List (List ℕ)) (t : SessionText) (n : ℕ) → IsSession held lines t → IsFirstBad held n lines → ⊥ }
+{}
+
+/// In a line in UTF-8 every text is UTF-8, between quotation marks or after a blank: no line is
+/// bad for a text that is not.
+pub fn texts_of_lines_are_utf8()
+    ensures quoted { (line front bytes rest s : List ℕ) → is_utf8 line ≡ true → line ≡ front ++ bytes → (byte 34 ▸ letters s) bytes rest → is_utf8 s ≡ true }
+    ensures unquoted { (line front bytes rest w : List ℕ) (b : ℕ) → is_utf8 line ≡ true → is_blank b ≡ true → line ≡ front ++ b ∷ bytes → run w bytes rest → is_utf8 w ≡ true }
 {}

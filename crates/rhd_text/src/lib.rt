@@ -3,6 +3,7 @@
 
 mod arguments;
 mod body;
+mod brackets;
 mod fault;
 mod forms;
 mod keyword;
@@ -22,7 +23,7 @@ mod words;
 
 pub use body::{BodyEnd, BodyPlan, BodyPlans, CallPlan, CallPlans, Given, GivenAt, Places};
 pub use fault::TextFault;
-pub use laws::{lines_are_read_as_they_are_written, texts_say_one_thing};
+pub use laws::{lines_are_read_as_they_are_written, texts_of_lines_are_utf8, texts_say_one_thing};
 pub use printing::{print_replies, print_reply, print_value};
 pub use reading::read_text;
 pub use session::SessionText;

@@ -5,21 +5,19 @@ ghost use Rattle.rhd_text.specs.Bytes.{is_name};
 ghost use Rattle.rhd_text.specs.Reading.{name_at, comes, wording_at, many, texts_at};
 ghost use Rattle.rhd_text.specs.Answers.{Gives};
 
+use crate::brackets::{after_bracket, comes};
 use crate::fault::Stop;
-use crate::quoted::{after_bracket, comes, wording_at};
+use crate::quoted::{text_of, wording_at};
 use crate::words::{is_name, word_at};
 use rhd_value::{Text, Texts};
 use std::alloc::Global;
 
 /// The text of a name.
-fn text_of(alloc: Global, word: &[u8]) -> Result<Text, Stop>
+fn name_of(alloc: Global, word: &[u8]) -> Result<Text, Stop>
     requires { is_name word.now ≡ true }
     ensures { Gives (λ x. x) result (Some word.now) }
 {
-    match str::from_utf8(word) {
-        Ok(name) => Ok(Text::from_string(String::from_str(alloc, name)?)),
-        Err(_) => Err(Stop::Bad),
-    }
+    text_of(alloc, word)
 }
 
 /// A name, and the bytes after it.
@@ -31,7 +29,7 @@ pub fn name_at(alloc: Global, bytes: &[u8]) -> Result<(Text, &[u8]), Stop>
     if !is_name(word) {
         return Err(Stop::Bad);
     }
-    let name = text_of(alloc, word)?;
+    let name = name_of(alloc, word)?;
     Ok((name, rest))
 }
 

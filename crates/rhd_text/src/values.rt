@@ -4,9 +4,10 @@ ghost use Rattle.std.specs.Prelude.{◌≡◌};
 ghost use Rattle.rhd_text.specs.Reading.{unit_at, int_at, text_value_at, value_here, value_at};
 ghost use Rattle.rhd_text.specs.Answers.{Gives};
 
+use crate::brackets::{after_bracket, after_first, begins, comes};
 use crate::fault::Stop;
 use crate::numbers::int_of;
-use crate::quoted::{after_bracket, after_first, begins, comes, quoted_at};
+use crate::quoted::quoted_at;
 use crate::words::{run_at, skip_blanks};
 use rhd_value::{Dynamic, Value};
 use std::alloc::Global;

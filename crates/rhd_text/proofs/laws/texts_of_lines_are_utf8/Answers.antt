@@ -1,0 +1,8 @@
+use Rattle.rhd_text.proofs.Utf8Laws.{quoted_utf8, unquoted_utf8}
+use Rattle.rhd_text.proofs.laws.texts_of_lines_are_utf8.Goals as goal
+
+pub returns-clause-quoted : goal.returns-clause-quoted
+returns-clause-quoted c = quoted_utf8
+
+pub returns-clause-unquoted : goal.returns-clause-unquoted
+returns-clause-unquoted c = unquoted_utf8
