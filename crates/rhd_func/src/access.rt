@@ -13,3 +13,7 @@ pub enum FnNamespace {
     Internal,
     Global,
 }
+
+/// The number of an environment, counted from 0.
+#[derive(Clone, Copy, PartialEq, Eq, Debug)]
+pub struct EnvId(pub u32);

@@ -1,14 +1,17 @@
-//! Functions: what a declaration names, what a call asks for, and natives with their table.
+//! Functions: what a declaration names, what a call asks for, natives with their table, and the bodies
+//! of scripts.
 #![tactic(auto)]
 
 mod access;
+mod bodies;
 mod func;
 mod native;
 mod natives;
 mod request;
 
-pub use access::{FnAccess, FnNamespace};
-pub use func::RhaiFunc;
+pub use access::{EnvId, FnAccess, FnNamespace};
+pub use bodies::Bodies;
+pub use func::{BodyId, RhaiFunc, ScriptFuncDef, SharedDef};
 pub use native::PluginFunc;
 pub use natives::Natives;
 pub use request::{CallDone, CallRequest, CallShape, Carry, NativeCallContext, NativeStep};

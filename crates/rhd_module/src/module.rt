@@ -1,17 +1,18 @@
 //! A module.
 
-ghost use Rattle.std.specs.Prelude.{◌≡◌, OnOk, OnErr};
-ghost use Rattle.std.specs.Option.{option_map};
+ghost use Rattle.std.specs.Prelude.{◌≡◌, OnOk, OnErr, IfOk};
+ghost use Rattle.std.specs.Option.{option_copied, option_map};
 ghost use Rattle.rhd_module.specs.Tree.{empty_module};
 ghost use Rattle.rhd_module.specs.Shown.{own_decl};
-ghost use Rattle.rhd_module.specs.Registered.{with_decl};
+ghost use Rattle.rhd_module.specs.Registered.{with_decl, script_key, script_decl};
 
 use crate::declaration::Declaration;
 use crate::key::Key;
+use crate::registration::{script_declaration, script_key};
 use indexmap::IndexMap;
-use rhd_func::RhaiFunc;
+use rhd_func::{RhaiFunc, SharedDef};
 use rhd_value::OutOfMemory;
-use std::alloc::Global;
+use std::alloc::{AllocError, Global};
 use std::marker::Model;
 
 /// Functions by key, in the order in which their keys came first. Contracts see its lists.
@@ -50,12 +51,61 @@ impl Module {
 
     /// The function that is declared under a key.
     #[tactic(auto, unfolding(crate::specs::Shown::own_decl))]
-    pub fn get_fn(&self, key: &Key) -> Option<RhaiFunc>
-        ensures { result ≡ option_map (λ d. d.func) (own_decl self.now key.now) }
+    pub fn get_fn(&self, key: &Key) -> Option<&RhaiFunc>
+        ensures { option_copied result ≡ option_map (λ d. d.func) (own_decl self.now key.now) }
     {
         match self.declarations.get(key) {
-            Some(declaration) => Some(declaration.func),
+            Some(declaration) => Some(&declaration.func),
             None => None,
+        }
+    }
+
+    /// Declares a script under its key: an equal key keeps its place, else it goes last.
+    pub fn set_script_fn(&mut self, alloc: Global, def: SharedDef) -> Result<(), OutOfMemory>
+        ensures ok { OnOk result (self.new ≡ with_decl (script_key def) (script_decl def) self.old) }
+        ensures err { OnErr result (self.new ≡ self.old) }
+    {
+        let key = script_key(alloc, def.def())?;
+        self.set_fn(key, script_declaration(def))
+    }
+
+    /// Puts an equal declaration under an equal key.
+    fn set_copy(
+        &mut self,
+        alloc: Global,
+        key: &Key,
+        declaration: &Declaration,
+    ) -> Result<(), OutOfMemory>
+        ensures { OnOk result (self.new ≡ with_decl key.now declaration.now self.old) }
+    {
+        let key = key.dup(alloc)?;
+        let declaration = declaration.dup(alloc)?;
+        self.set_fn(key, declaration)
+    }
+
+    /// An equal module.
+    pub fn dup(&self, alloc: Global) -> Result<Module, OutOfMemory>
+        ensures { IfOk result (λ copy. copy ≡ self.now) }
+    {
+        let mut copy = Module::new(alloc);
+        for (key, declaration) in self.declarations.iter() {
+            copy.set_copy(alloc, key, declaration)?;
+        }
+        Ok(copy)
+    }
+}
+
+/// A clone is the module itself.
+impl Clone for Module {
+    ghost use Rattle.std.specs.Prelude.{◌≡◌};
+
+    ghost is_clone = { λ old copy. copy ≡ old };
+
+    fn clone(&self) -> Result<Module, AllocError> {
+        let alloc = *self.declarations.allocator();
+        match self.dup(alloc) {
+            Ok(module) => Ok(module),
+            Err(OutOfMemory) => Err(AllocError),
         }
     }
 }

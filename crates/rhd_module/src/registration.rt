@@ -1,13 +1,13 @@
-//! How a native is declared.
+//! How natives and scripts are declared.
 
-ghost use Rattle.std.specs.Prelude.{◌≡◌, IfOk, length, not, true, map};
+ghost use Rattle.std.specs.Prelude.{◌≡◌, IfOk, Some, length, not, true, map};
 ghost use Rattle.rhd_value.specs.Kinds.{map_type};
 ghost use Rattle.rhd_func.specs.Funcs.{native_of};
-ghost use Rattle.rhd_module.specs.Registered.{mapped_types, native_key, native_decl, native_func, pure_by_name};
+ghost use Rattle.rhd_module.specs.Registered.{mapped_types, native_key, native_decl, native_func, pure_by_name, script_key, script_namespace, script_decl};
 
 use crate::declaration::Declaration;
 use crate::key::Key;
-use rhd_func::{FnAccess, FnNamespace, PluginFunc, RhaiFunc};
+use rhd_func::{FnAccess, FnNamespace, PluginFunc, RhaiFunc, ScriptFuncDef, SharedDef};
 use rhd_value::{FnId, OutOfMemory, Text, TypeTag, Types, map_type};
 use std::alloc::Global;
 
@@ -54,7 +54,7 @@ pub fn native_key(
 /// native that is a method is called as one.
 pub fn native_declaration(name: &Text, native: &Box<dyn PluginFunc>, id: FnId) -> Declaration
     ensures declared { result ≡ native_decl name.now (info native.now) id }
-    ensures number { native_of result.func ≡ id }
+    ensures number { native_of result.func ≡ Some id }
 {
     let is_pure = is_pure_by_name(name, native.param_types().len());
     let has_context = native.has_context();
@@ -77,5 +77,52 @@ pub fn native_declaration(name: &Text, native: &Box<dyn PluginFunc>, id: FnId) -
         func,
         namespace: FnNamespace::Global,
         access: FnAccess::Public,
+    }
+}
+
+/// The key of a script: by its number of parameters, and by the type of its object if it has one.
+pub fn script_key(alloc: Global, def: &ScriptFuncDef) -> Result<Key, OutOfMemory>
+    ensures { IfOk result (λ key. key ≡ script_key def.now) }
+{
+    let params = def.params.len() as u64;
+    match &def.this_type {
+        None => Ok(Key::Script {
+            path: None,
+            name: def.name.dup(alloc)?,
+            params,
+        }),
+        Some(this_type) => Ok(Key::Typed {
+            path: None,
+            name: def.name.dup(alloc)?,
+            params,
+            this_type: this_type.dup(alloc)?,
+        }),
+    }
+}
+
+/// Whether a script is found without its module's name.
+fn script_namespace(def: &ScriptFuncDef) -> FnNamespace
+    ensures { result ≡ script_namespace def.now.this_type }
+{
+    match def.this_type {
+        None => FnNamespace::Internal,
+        Some(_) => FnNamespace::Global,
+    }
+}
+
+/// What is said of a script: one without a type of its object is internal, a typed one is found by
+/// all calls.
+pub fn script_declaration(def: SharedDef) -> Declaration
+    ensures { result ≡ script_decl def }
+{
+    let namespace = script_namespace(def.def());
+    let access = def.def().access;
+    Declaration {
+        func: RhaiFunc::Script {
+            fn_def: def,
+            env: None,
+        },
+        namespace,
+        access,
     }
 }

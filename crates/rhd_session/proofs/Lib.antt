@@ -5,3 +5,7 @@ pub mod Found
 pub mod Stack
 pub mod Lists
 pub mod FirstAnswered
+pub mod TreeLaws
+pub mod TreeFaults
+pub mod TreePlants
+pub mod Places

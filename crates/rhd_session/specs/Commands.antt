@@ -1,17 +1,18 @@
 -- What a declaring command answers and leaves: causes of a refusal, and the change.
-use Rattle.std.specs.Prelude.{ℕ, not, nat_lt, List, [], ◌∷◌, length, Option, None, option_map}
+use Rattle.std.specs.Prelude.{ℕ, not, nat_lt, List, [], ◌∷◌, ◌++◌, length, slice_get, slice_set, Option, None, Some, option_map}
 use Rattle.rhd_value.specs.Tree.{Bytes}
 use Rattle.rhd_value.specs.Firsts.{first_of, where_holds}
 use Rattle.rhd_value.specs.declared.tag.FnId.{FnId}
 use Rattle.rhd_func.specs.Natives.{NativeInfo, info_of}
 use Rattle.rhd_module.specs.declared.fault.DeclFault.{DeclFault}
 use Rattle.rhd_module.specs.declared.fault.DeclFault.TheVariants.{UnknownNumber}
-use Rattle.rhd_module.specs.Tree.{ModuleTree}
-use Rattle.rhd_module.specs.Registered.{with_decl, native_key, native_decl}
+use Rattle.rhd_module.specs.Tree.{ModuleTree, empty_module}
+use Rattle.rhd_module.specs.Registered.{with_decl, native_key, native_decl, script_key, script_decl}
 use Rattle.rhd_session.specs.declared.command.Command.{Command}
 use Rattle.rhd_session.specs.declared.command.Command.TheVariants as commands
 use Rattle.rhd_session.specs.declared.reply.Reply.{Reply}
-use Rattle.rhd_session.specs.declared.reply.Reply.TheVariants.{Done}
+use Rattle.rhd_session.specs.declared.command.ModuleId.{ModuleId}
+use Rattle.rhd_session.specs.declared.reply.Reply.TheVariants.{Done, Made}
 use Rattle.rhd_session.specs.Engine.{Frame}
 use Rattle.rhd_session.specs.World.{World}
 
@@ -19,8 +20,20 @@ use Rattle.rhd_session.specs.World.{World}
 abbrev pub native_operand : World → FnId → ℕ × ℕ
 native_operand w id = (id.0, length w.engine.natives)
 
+abbrev pub module_operand : World → ModuleId → ℕ × ℕ
+module_operand w id = (id.0, length w.modules)
+
+-- a pop of an empty list stands for the number 0 of 0
+abbrev pub pop_operand : {A : Type 0} → List A → List (ℕ × ℕ)
+pop_operand [] = (0, 0) ∷ []
+pop_operand (a ∷ more) = []
+
 abbrev pub operands : World → Frame → Command → List (ℕ × ℕ)
+operands w f commands.NewModule = []
+operands w f (commands.Script m def) = module_operand w m ∷ []
 operands w f (commands.RegisterFn name id) = native_operand w id ∷ []
+operands w f (commands.PushLib m) = module_operand w m ∷ []
+operands w f commands.PopLib = pop_operand f.libs
 operands w f (commands.Call request) = []
 
 abbrev pub unknown_of : ℕ × ℕ → Option DeclFault
@@ -49,6 +62,24 @@ registered w f name id info = record {
   frame = f;
 }
 
+-- only the module of a number changes
+abbrev pub changed : World → Frame → ModuleId → ModuleTree → Change
+changed w f id m = record { reply = Done; world = record w { modules = slice_set w.modules id.0 m }; frame = f }
+
+-- only the libraries change
+abbrev pub with_libs : World → Frame → List ModuleTree → Change
+with_libs w f libs = record { reply = Done; world = w; frame = record f { libs = libs } }
+
+-- a list without its last element
+abbrev pub but_last : {A : Type 0} → List A → List A
+but_last [] = []
+but_last (a ∷ []) = []
+but_last (a ∷ b ∷ more) = a ∷ but_last (b ∷ more)
+
 abbrev pub change : World → Frame → Command → Option Change
+change w f commands.NewModule = Some (record { reply = Made (record { 0 = length w.modules }); world = record w { modules = w.modules ++ empty_module ∷ [] }; frame = f })
+change w f (commands.Script m def) = option_map (λ old. changed w f m (with_decl (script_key def) (script_decl def) old)) (slice_get w.modules m.0)
 change w f (commands.RegisterFn name id) = option_map (registered w f name id) (info_of w.engine.natives id)
+change w f (commands.PushLib m) = option_map (λ added. with_libs w f (f.libs ++ added ∷ [])) (slice_get w.modules m.0)
+change w f commands.PopLib = Some (with_libs w f (but_last f.libs))
 change w f (commands.Call request) = None

@@ -9,16 +9,19 @@ use Rattle.rhd_session.specs.Engine.{EngineLists, Frame}
 use Rattle.rhd_session.specs.declared.pick.Pick.{Pick}
 use Rattle.rhd_session.specs.Asks.{pick_unqualified}
 use Rattle.rhd_session.specs.NotFound.{not_found}
-use Rattle.rhd_session.specs.Plans.{Plan, plan_of}
+use Rattle.rhd_session.specs.Plans.{Search, by_name, Plan, plan_of}
 use Rattle.rhd_session.specs.Ends.{End, failed}
 
 pub data Decision : Type 0 where
   ends : Option Pick → End → Decision  -- nothing runs
   runs : Plan → Pick → Decision
 
+abbrev pub pick_by : EngineLists → Frame → Plan → Search → Option Pick
+pick_by e f plan (by_name native_only) = pick_unqualified e f plan.name native_only plan.shape
+
 -- the pick of a call of one function
 abbrev pub pick_of : EngineLists → Frame → Plan → Option Pick
-pick_of e f plan = pick_unqualified e f plan.name plan.shape
+pick_of e f plan = pick_by e f plan plan.search
 
 -- with a pick its function runs; without one it isn't found
 abbrev pub decided : Plan → Option Pick → Decision

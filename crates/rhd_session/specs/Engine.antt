@@ -12,6 +12,7 @@ pub record EngineLists : Type 0 where
 
 -- where a call is made
 pub record Frame : Type 0 where
+  pub libs : List ModuleTree  -- oldest first
   pub source : Option Bytes
   pub level : ℕ
   pub tag : Tree

@@ -9,13 +9,16 @@ use Rattle.rhd_session.specs.declared.pick.Pick.{Pick}
 use Rattle.rhd_session.specs.Searched.{searched, pick_at}
 use Rattle.rhd_session.specs.Asks.{Asked, asks, looked}
 use Rattle.rhd_session.specs.NotFound.{not_found}
-use Rattle.rhd_session.specs.Plans.{plan_of}
+use Rattle.rhd_session.specs.Plans.{Search, by_name, Plan, plan_of}
 use Rattle.rhd_session.specs.Ends.{End, failed}
 use Rattle.rhd_session.specs.Decisions.{refusal}
 
+abbrev pub asks_by : Plan → Search → List Asked
+asks_by plan (by_name native_only) = asks plan.name native_only plan.shape
+
 -- what a call asks for, in order
 abbrev pub asks_of : CallRequest → List Asked
-asks_of call = asks (plan_of call).name (plan_of call).shape
+asks_of call = asks_by (plan_of call) (plan_of call).search
 
 -- the first ask that is found has this pick
 abbrev pub IsAnsweredFirst : EngineLists → Frame → CallRequest → Pick → Type 0

@@ -21,3 +21,5 @@ pub mod Objects
 pub mod Held
 pub mod Of
 pub mod FirstAsks
+pub mod Trees
+pub mod Requests

@@ -25,45 +25,45 @@ received_by plan pick = received (is_method pick.func) plan.shape
 -- truth value at the end says whether the budget was spent in it.
 mutual
   -- this node answers the call
-  pub data Runs (o : Objects) (w : World) : Frame → ℕ → CallRequest → CallNode → Moment → Moment → Bool → Type 0 where
+  pub data Runs {B : Type 0} (o : Objects B) (w : World) : Frame → ℕ → CallRequest → CallNode → Moment B → Moment B → Bool → Type 0 where
     -- the budget is spent
-    not_begun : {f : Frame} {level : ℕ} {call : CallRequest} {node : CallNode} {before : Moment} →
+    not_begun : {f : Frame} {level : ℕ} {call : CallRequest} {node : CallNode} {before : Moment B} →
         before.begun ≡ w.engine.limits.budget →
         seen node ≡ unbegun_node call level →
         Runs o w f level call node before before true
     -- it is refused, or isn't found
-    ended : {f : Frame} {level : ℕ} {call : CallRequest} {node : CallNode} {before : Moment} {pick : Option Pick} {end : End} →
+    ended : {f : Frame} {level : ℕ} {call : CallRequest} {node : CallNode} {before : Moment B} {pick : Option Pick} {end : End} →
         before.begun < w.engine.limits.budget →
         decision w.engine f level call ≡ ends pick end →
         seen node ≡ begun_node call level pick [] [] end →
         Runs o w f level call node before (one_begun before) false
     -- the picked function runs to its last step, and each of its requests is answered by a child
-    finished : {f : Frame} {level : ℕ} {call : CallRequest} {node : CallNode} {before after : Moment} {plan : Plan} {pick : Pick} {first last : NativeStep} {carries : List Carry} {children : List CallNode} {end : End} →
+    finished : {f : Frame} {level : ℕ} {call : CallRequest} {node : CallNode} {before started after : Moment B} {plan : Plan} {pick : Pick} {first last : NativeStep} {carries : List Carry} {children : List CallNode} {end : End} →
         before.begun < w.engine.limits.budget →
         decision w.engine f level call ≡ runs plan pick →
-        Starts o (context f level plan) pick.func (received_by plan pick) first →
-        Steps o w f level plan pick first carries children last (one_begun before) after →
+        Starts o (context f level plan) pick.func (received_by plan pick) (one_begun before) first started →
+        Steps o w f level plan pick first carries children last started after →
         end_of plan last ≡ Some end →
         seen node ≡ begun_node call level (Some pick) carries children end →
         Runs o w f level call node before after false
     -- the budget is spent within the child of its latest request
-    cut_short : {f : Frame} {level : ℕ} {call waited : CallRequest} {node child : CallNode} {before mid after : Moment} {plan : Plan} {pick : Pick} {first : NativeStep} {carries : List Carry} {carry : Carry} {children : List CallNode} →
+    cut_short : {f : Frame} {level : ℕ} {call waited : CallRequest} {node child : CallNode} {before started mid after : Moment B} {plan : Plan} {pick : Pick} {first : NativeStep} {carries : List Carry} {carry : Carry} {children : List CallNode} →
         before.begun < w.engine.limits.budget →
         decision w.engine f level call ≡ runs plan pick →
-        Starts o (context f level plan) pick.func (received_by plan pick) first →
-        Steps o w f level plan pick first carries children (Ask waited carry) (one_begun before) mid →
+        Starts o (context f level plan) pick.func (received_by plan pick) (one_begun before) first started →
+        Steps o w f level plan pick first carries children (Ask waited carry) started mid →
         Runs o w (entered f level) (level + 1) waited child mid after true →
         seen node ≡ begun_node call level (Some pick) (carries ++ carry ∷ []) (children ++ child ∷ []) (cut_end call) →
         Runs o w f level call node before after true
 
   -- from its first step the function comes to its latest step, with these carries and children
-  pub data Steps (o : Objects) (w : World) : Frame → ℕ → Plan → Pick → NativeStep → List Carry → List CallNode → NativeStep → Moment → Moment → Type 0 where
-    none_yet : {f : Frame} {level : ℕ} {plan : Plan} {pick : Pick} {step : NativeStep} {before : Moment} →
+  pub data Steps {B : Type 0} (o : Objects B) (w : World) : Frame → ℕ → Plan → Pick → NativeStep → List Carry → List CallNode → NativeStep → Moment B → Moment B → Type 0 where
+    none_yet : {f : Frame} {level : ℕ} {plan : Plan} {pick : Pick} {step : NativeStep} {before : Moment B} →
         Steps o w f level plan pick step [] [] step before before
-    one_more : {f : Frame} {level : ℕ} {plan : Plan} {pick : Pick} {first next : NativeStep} {waited : CallRequest} {carry : Carry} {child : CallNode} {carries more_carries : List Carry} {children more_children : List CallNode} {before mid after : Moment} →
+    one_more : {f : Frame} {level : ℕ} {plan : Plan} {pick : Pick} {first next : NativeStep} {waited : CallRequest} {carry : Carry} {child : CallNode} {carries more_carries : List Carry} {children more_children : List CallNode} {before mid answered after : Moment B} →
         Steps o w f level plan pick first carries children (Ask waited carry) before mid →
-        Runs o w (entered f level) (level + 1) waited child mid after false →
-        Resumes o (context f level plan) pick.func carry (done_of child) next →
+        Runs o w (entered f level) (level + 1) waited child mid answered false →
+        Resumes o (context f level plan) pick.func carry (done_of child) answered next after →
         more_carries ≡ carries ++ carry ∷ [] →
         more_children ≡ children ++ child ∷ [] →
         Steps o w f level plan pick first more_carries more_children next before after

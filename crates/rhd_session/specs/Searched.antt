@@ -1,5 +1,5 @@
--- Where a key is found: the modules in the order in which they are searched.
-use Rattle.std.specs.Prelude.{ℕ, List, map, Option, option_map}
+-- Where a key is found: the modules of a frame, in the order in which they are searched.
+use Rattle.std.specs.Prelude.{ℕ, List, ◌++◌, map, reverse, Option, option_map}
 use Rattle.std.specs.List.{enumerate_from}
 use Rattle.rhd_value.specs.Firsts.{first_of}
 use Rattle.rhd_module.specs.declared.key.Key.{Key}
@@ -8,7 +8,7 @@ use Rattle.rhd_module.specs.Tree.{ModuleTree}
 use Rattle.rhd_module.specs.Shown.{own_decl}
 use Rattle.rhd_session.specs.Engine.{EngineLists, Frame}
 use Rattle.rhd_session.specs.declared.pick.Layer.{Layer}
-use Rattle.rhd_session.specs.declared.pick.Layer.TheVariants.{Global}
+use Rattle.rhd_session.specs.declared.pick.Layer.TheVariants.{Library, Global}
 use Rattle.rhd_session.specs.declared.pick.Pick.{Pick}
 
 -- a module with its place, and what it has for a key
@@ -19,12 +19,15 @@ pub record Place : Type 0 where
 abbrev pub own_place : (ℕ → Layer) → ℕ × ModuleTree → Place
 own_place layer (n, m) = record { layer = layer n; has = own_decl m }
 
+abbrev pub libraries : List ModuleTree → List Place
+libraries libs = map (own_place Library) (reverse (enumerate_from 0 libs))
+
 abbrev pub global_modules : EngineLists → List Place
 global_modules e = map (own_place Global) (enumerate_from 0 e.globals)
 
--- global modules in order
+-- libraries, latest first; then global modules in order
 abbrev pub searched : EngineLists → Frame → List Place
-searched e f = global_modules e
+searched e f = libraries f.libs ++ global_modules e
 
 -- what a place has for a key, with the place
 abbrev pub pick_at : Key → Place → Option Pick

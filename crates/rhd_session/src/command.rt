@@ -2,16 +2,28 @@
 
 ghost use Rattle.std.specs.Prelude.{◌≡◌, ◌++◌, ◌∷◌, [], length, if◌then◌else◌, is_ok};
 
-use rhd_func::CallRequest;
+use rhd_func::{CallRequest, SharedDef};
 use rhd_value::{FnId, OutOfMemory, Text};
 use std::alloc::Global;
 use std::marker::Model;
 
+/// The number of a module of a session, counted from 0.
+#[derive(Clone, Copy, PartialEq, Eq, Debug)]
+pub struct ModuleId(pub u32);
+
 /// One thing to do.
 #[derive(Drop)]
 pub enum Command {
+    /// Makes an empty module, which gets the next number.
+    NewModule,
+    /// Declares a script in a module.
+    Script { module: ModuleId, def: SharedDef },
     /// Registers a native under a name, for all calls.
     RegisterFn { name: Text, id: FnId },
+    /// Puts a module last among the libraries, as it is then.
+    PushLib { module: ModuleId },
+    /// Takes the last library off.
+    PopLib,
     /// Makes a call.
     Call(CallRequest),
 }

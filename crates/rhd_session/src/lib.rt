@@ -3,6 +3,7 @@
 
 mod calls;
 mod command;
+mod declaring;
 mod display;
 mod law;
 mod limits;
@@ -15,8 +16,13 @@ mod reply;
 mod search;
 mod session;
 
-pub use command::{Command, Commands};
-pub use law::{a_call_is_answered_by_the_first_declaration, a_node_shows_the_first_declaration};
+pub use command::{Command, Commands, ModuleId};
+pub use law::{
+    a_call_is_answered_by_the_first_declaration, a_node_shows_the_first_declaration,
+    a_spent_budget_ends_the_tree, each_call_of_a_tree_runs_by_itself,
+    each_call_of_a_tree_shows_the_first_declaration, the_calls_begun_are_counted_by_the_tree,
+    the_children_of_a_node_are_its_requests, the_level_of_a_call_is_limited,
+};
 pub use limits::Limits;
 pub use node::{CallNode, Carries, Nodes, Whose};
 pub use pick::{Layer, Pick};

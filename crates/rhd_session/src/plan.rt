@@ -1,7 +1,7 @@
 //! The parts of a request that a call of one function goes by.
 
 ghost use Rattle.std.specs.Prelude.{◌≡◌};
-ghost use Rattle.rhd_session.specs.Plans.{plan_of};
+ghost use Rattle.rhd_session.specs.Plans.{by_name, plan_of};
 
 use rhd_func::{CallRequest, CallShape};
 use rhd_value::{Position, Text};
@@ -30,5 +30,14 @@ pub fn position_of(request: &CallRequest) -> Position
 {
     match request {
         CallRequest::Named { pos, .. } => *pos,
+    }
+}
+
+/// Whether natives alone are meant.
+pub fn native_only_of(request: &CallRequest) -> bool
+    ensures { (plan_of request.now).search ≡ by_name result }
+{
+    match request {
+        CallRequest::Named { native_only, .. } => *native_only,
     }
 }

@@ -2,6 +2,7 @@
 
 ghost use Rattle.std.specs.Prelude.{◌≡◌, ◌++◌, ◌∷◌, [], length, if◌then◌else◌, is_ok};
 
+use crate::command::ModuleId;
 use crate::node::CallNode;
 use rhd_module::DeclFault;
 use rhd_value::OutOfMemory;
@@ -13,6 +14,8 @@ use std::marker::Model;
 pub enum Reply {
     /// It is done.
     Done,
+    /// A module was made, of this number.
+    Made(ModuleId),
     /// A declaration was refused, and nothing has changed. Want of memory is no reply.
     Refused(DeclFault),
     /// A call was made.

@@ -1,23 +1,19 @@
-//! A session: a table of natives, and a global module into which they are registered.
+//! A session: a table of natives, modules by number, libraries, and a global module into which
+//! natives are registered.
 
-ghost use Rattle.std.specs.Prelude.{◌≡◌, ◌≤◌, ◌<◌, true, IfOk, OnErr, IfErr, IfSome, length, take};
-ghost use Rattle.std.specs.Option.{option_map};
-ghost use Rattle.rhd_func.specs.Funcs.{native_of};
-ghost use Rattle.rhd_func.specs.Natives.{info_of};
-ghost use Rattle.rhd_module.specs.Registered.{native_key, native_decl};
-ghost use Rattle.rhd_session.specs.declared.command.Command.TheVariants as commands;
+ghost use Rattle.std.specs.Prelude.{◌≡◌, ◌≤◌, ◌<◌, ◌+◌, ◌^◌, true, IfOk, OnErr, IfErr, length, take};
 ghost use Rattle.rhd_session.specs.World.{Moment};
-ghost use Rattle.rhd_session.specs.Held.{names_held};
+ghost use Rattle.rhd_session.specs.Held.{names_held, all_held};
 ghost use Rattle.rhd_session.specs.Objects.{infos_of, objects_of};
-ghost use Rattle.rhd_session.specs.Start.{start_world, start_frame, start_moment};
-ghost use Rattle.rhd_session.specs.Answered.{Applied, Replied, Answered};
+ghost use Rattle.rhd_session.specs.Start.{start_world, start_frame};
+ghost use Rattle.rhd_session.specs.Answered.{Replied, Answered};
 
 use crate::command::Command;
 use crate::limits::Limits;
 use crate::reply::{Replies, Reply, Stopped};
-use rhd_func::Natives;
-use rhd_module::{DeclFault, Declaration, Key, Module, native_declaration, native_key};
-use rhd_value::{FnId, OutOfMemory, Text};
+use rhd_func::{Bodies, Natives};
+use rhd_module::{Module, SharedModule};
+use rhd_value::OutOfMemory;
 use std::alloc::Global;
 
 /// Takes commands and answers them. Its natives are fixed when it is made.
@@ -25,15 +21,19 @@ use std::alloc::Global;
 pub struct Session {
     pub(crate) natives: Natives,
     pub(crate) global: Module,
+    pub(crate) modules: Vec<SharedModule>,
+    pub(crate) libraries: Vec<SharedModule>,
     pub(crate) limits: Limits,
     begun: u64,
     ghost held: { names_held (length natives.items.items) global ≡ true },
+    ghost modules_held: { all_held (length natives.items.items) modules.items ≡ true },
+    ghost libraries_held: { all_held (length natives.items.items) libraries.items ≡ true },
     ghost limited: { limits.level ≤ 1000 },
     ghost within: { begun ≤ limits.budget },
 }
 
 impl Session {
-    ghost use Rattle.rhd_session.specs.Of.{natives_of, world_of, frame_of, moment_of};
+    ghost use Rattle.rhd_session.specs.Of.{natives_of, world_of, frame_of, modules_of, calls_begun_of, moment_of};
 
     /// A session in which nothing is registered.
     #[tactic(auto, unfolding(crate::specs::Of::world_of))]
@@ -41,64 +41,43 @@ impl Session {
         requires { limits.level ≤ 1000 }
         ensures natives { IfOk result (λ session. natives_of session ≡ natives) }
         ensures world { IfOk result (λ session. world_of info session ≡ start_world (infos_of info natives) limits) }
-        ensures moment { IfOk result (λ session. moment_of session ≡ start_moment) }
+        ensures frame { IfOk result (λ session. frame_of session ≡ start_frame) }
+        ensures begun { IfOk result (λ session. calls_begun_of session ≡ 0) }
     {
         Ok(Session {
             natives,
             global: Module::new(alloc),
+            modules: Vec::new(alloc),
+            libraries: Vec::new(alloc),
             limits,
             begun: 0,
         })
     }
 
-    /// How the native of a number is declared under a name; none where it isn't held.
-    #[tactic(auto, unfolding(crate::specs::Of::world_of, crate::specs::Objects::infos_of))]
-    fn declared(
-        &self,
-        alloc: Global,
-        name: &Text,
-        id: FnId,
-    ) -> Result<Option<(Key, Declaration)>, OutOfMemory>
-        ensures declared { IfOk result (λ found. found ≡ option_map (λ i. (native_key name.now i, native_decl name.now i id)) (info_of (world_of info self.now).engine.natives id)) }
-        ensures held { IfOk result (λ found. IfSome found (λ d. (native_of d.1.func).0 < length (natives_of self.now).items.items)) }
-    {
-        let Some(native) = self.natives.get(id) else {
-            return Ok(None);
-        };
-        let key = native_key(alloc, name, native)?;
-        Ok(Some((key, native_declaration(name, native, id))))
-    }
-
-    /// Registers a native under a name, in the place of an equal declaration's.
-    fn register(&mut self, alloc: Global, name: &Text, id: FnId) -> Result<Reply, OutOfMemory>
-        ensures applied { IfOk result (λ reply. Applied (world_of info self.old) start_frame (commands.RegisterFn name.now id) reply (world_of info self.new) start_frame) }
-        ensures failed { OnErr result (world_of info self.new ≡ world_of info self.old) }
-        ensures natives { natives_of self.new ≡ natives_of self.old }
-        ensures begun { moment_of self.new ≡ moment_of self.old }
-    {
-        let Some((key, declaration)) = self.declared(alloc, name, id)? else {
-            return Ok(Reply::Refused(DeclFault::UnknownNumber {
-                number: u64::from(id.0),
-                length: self.natives.len() as u64,
-            }));
-        };
-        self.global.set_fn(key, declaration)?;
-        Ok(Reply::Done)
-    }
-
     /// Answers one command.
-    fn perform(&mut self, alloc: Global, command: &Command) -> Result<Reply, OutOfMemory>
-        ensures replied { IfOk result (λ reply. Replied (objects_of allows_call allows_resume (natives_of self.old)) (world_of info self.old) start_frame (moment_of self.old) command.now reply (world_of info self.new) start_frame (moment_of self.new)) }
-        ensures failed { OnErr result (world_of info self.new ≡ world_of info self.old) }
+    fn perform<B: Bodies>(
+        &mut self,
+        alloc: Global,
+        command: &Command,
+        bodies: &mut B,
+    ) -> Result<Reply, OutOfMemory>
+        requires { length (modules_of self.old) < 2 ^ 32 }
+        ensures replied { IfOk result (λ reply. Replied (objects_of allows_call allows_resume B.allows_start B.allows_next (natives_of self.old)) (world_of info self.old) (frame_of self.old) (moment_of self.old bodies.old) command.now reply (world_of info self.new) (frame_of self.new) (moment_of self.new bodies.new)) }
+        ensures failed { OnErr result ((world_of info self.new ≡ world_of info self.old) × (frame_of self.new ≡ frame_of self.old)) }
         ensures natives { natives_of self.new ≡ natives_of self.old }
-        ensures rises { (moment_of self.old).begun ≤ (moment_of self.new).begun }
+        ensures rises { calls_begun_of self.old ≤ calls_begun_of self.new }
+        ensures count { length (modules_of self.new) ≤ length (modules_of self.old) + 1 }
     {
         match command {
-            Command::RegisterFn { name, id } => self.register(alloc, name, *id),
+            Command::NewModule => self.new_module(alloc),
+            Command::Script { module: id, def } => self.script(alloc, *id, def),
+            Command::RegisterFn { name, id } => self.register_fn(alloc, name, *id),
+            Command::PushLib { module: id } => self.push_lib(alloc, *id),
+            Command::PopLib => Ok(self.pop_lib()),
             Command::Call(request) => {
                 let request = request.dup(alloc)?;
                 let mut begun = self.begun;
-                let called = self.run_call(alloc, request, &mut begun);
+                let called = self.run_call(alloc, request, &mut begun, bodies);
                 self.begun = begun;
                 Ok(Reply::Called(called?))
             }
@@ -107,9 +86,15 @@ impl Session {
 
     /// Answers commands in order. Where memory runs out, the commands before are done, and the calls
     /// that were begun for the next one are spent.
-    pub fn run(&mut self, alloc: Global, commands: &[Command]) -> Result<Replies, Stopped>
-        ensures answered { IfOk result (λ replies. Answered (objects_of allows_call allows_resume (natives_of self.old)) (world_of info self.old) (frame_of self.old) (moment_of self.old) commands.now replies (world_of info self.new) (frame_of self.new) (moment_of self.new)) }
-        ensures stopped { IfErr result (λ stopped. (after : Moment) × Answered (objects_of allows_call allows_resume (natives_of self.old)) (world_of info self.old) (frame_of self.old) (moment_of self.old) (take (length stopped.replies) commands.now) stopped.replies (world_of info self.new) (frame_of self.new) after × (after.begun ≤ (moment_of self.new).begun)) }
+    pub fn run<B: Bodies>(
+        &mut self,
+        alloc: Global,
+        commands: &[Command],
+        bodies: &mut B,
+    ) -> Result<Replies, Stopped>
+        requires { length (modules_of self.old) + length commands.now < 2 ^ 32 }
+        ensures answered { IfOk result (λ replies. Answered (objects_of allows_call allows_resume B.allows_start B.allows_next (natives_of self.old)) (world_of info self.old) (frame_of self.old) (moment_of self.old bodies.old) commands.now replies (world_of info self.new) (frame_of self.new) (moment_of self.new bodies.new)) }
+        ensures stopped { IfErr result (λ stopped. (after : Moment B) × Answered (objects_of allows_call allows_resume B.allows_start B.allows_next (natives_of self.old)) (world_of info self.old) (frame_of self.old) (moment_of self.old bodies.old) (take (length stopped.replies) commands.now) stopped.replies (world_of info self.new) (frame_of self.new) after × (after.begun ≤ calls_begun_of self.new)) }
         ensures counted { IfOk result (λ replies. length replies ≡ length commands.now) }
         ensures natives { natives_of self.new ≡ natives_of self.old }
     {
@@ -120,7 +105,7 @@ impl Session {
                     replies: Replies::from_vec(replies),
                 });
             }
-            match self.perform(alloc, command) {
+            match self.perform(alloc, command, bodies) {
                 Ok(reply) => replies.push_reserved(reply),
                 Err(_) => {
                     return Err(Stopped {

@@ -1,3 +1,4 @@
+pub mod Arrays
 pub mod Sessions
 pub mod Statuses
 pub mod WordLaws

@@ -3,3 +3,4 @@ pub mod Ends
 pub mod Kit
 pub mod Memory
 pub mod Streams
+pub mod Values

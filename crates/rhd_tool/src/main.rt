@@ -8,6 +8,7 @@ mod source;
 #[cfg(test)]
 mod tests;
 mod tool;
+mod values;
 mod writing;
 
 use crate::kit::{KitFn, kit};

@@ -105,7 +105,7 @@ fn the_first_bad_line_is_named(rt: HostRuntime) -> Result<(), Fail> {
     // A second line that is bad.
     let seconds = [
         "bogus",
-        "register f 3",
+        "register f 20",
         "register f -1",
         "register f +1",
         "register f 1 2",
@@ -176,7 +176,7 @@ fn the_first_bad_line_is_named(rt: HostRuntime) -> Result<(), Fail> {
         (b"bogus\ncall f\n".as_slice(), 1),
         (b"\n;\n\nbogus".as_slice(), 4),
         (b"call f\r\n\r\n; x\r\nbogus\r\nbogus\r\n".as_slice(), 4),
-        (b"call f\nregister f 3\nbogus\n".as_slice(), 2),
+        (b"call f\nregister f 20\nbogus\n".as_slice(), 2),
         (b"call f 1\r".as_slice(), 1),
         (b"call f 1\r\r\n".as_slice(), 1),
         (b"\r\r\n".as_slice(), 1),

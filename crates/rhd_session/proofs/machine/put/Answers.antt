@@ -1,4 +1,3 @@
-use Rattle.std.proofs.Common.{refl}
 use Rattle.rhd_session.proofs.Stack.{puts_frame, puts_node}
 use Rattle.rhd_session.proofs.machine.put.Goals as goal
 

@@ -1,19 +1,114 @@
 //! Natives and their table.
 
 use crate::kit::{KitFn, kit};
-use crate::tests::holds;
 use crate::tests::printing::{check_value, marked};
-use rhd_func::{NativeStep, Natives, PluginFunc};
-use rhd_value::{Dynamic, EvalAltResult, FnId, Position, Value, Values};
+use crate::tests::{holds, pointer, text_of};
+use rhd_func::{
+    CallDone, CallRequest, CallShape, Carry, NativeCallContext, NativeStep, Natives, PluginFunc,
+};
+use rhd_value::{Dynamic, EvalAltResult, FnId, FnPtrType, Position, Value, Values};
 use std::alloc::{AllocError, Global};
 use std::process::Abort;
 use std::test::Fail;
 
-/// What a step is to be: an answer, or the text of a native's own fault.
+/// A value of a case, which is to be read-only.
+#[derive(Clone, Copy)]
+enum Item {
+    Unit,
+    Int(i64),
+    Char(char),
+    Text(&'static str),
+    Array,
+    Pointer(&'static str),
+    Custom(u32, i64),
+}
+
+/// What a step is to be: an answer, the text of a fault, or the name that is asked and what is kept.
 #[derive(Clone, Copy)]
 enum Wanted {
-    Answer(i64),
+    Answer(&'static str),
     Fault(&'static str),
+    Asks(&'static str, &'static str),
+}
+
+/// No values.
+const NONE: &[Item] = &[];
+
+/// Sixteen integers and one more value.
+const MANY: &[Item] = &[
+    Item::Int(1),
+    Item::Int(1),
+    Item::Int(1),
+    Item::Int(1),
+    Item::Int(1),
+    Item::Int(1),
+    Item::Int(1),
+    Item::Int(1),
+    Item::Int(1),
+    Item::Int(1),
+    Item::Int(1),
+    Item::Int(1),
+    Item::Int(1),
+    Item::Int(1),
+    Item::Int(1),
+    Item::Int(1),
+    Item::Unit,
+];
+
+const COUNT: Wanted = Wanted::Fault("wrong number of arguments");
+
+const UNBUILT: Wanted = Wanted::Fault("not built");
+
+const BAD: Wanted = Wanted::Fault("bad carry");
+
+/// The value of a case.
+fn made(alloc: Global, item: Item) -> Result<Dynamic, Fail> {
+    let value = match item {
+        Item::Unit => Value::Unit,
+        Item::Int(number) => Value::Int(number),
+        Item::Char(letter) => Value::Char(letter),
+        Item::Text(text) => Value::Text(text_of(alloc, text)?),
+        Item::Array => Value::Array(Values::new(alloc)),
+        Item::Pointer(name) => Value::FnPtr(pointer(
+            text_of(alloc, name)?,
+            Values::new(alloc),
+            FnPtrType::Normal,
+        )),
+        Item::Custom(number, payload) => Value::Custom(number, payload),
+    };
+    Ok(marked(value, true, false, false))
+}
+
+/// The value of a case, where there is one.
+fn given(alloc: Global, first: Option<Item>) -> Result<Option<Dynamic>, Fail> {
+    match first {
+        Some(first) => Ok(Some(made(alloc, first)?)),
+        None => Ok(None),
+    }
+}
+
+/// The values of a case.
+fn listed(alloc: Global, items: &[Item]) -> Result<Values, Fail> {
+    let mut values = Values::new(alloc);
+    for one in items {
+        values.push(made(alloc, *one)?)?;
+    }
+    Ok(values)
+}
+
+/// Compares a request for a call.
+fn check_request(rt: &impl Abort, request: CallRequest, wanted: &str, pos: Position) {
+    let CallRequest::Named {
+        name,
+        native_only,
+        shape,
+        pos: found,
+    } = request;
+    let CallShape::Plain(args) = shape;
+    holds(rt, name.as_str() == wanted, "the name that is asked");
+    holds(rt, !native_only, "scripts are allowed");
+    holds(rt, args.len() == 0, "no arguments");
+    holds(rt, found == pos, "the place");
 }
 
 /// Compares a step and the first argument that it gives back; for none, `first` is empty.
@@ -24,24 +119,25 @@ fn check_step(
     wanted: Wanted,
     first: &str,
 ) -> Result<(), Fail> {
-    let given = match step {
-        NativeStep::Done { answer, first } => {
-            let Wanted::Answer(value) = wanted else {
-                panic!(rt; "an answer");
-            };
-            holds(rt, answer.as_int() == Some(value), "an answer");
+    let given = match (step, wanted) {
+        (NativeStep::Done { answer, first }, Wanted::Answer(value)) => {
+            check_value(rt, alloc, &answer, value)?;
             first
         }
-        NativeStep::Failed { fault, first } => {
-            let (EvalAltResult::ErrorRuntime(found, pos), Wanted::Fault(text)) = (fault, wanted)
-            else {
-                panic!(rt; "a fault");
+        (NativeStep::Failed { fault, first }, Wanted::Fault(text)) => {
+            let EvalAltResult::ErrorRuntime(found, pos) = fault else {
+                panic!(rt; "another fault");
             };
             holds(rt, found.as_str() == text, text);
             holds(rt, pos == Position::NONE, "no place");
             first
         }
-        NativeStep::Ask { .. } => panic!(rt; "a last step"),
+        (NativeStep::Ask { request, carry }, Wanted::Asks(name, kept)) => {
+            check_request(rt, request, name, Position::NONE);
+            check_value(rt, alloc, &carry.kept, kept)?;
+            carry.first
+        }
+        _ => panic!(rt; "another step"),
     };
     match given {
         None => holds(rt, first == "", "a first argument"),
@@ -50,65 +146,241 @@ fn check_step(
     Ok(())
 }
 
-/// A list of this many values.
-fn args(alloc: Global, count: usize, is_int: bool) -> Result<Values, Fail> {
-    let mut values = Values::new(alloc);
-    for _ in 0..count {
-        values.push(Dynamic::from(if is_int {
-            Value::Int(8)
-        } else {
-            Value::Bool(true)
-        }))?;
-    }
-    Ok(values)
-}
+/// A first step: the native, the first argument where one is given, the others, the step that is
+/// wanted, and the first argument that it gives back.
+#[derive(Clone, Copy)]
+struct First(u32, Option<Item>, &'static [Item], Wanted, &'static str);
 
-/// Calls natives of the kit on arguments that fit, and on others.
-fn check_kit(rt: &impl Abort, alloc: Global) -> Result<(), Fail> {
-    let count = Wanted::Fault("wrong number of arguments");
-    let kind = Wanted::Fault("not built");
-    let table = [
-        (KitFn::new(0), None, 0, true, Wanted::Answer(0), ""),
-        (KitFn::new(0), None, 1, true, count, ""),
-        (KitFn::new(0), Some(Value::Unit), 0, true, count, "!()"),
-        (KitFn::new(1), None, 1, true, Wanted::Answer(1), ""),
-        (KitFn::new(1), None, 0, true, count, ""),
-        (KitFn::new(1), None, 2, true, count, ""),
-        (KitFn::new(1), None, 2, false, count, ""),
-        (KitFn::new(1), None, 1, false, kind, ""),
-        (
-            KitFn::new(1),
-            Some(Value::Int(5)),
-            0,
-            true,
-            Wanted::Answer(1),
-            "!5",
+/// Calls each native of the kit on arguments that fit, and some on others.
+fn check_first_steps(rt: &impl Abort, alloc: Global) -> Result<(), Fail> {
+    use Item::{Array, Char, Custom, Int, Pointer, Text, Unit};
+    use Wanted::{Answer, Asks, Fault};
+    const CASES: &[First] = &[
+        First(0, None, NONE, Answer("0"), ""),
+        First(0, None, &[Int(8)], COUNT, ""),
+        First(0, Some(Unit), &[], COUNT, "!()"),
+        First(1, None, &[Int(8)], Answer("1"), ""),
+        First(1, None, &[], COUNT, ""),
+        First(1, None, &[Unit, Unit], COUNT, ""),
+        First(1, None, &[Unit], UNBUILT, ""),
+        First(1, Some(Int(5)), &[], Answer("1"), "!5"),
+        First(1, Some(Unit), &[], UNBUILT, "!()"),
+        First(1, Some(Int(5)), &[Int(8)], COUNT, "!5"),
+        First(2, None, &[Int(8)], Answer("2"), ""),
+        First(2, Some(Char('a')), &[], UNBUILT, "!'a'"),
+        First(3, None, &[Array], Answer("3"), ""),
+        First(4, None, &[Unit, Char('a')], Answer("4"), ""),
+        First(4, None, &[Char('a'), Unit], UNBUILT, ""),
+        First(5, Some(Int(7)), &[Text("x")], Answer("5"), "!7"),
+        First(5, Some(Unit), &[Int(7)], UNBUILT, "!()"),
+        First(6, None, &[Text("")], Answer("0"), ""),
+        First(6, None, &[Text("a\u{e9}")], Answer("3"), ""),
+        First(6, None, &[Unit], UNBUILT, ""),
+        First(7, Some(Int(2)), &[Int(-5)], Answer("-3"), "!2"),
+        First(
+            7,
+            None,
+            &[Int(9223372036854775807), Int(2)],
+            Answer("-9223372036854775807"),
+            "",
         ),
-        (
-            KitFn::new(1),
-            Some(Value::Bool(true)),
-            0,
-            true,
-            kind,
-            "!true",
+        First(8, Some(Array), &[], UNBUILT, "![]"),
+        First(9, None, &[Array], UNBUILT, ""),
+        First(10, None, &[Text("x")], Answer("!\"x\""), ""),
+        First(10, Some(Int(3)), &[], Answer("!3"), "!3"),
+        First(11, None, &[Text("no")], Fault("no"), ""),
+        First(11, Some(Text("no")), &[], Fault("no"), "!\"no\""),
+        First(12, None, &[Text("f")], Asks("f", "()"), ""),
+        First(12, Some(Text("f")), &[], Asks("f", "()"), "!\"f\""),
+        First(12, None, &[Int(1)], UNBUILT, ""),
+        First(13, None, &[Text("f"), Int(3)], Asks("f", "[!\"f\" 2]"), ""),
+        First(
+            13,
+            Some(Text("f")),
+            &[Int(1)],
+            Asks("f", "[!\"f\" 0]"),
+            "!\"f\"",
         ),
-        (KitFn::new(1), Some(Value::Int(5)), 1, true, count, "!5"),
-        (KitFn::new(2), None, 1, true, Wanted::Answer(2), ""),
-        (KitFn::new(2), None, 1, false, kind, ""),
-        (KitFn::new(2), Some(Value::Char('a')), 0, true, kind, "!'a'"),
+        First(13, None, &[Text("f"), Int(0)], Answer("()"), ""),
+        First(13, Some(Text("f")), &[Int(-1)], Answer("()"), "!\"f\""),
+        First(13, None, &[Text("f")], COUNT, ""),
+        First(14, None, MANY, Answer("14"), ""),
+        First(14, None, &[Int(1), Unit], COUNT, ""),
+        First(15, Some(Custom(1, 4)), &[], UNBUILT, "!custom(1 4)"),
+        First(16, None, &[Pointer("f")], UNBUILT, ""),
+        First(17, Some(Unit), &[Unit], Answer("17"), "!()"),
+        First(18, Some(Text("x")), &[], Answer("18"), "!\"x\""),
+        First(18, None, &[Char('x')], UNBUILT, ""),
+        First(19, Some(Int(2)), &[Int(3)], Answer("()"), "!5"),
+        First(
+            19,
+            Some(Int(-9223372036854775808)),
+            &[Int(-1)],
+            Answer("()"),
+            "!9223372036854775807",
+        ),
+        First(19, None, &[Int(2), Int(3)], Answer("()"), ""),
     ];
-    for (native, first, number, is_int, wanted, shown) in table {
-        let first = first.map(|value| marked(value, true, false, false));
-        let step = native.call(alloc, None, first, args(alloc, number, is_int)?)?;
+    for case in CASES {
+        let First(number, first, args, wanted, shown) = *case;
+        assert!(rt; number < 20, "a native of the kit");
+        let first = given(alloc, first)?;
+        let args = listed(alloc, args)?;
+        let step = KitFn::new(number).call(alloc, None, first, args)?;
         check_step(rt, alloc, step, wanted, shown)?;
     }
     Ok(())
 }
 
+/// A carry that keeps an array of these values; where there are none, unit.
+fn carry(alloc: Global, first: Option<Item>, kept: Option<&[Item]>) -> Result<Carry, Fail> {
+    let kept = match kept {
+        Some(kept) => Value::Array(listed(alloc, kept)?),
+        None => Value::Unit,
+    };
+    Ok(Carry {
+        first: given(alloc, first)?,
+        kept: marked(kept, false, true, false),
+    })
+}
+
+/// What came of a call: this value, or else a fault.
+fn done(alloc: Global, answer: Option<Item>) -> Result<CallDone, Fail> {
+    let answer = match answer {
+        Some(answer) => Ok(made(alloc, answer)?),
+        None => Err(EvalAltResult::ErrorRuntime(text_of(alloc, "low")?, Position::NONE)),
+    };
+    Ok(CallDone {
+        answer,
+        first: None,
+    })
+}
+
+/// A next step: the native, its first argument and what it kept, what came of the call, the step that
+/// is wanted, and the first argument that it gives back.
+#[derive(Clone, Copy)]
+struct Next(
+    u32,
+    Option<Item>,
+    Option<&'static [Item]>,
+    Option<Item>,
+    Wanted,
+    &'static str,
+);
+
+/// Goes on with natives of the kit.
+fn check_next_steps(rt: &impl Abort, alloc: Global) -> Result<(), Fail> {
+    use Item::{Int, Text, Unit};
+    use Wanted::{Answer, Asks, Fault};
+    const FOUR: Option<Item> = Some(Int(4));
+    const NAME: Option<Item> = Some(Text("f"));
+    const CASES: &[Next] = &[
+        Next(12, None, None, FOUR, Answer("!4"), ""),
+        Next(12, NAME, None, FOUR, Answer("!4"), "!\"f\""),
+        Next(12, NAME, None, None, Fault("low"), "!\"f\""),
+        Next(12, NAME, Some(NONE), FOUR, BAD, "!\"f\""),
+        Next(13, None, None, FOUR, BAD, ""),
+        Next(
+            13,
+            NAME,
+            Some(&[Text("g"), Int(0)]),
+            FOUR,
+            Answer("!4"),
+            "!\"f\"",
+        ),
+        Next(
+            13,
+            NAME,
+            Some(&[Text("g"), Int(3)]),
+            FOUR,
+            Asks("g", "[!\"g\" 2]"),
+            "!\"f\"",
+        ),
+        Next(
+            13,
+            NAME,
+            Some(&[Text("g"), Int(3)]),
+            None,
+            Fault("low"),
+            "!\"f\"",
+        ),
+        Next(13, NAME, Some(&[Text("g"), Int(-1)]), FOUR, BAD, "!\"f\""),
+        Next(13, None, Some(&[Text("g"), Int(-1)]), None, BAD, ""),
+        Next(13, None, Some(&[Text("g")]), FOUR, BAD, ""),
+        Next(13, None, Some(&[Text("g"), Unit]), FOUR, BAD, ""),
+        Next(13, None, Some(&[Int(1), Int(1)]), FOUR, BAD, ""),
+        Next(13, None, Some(&[Text("g"), Int(1), Int(1)]), FOUR, BAD, ""),
+        Next(1, NAME, None, FOUR, BAD, "!\"f\""),
+        Next(16, None, None, FOUR, BAD, ""),
+    ];
+    for case in CASES {
+        let Next(number, first, kept, answer, wanted, shown) = *case;
+        assert!(rt; number < 20, "a native of the kit");
+        let carry = carry(alloc, first, kept)?;
+        let done = done(alloc, answer)?;
+        let step = KitFn::new(number).resume(alloc, None, carry, done)?;
+        check_step(rt, alloc, step, wanted, shown)?;
+    }
+    Ok(())
+}
+
+/// Calls natives that ask in the context of a call that has a place.
+fn check_places(rt: &impl Abort, alloc: Global) -> Result<(), Fail> {
+    let pos = Position { line: 3, column: 1 };
+    let context = NativeCallContext {
+        name: text_of(alloc, "ask")?,
+        source: None,
+        call_source: None,
+        pos,
+        level: 2,
+        tag: Dynamic::from(Value::Unit),
+    };
+    let args = listed(alloc, &[Item::Text("f")])?;
+    let step = KitFn::new(12).call(alloc, Some(&context), None, args)?;
+    let NativeStep::Ask { request, carry: _ } = step else {
+        panic!(rt; "a call that is asked for");
+    };
+    check_request(rt, request, "f", pos);
+    let carry = carry(alloc, None, Some(&[Item::Text("g"), Item::Int(1)]))?;
+    let done = done(alloc, Some(Item::Unit))?;
+    let step = KitFn::new(13).resume(alloc, Some(&context), carry, done)?;
+    let NativeStep::Ask { request, carry: _ } = step else {
+        panic!(rt; "a call that is asked for");
+    };
+    check_request(rt, request, "g", pos);
+    Ok(())
+}
+
+/// Calls natives of a table by their numbers.
+fn check_table(rt: &impl Abort, alloc: Global, natives: &Natives) -> Result<(), Fail> {
+    holds(rt, natives.get(FnId(21)).is_some(), "a native");
+    holds(rt, natives.get(FnId(22)).is_none(), "no native");
+    if natives.len() != 22 {
+        panic!(rt; "twenty-two natives");
+    }
+    let args = listed(alloc, &[Item::Int(8)])?;
+    let step = natives.start(alloc, FnId(0), None, None, args)?;
+    check_step(rt, alloc, step, Wanted::Answer("2"), "")?;
+    let first = Some(made(alloc, Item::Int(5))?);
+    let step = natives.start(alloc, FnId(21), None, first, Values::new(alloc))?;
+    check_step(rt, alloc, step, Wanted::Answer("1"), "!5")?;
+    let carry = carry(alloc, None, None)?;
+    let done = done(alloc, Some(Item::Int(4)))?;
+    let step = natives.resume(alloc, FnId(13), None, carry, done)?;
+    check_step(rt, alloc, step, Wanted::Answer("!4"), "")
+}
+
+#[test]
+fn natives_step_as_their_table_says(rt: HostRuntime) -> Result<(), Fail> {
+    let alloc = rt.alloc();
+    check_first_steps(&rt, alloc)?;
+    check_next_steps(&rt, alloc)?;
+    check_places(&rt, alloc)
+}
+
 #[test]
 fn natives_are_held_and_called(rt: HostRuntime) -> Result<(), Fail> {
     let alloc = rt.alloc();
-    check_kit(&rt, alloc)?;
     let mut natives = Natives::new(alloc);
     let native: Box<dyn PluginFunc> = Box::new(alloc, KitFn::new(2))?;
     let Ok(first) = natives.push(alloc, native) else {
@@ -120,19 +392,6 @@ fn natives_are_held_and_called(rt: HostRuntime) -> Result<(), Fail> {
     let Ok(last) = natives.push(alloc, native) else {
         return Err(AllocError.into());
     };
-    holds(&rt, last == FnId(4), "the last number");
-    holds(&rt, natives.len() == 5, "five natives");
-    holds(&rt, natives.get(FnId(4)).is_some(), "a native");
-    holds(&rt, natives.get(FnId(5)).is_none(), "no native");
-    let int = Some(Value::Int(5));
-    let step = natives.start(alloc, FnId(0), None, None, args(alloc, 1, true)?)?;
-    check_step(&rt, alloc, step, Wanted::Answer(2), "")?;
-    let step = natives.start(
-        alloc,
-        FnId(4),
-        None,
-        int.map(|v| Dynamic::from(v)),
-        args(alloc, 0, true)?,
-    )?;
-    check_step(&rt, alloc, step, Wanted::Answer(1), "5")
+    holds(&rt, last == FnId(21), "the last number");
+    check_table(&rt, alloc, &natives)
 }

@@ -6,7 +6,7 @@ use Rattle.rhd_session.proofs.session.Session.perform.Goals as goal
 
 pub returns-in_err-called-in-Call-clause-failed : goal.returns-in_err-called-in-Call-clause-failed
 unfolding world_of
-returns-in_err-called-in-Call-clause-failed g c = on_err c.from_residual-in_err-called-in-Call.result _ refl
+returns-in_err-called-in-Call-clause-failed g c = on_err c.from_residual-in_err-called-in-Call.result _ (refl, refl)
 
 pub returns-in_ok-called-in-Call-clause-replied : goal.returns-in_ok-called-in-Call-clause-replied
 unfolding world_of

@@ -2,19 +2,20 @@ use Rattle.std.proofs.Common.{length, refl, sym, ◌∙◌}
 use Rattle.std.proofs.lemmas.List.{length-map}
 use Rattle.rhd_session.specs.Objects.{infos_of}
 use Rattle.rhd_session.specs.Of.{world_of}
-use Rattle.rhd_session.proofs.Registers.{unknown, known}
+use Rattle.rhd_session.proofs.Registers.{unknown, known, same_reply}
 use Rattle.rhd_session.proofs.HeldLaws.{stays_either, on_err}
-use Rattle.rhd_session.proofs.session.Session.register.Goals as goal
+use Rattle.rhd_session.proofs.session.Session.register_fn.Goals as goal
 
 pub returns-in_default-clause-applied : goal.returns-in_default-clause-applied
 unfolding world_of infos_of
 returns-in_default-clause-applied g c =
-    unknown _ _ c.args.name.now c.args.id c.from.result c.len.result (sym c.in_default.is ∙ c.in_ok-key.ensures.declared) c.from.ensures (c.len.ensures ∙ sym (length-map c.args.self.now.natives.items.items _))
+    same_reply _ _ _ _ _ c.refused.result _ c.refused.ensures
+    (unknown _ _ c.args.name.now c.args.id c.args.id.0 c.len.result (sym c.in_default.is ∙ c.in_ok-key.ensures.declared) refl (c.len.ensures ∙ sym (length-map c.args.self.now.natives.items.items _)))
 
-pub invariant_of-self : goal.invariant_of-self
-invariant_of-self g c =
+pub invariant_of-self-clause-held : goal.invariant_of-self-clause-held
+invariant_of-self-clause-held g c =
     let below = rw c.in-Some.is at c.in_ok-key.ensures.held in
-    record { held = stays_either c.set_fn.result (length c.args.self.now.natives.items.items) c.in-Some.key c.in-Some.declaration c.args.self.now.global c.set_fn.new.self c.set_fn.ensures.ok c.set_fn.ensures.err below c.args.self.now.held; limited = c.args.self.now.limited; within = c.args.self.now.within }
+    stays_either c.set_fn.result (length c.args.self.now.natives.items.items) c.in-Some.key c.in-Some.declaration c.args.self.now.global c.set_fn.new.self c.set_fn.ensures.ok c.set_fn.ensures.err below c.args.self.now.held
 
 pub returns-in_err-set_fn-clause-failed : goal.returns-in_err-set_fn-clause-failed
 unfolding world_of
