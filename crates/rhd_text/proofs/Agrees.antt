@@ -1,5 +1,5 @@
 -- A reader and what it reads.
-use Rattle.std.proofs.Common.{◌≡◌, ℕ, Bool, true, false, cond, ◌&&◌, List, Option, Some, None, refl, ap}
+use Rattle.std.proofs.Common.{◌≡◌, ℕ, Bool, true, false, cond, ◌&&◌, List, Option, Some, None, refl, ap, not}
 use Rattle.rhd_text.specs.Reading.{Parse, ◌>>=◌}
 use Rattle.rhd_text.specs.Spans.{Span}
 
@@ -21,6 +21,10 @@ some_pair {A = A} {B = B} a c b d e = let p = same_some (a, b) (c, d) e in (ap (
 pub cond_some : {A : Type 0} (b : Bool) (a c : A) → cond b (Some a) None ≡ Some c → (b ≡ true) × (a ≡ c)
 cond_some true a c e = (refl, cc)
 cond_some false a c e = absurd cc
+
+pub not_true : (b : Bool) → not b ≡ true → b ≡ false
+not_true true e = absurd cc
+not_true false e = refl
 
 pub and_parts : (a b : Bool) → (a && b) ≡ true → (a ≡ true) × (b ≡ true)
 and_parts true b e = (refl, e)

@@ -6,6 +6,7 @@ pub mod WordLaws
 pub mod ListLaws
 pub mod ByteLaws
 pub mod QuoteLaws
+pub mod FlagLaws
 pub mod ValueLaws
 pub mod ArgumentLaws
 pub mod OperandLaws

@@ -1,5 +1,5 @@
 -- Rows and lines: what is read is what is written.
-use Rattle.std.proofs.Common.{◌≡◌, ◌⊎◌, ℕ, Bool, true, false, cond, not, List, [], ◌∷◌, ◌++◌, Option, Some, None, refl, sym, ap, subst, ◌∙◌, inl, inr}
+use Rattle.std.proofs.Common.{◌≡◌, ◌⊎◌, ℕ, Bool, true, false, cond, not, List, [], ◌∷◌, ◌++◌, Option, Some, None, refl, sym, ap, subst, ◌∙◌, inl, inr, ◌&&◌}
 use Rattle.std.specs.Prelude.{codes}
 use Rattle.std.specs.Str.{is_utf8, bytes_eq}
 use Rattle.std.proofs.lemmas.Slice.Eq.{bytes_eq-Decides}
@@ -9,18 +9,22 @@ use Rattle.rhd_text.specs.declared.place.Place.{Place}
 use Rattle.rhd_text.specs.declared.line.Line.{Line}
 use Rattle.rhd_text.specs.declared.line.Line.TheVariants.{Skipped, Says}
 use Rattle.rhd_text.specs.declared.keyword.Keyword.{Keyword}
-use Rattle.rhd_text.specs.declared.keyword.Keyword.TheVariants.{Limits, Body, Do, Ret, Fail, Register, Call}
+use Rattle.rhd_text.specs.declared.keyword.Keyword.TheVariants.{Limits, Body, Do, Ret, Fail, Register, Module, Script, Lib, PopLib, Call}
 use Rattle.rhd_text.specs.declared.keyword.CallWord.{CallWord}
 use Rattle.rhd_text.specs.declared.keyword.CallWord.TheVariants as words
 use Rattle.rhd_text.specs.Bytes.{is_blank}
-use Rattle.rhd_text.specs.Rows.{Operand, Meaning, From, row, call_word, keyword, one_word}
+use Rattle.rhd_text.specs.Rows.{Operand, NAME, WORD, WORDS, NUM, LONG, ARG, ARGS, OPTIONAL, Meaning, From, row, call_word, keyword, one_word}
 use Rattle.rhd_text.specs.Spans.{blanks, bare}
 use Rattle.rhd_text.specs.Grammar.{operands, head, part, WrittenLine, IsLine}
-use Rattle.rhd_text.specs.Reading.{◌>>=◌, skip_blanks, is_end, word_at}
+use Rattle.rhd_text.specs.Reading.{◌>>=◌, skip_blanks, is_end, word_at, flag_at}
 use Rattle.rhd_text.specs.ReadRows.{operand_at, operands_at, row_at, keyword_in, keyword_of, step_of, step_at, keyword_at, begins_no_part, is_skipped, line_at, line_of}
-use Rattle.rhd_text.proofs.Agrees.{bind_some, same_some, some_pair}
-use Rattle.rhd_text.proofs.WordLaws.{stops_nil, head_stop, skipped, skips_to, bare_agrees, bare_here, end_sound, end_complete}
-use Rattle.rhd_text.proofs.OperandLaws.{operand_agrees}
+use Rattle.rhd_text.proofs.Agrees.{bind_some, same_some, some_pair, and_parts, not_true}
+use Rattle.rhd_text.proofs.WordLaws.{stops_nil, head_stop, skipped, skips_to, bare_agrees, bare_here, end_sound, end_complete, no_word}
+use Rattle.rhd_text.proofs.ByteLaws.{not_both}
+use Rattle.rhd_text.proofs.QuoteLaws.{word_agrees, words_agree}
+use Rattle.rhd_text.proofs.FlagLaws.{flag_there, flag_absent}
+use Rattle.rhd_text.proofs.ArgumentLaws.{argument_agrees, arguments_agree}
+use Rattle.rhd_text.proofs.OperandLaws.{name_agrees, number_agrees, operand_sound}
 
 -- ---- any row
 
@@ -32,16 +36,69 @@ row_sound : {R : Type 0} (os : List Operand) (says : From os (Option R)) (c : R)
 row_sound [] says c bytes e = let s = ended (is_end bytes) says c e in (end_sound bytes s.0, s.1)
 row_sound (o ∷ os) says c bytes e =
     let a = bind_some (operand_at o bytes) (λ x. operands_at os (says x.0) x.1) c e in
-    (a.0.0, a.0.1, (operand_agrees o).sound a.0.0 bytes a.0.1 a.1, row_sound os (says a.0.0) c a.0.1 a.2)
+    (a.0.0, a.0.1, operand_sound o a.0.0 bytes a.0.1 a.1, row_sound os (says a.0.0) c a.0.1 a.2)
+
+-- ---- words that may be left out stand last in a row, and are different
+
+abbrev other_words : List ℕ → List Operand → Bool
+other_words w [] = true
+other_words w (OPTIONAL v ∷ os) = not (bytes_eq v w) && other_words w os
+other_words w (o ∷ os) = false
+
+abbrev well_placed : List Operand → Bool
+well_placed [] = true
+well_placed (OPTIONAL w ∷ os) = other_words w os && well_placed os
+well_placed (o ∷ os) = well_placed os
+
+not_word : (w v after rest bytes : List ℕ) → bytes_eq v w ≡ false → bare v bytes rest → bare w bytes after → ⊥
+not_word w v after rest bytes f o u =
+    let e : ◌≡◌ {A = Option (List ℕ × List ℕ)} (Some (v, rest)) (Some (w, after)) = sym (bare_agrees.complete v bytes rest o) ∙ bare_agrees.complete w bytes after u in
+    not_both (bytes_eq v w) ((bytes_eq-Decides v w).1 (some_pair v w rest after e).0) f
+
+no_other : {R : Type 0} (w : List ℕ) (os : List Operand) (says : From os (Option R)) (c : R) (bytes after : List ℕ) → other_words w os ≡ true → operands os says c bytes → bare w bytes after → ⊥
+no_other w [] says c bytes after p o u = no_word w bytes after o.0 u
+no_other w (OPTIONAL v ∷ os) says c bytes after p (true, rest, o, more) u = not_word w v after rest bytes (not_true (bytes_eq v w) (and_parts (not (bytes_eq v w)) (other_words w os) p).0) o u
+no_other w (OPTIONAL v ∷ os) says c bytes after p (false, rest, o, more) u = no_other w os (says false) c rest after (and_parts (not (bytes_eq v w)) (other_words w os) p).1 more (subst (λ (b : List ℕ). bare w b after) o u)
+no_other w (NAME ∷ os) says c bytes after p o u = absurd cc
+no_other w (WORD ∷ os) says c bytes after p o u = absurd cc
+no_other w (WORDS ∷ os) says c bytes after p o u = absurd cc
+no_other w (NUM ∷ os) says c bytes after p o u = absurd cc
+no_other w (LONG ∷ os) says c bytes after p o u = absurd cc
+no_other w (ARG ∷ os) says c bytes after p o u = absurd cc
+no_other w (ARGS given ∷ os) says c bytes after p o u = absurd cc
 
 first_read : {R : Type 0} (o : Operand) (os : List Operand) (says : From (o ∷ os) (Option R)) (c : R) (x : Meaning o) (bytes rest : List ℕ) → operand_at o bytes ≡ Some (x, rest) → operands_at os (says x) rest ≡ Some c → operands_at (o ∷ os) says bytes ≡ Some c
 first_read o os says c x bytes rest e more = rw e more
 
-row_complete : {R : Type 0} (os : List Operand) (says : From os (Option R)) (c : R) (bytes : List ℕ) → operands os says c bytes → operands_at os says bytes ≡ Some c
-row_complete [] says c bytes w = rw (end_complete bytes w.0) w.1
-row_complete (o ∷ os) says c bytes w = first_read o os says c w.0 bytes w.1 ((operand_agrees o).complete w.0 bytes w.1 w.2) (row_complete os (says w.0) c w.1 w.3)
+row_complete : {R : Type 0} (os : List Operand) (says : From os (Option R)) (c : R) (bytes : List ℕ) → well_placed os ≡ true → operands os says c bytes → operands_at os says bytes ≡ Some c
+row_complete [] says c bytes p w = rw (end_complete bytes w.0) w.1
+row_complete (OPTIONAL v ∷ os) says c bytes p (true, rest, o, more) = first_read (OPTIONAL v) os says c true bytes rest (ap (λ (q : Bool × List ℕ). Some q) (flag_there v bytes rest o)) (row_complete os (says true) c rest (and_parts (other_words v os) (well_placed os) p).1 more)
+row_complete (OPTIONAL v ∷ os) says c bytes p (false, rest, o, more) =
+    let a = and_parts (other_words v os) (well_placed os) p in
+    let n : flag_at v rest ≡ (false, rest) = flag_absent v rest (λ after u. no_other v os (says false) c rest after a.0 more u) in
+    first_read (OPTIONAL v) os says c false bytes rest (ap (λ (b : List ℕ). Some (flag_at v b)) o ∙ ap (λ (q : Bool × List ℕ). Some q) n) (row_complete os (says false) c rest a.1 more)
+row_complete (NAME ∷ os) says c bytes p w = first_read NAME os says c w.0 bytes w.1 (name_agrees.complete w.0 bytes w.1 w.2) (row_complete os (says w.0) c w.1 p w.3)
+row_complete (WORD ∷ os) says c bytes p w = first_read WORD os says c w.0 bytes w.1 (word_agrees.complete w.0 bytes w.1 w.2) (row_complete os (says w.0) c w.1 p w.3)
+row_complete (WORDS ∷ os) says c bytes p w = first_read WORDS os says c w.0 bytes w.1 (words_agree.complete w.0 bytes w.1 w.2) (row_complete os (says w.0) c w.1 p w.3)
+row_complete (NUM ∷ os) says c bytes p w = first_read NUM os says c w.0 bytes w.1 ((number_agrees 32).complete w.0 bytes w.1 w.2) (row_complete os (says w.0) c w.1 p w.3)
+row_complete (LONG ∷ os) says c bytes p w = first_read LONG os says c w.0 bytes w.1 ((number_agrees 64).complete w.0 bytes w.1 w.2) (row_complete os (says w.0) c w.1 p w.3)
+row_complete (ARG ∷ os) says c bytes p w = first_read ARG os says c w.0 bytes w.1 ((argument_agrees true).complete w.0 bytes w.1 w.2) (row_complete os (says w.0) c w.1 p w.3)
+row_complete (ARGS given ∷ os) says c bytes p w = first_read (ARGS given) os says c w.0 bytes w.1 ((arguments_agree given).complete w.0 bytes w.1 w.2) (row_complete os (says w.0) c w.1 p w.3)
 
--- ---- keywords: one line for each in both of `keyword_complete` and `keyword_shows`
+-- ---- keywords: one line for each in each of these
+
+row_placed : (k : Keyword) → well_placed (row k).operands ≡ true
+row_placed Limits = refl
+row_placed Body = refl
+row_placed (Do v) = refl
+row_placed Ret = refl
+row_placed Fail = refl
+row_placed Register = refl
+row_placed Module = refl
+row_placed Script = refl
+row_placed Lib = refl
+row_placed PopLib = refl
+row_placed (Call v) = refl
 
 keyword_test : (b : Bool) (w : List ℕ) (j k : Keyword) (more : Option Keyword) → bytes_eq (keyword j) w ≡ b → cond b (Some j) more ≡ Some k → (more ≡ Some k → w ≡ keyword k) → w ≡ keyword k
 keyword_test true w j k more h e next = sym ((bytes_eq-Decides (keyword j) w).0 h) ∙ ap keyword (same_some j k e)
@@ -64,6 +121,10 @@ keyword_complete (Do v) h = absurd cc
 keyword_complete Ret h = refl
 keyword_complete Fail h = refl
 keyword_complete Register h = refl
+keyword_complete Module h = refl
+keyword_complete Script h = refl
+keyword_complete Lib h = refl
+keyword_complete PopLib h = refl
 keyword_complete (Call words.Call) h = refl
 keyword_complete (Call words.CallNative) h = refl
 
@@ -75,6 +136,10 @@ keyword_shows (Do v) rest = refl
 keyword_shows Ret rest = refl
 keyword_shows Fail rest = refl
 keyword_shows Register rest = refl
+keyword_shows Module rest = refl
+keyword_shows Script rest = refl
+keyword_shows Lib rest = refl
+keyword_shows PopLib rest = refl
 keyword_shows (Call words.Call) rest = refl
 keyword_shows (Call words.CallNative) rest = refl
 
@@ -86,6 +151,10 @@ alone (Do v) bytes rest h w = absurd cc
 alone Ret bytes rest h w = w
 alone Fail bytes rest h w = w
 alone Register bytes rest h w = w
+alone Module bytes rest h w = w
+alone Script bytes rest h w = w
+alone Lib bytes rest h w = w
+alone PopLib bytes rest h w = w
 alone (Call v) bytes rest h w = w
 
 step_is : (k s : Keyword) → step_of k ≡ Some s → (v : CallWord) × (k ≡ Call v) × (Do v ≡ s)
@@ -95,6 +164,10 @@ step_is (Do v) s e = absurd cc
 step_is Ret s e = absurd cc
 step_is Fail s e = absurd cc
 step_is Register s e = absurd cc
+step_is Module s e = absurd cc
+step_is Script s e = absurd cc
+step_is Lib s e = absurd cc
+step_is PopLib s e = absurd cc
 step_is (Call v) s e = (v, refl, same_some (Do v) s e)
 
 step_sound : (k : Keyword) (first bytes rest : List ℕ) → bare (codes "do") first bytes → step_at bytes ≡ Some (k, rest) → head k first rest
@@ -149,6 +222,10 @@ head_complete (Do v) bytes rest w = do_complete v bytes rest w
 head_complete Ret bytes rest w = one_word_complete Ret bytes rest refl w
 head_complete Fail bytes rest w = one_word_complete Fail bytes rest refl w
 head_complete Register bytes rest w = one_word_complete Register bytes rest refl w
+head_complete Module bytes rest w = one_word_complete Module bytes rest refl w
+head_complete Script bytes rest w = one_word_complete Script bytes rest refl w
+head_complete Lib bytes rest w = one_word_complete Lib bytes rest refl w
+head_complete PopLib bytes rest w = one_word_complete PopLib bytes rest refl w
 head_complete (Call words.Call) bytes rest w = one_word_complete (Call words.Call) bytes rest refl w
 head_complete (Call words.CallNative) bytes rest w = one_word_complete (Call words.CallNative) bytes rest refl w
 
@@ -160,6 +237,10 @@ first_word (Do v) bytes rest w = (w.0, w.1)
 first_word Ret bytes rest w = (rest, w)
 first_word Fail bytes rest w = (rest, w)
 first_word Register bytes rest w = (rest, w)
+first_word Module bytes rest w = (rest, w)
+first_word Script bytes rest w = (rest, w)
+first_word Lib bytes rest w = (rest, w)
+first_word PopLib bytes rest w = (rest, w)
 first_word (Call v) bytes rest w = (rest, w)
 
 -- ---- a line
@@ -198,7 +279,7 @@ part_complete place c bytes w =
     let f = first_word w.0 bytes w.1 w.2 in
     let h = bare_here (keyword w.0) bytes f.0 f.1 in (
       ap begins_no_part h.2 ∙ keyword_shows w.0 f.0,
-      rw (head_complete w.0 bytes w.1 w.2, row_complete (row w.0).operands ((row w.0).part place) c w.1 w.3) refl,
+      rw (head_complete w.0 bytes w.1 w.2, row_complete (row w.0).operands ((row w.0).part place) c w.1 (row_placed w.0) w.3) refl,
     )
 
 written_complete : (place : Place) (l : Line) (bytes : List ℕ) → is_utf8 bytes ≡ true → WrittenLine place l bytes → line_at place bytes ≡ Some l

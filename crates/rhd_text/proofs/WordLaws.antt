@@ -163,7 +163,7 @@ meaning_agrees A of read span agrees = record {
 pub bare_here : (w bytes rest : List ℕ) → bare w bytes rest → run w (skip_blanks bytes) rest
 bare_here w bytes rest b = subst (λ (m : List ℕ). run w m rest) (sym (skips_to bytes b.0 b.1 (run_stops w b.0 rest b.2))) b.2
 
-no_word : (w bytes after : List ℕ) → blanks bytes [] → bare w bytes after → ⊥
+pub no_word : (w bytes after : List ℕ) → blanks bytes [] → bare w bytes after → ⊥
 no_word w bytes after b o =
     let r : run w [] after = subst (λ (m : List ℕ). run w m after) (skips_to bytes [] b (stops_nil is_blank)) (bare_here w bytes after o) in
     absurd (omega (arith, run_shrinks w [] after r))

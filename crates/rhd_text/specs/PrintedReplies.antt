@@ -5,20 +5,21 @@ use Rattle.std.specs.Fmt.{decimal}
 use Rattle.rhd_value.specs.Tree.{Tree}
 use Rattle.rhd_value.specs.declared.fault.EvalAltResult.{EvalAltResult}
 use Rattle.rhd_value.specs.declared.fault.EvalAltResult.TheVariants.{ErrorFunctionNotFound, ErrorTooManyOperations, ErrorStackOverflow, ErrorRuntime}
-use Rattle.rhd_func.specs.Funcs.{native_of}
+use Rattle.rhd_func.specs.declared.func.RhaiFunc.{RhaiFunc}
+use Rattle.rhd_func.specs.declared.func.RhaiFunc.TheVariants as funcs
 use Rattle.rhd_func.specs.declared.request.CallRequest.{CallRequest}
 use Rattle.rhd_func.specs.declared.request.CallRequest.TheVariants.{Named}
 use Rattle.rhd_module.specs.declared.fault.DeclFault.{DeclFault}
 use Rattle.rhd_module.specs.declared.fault.DeclFault.TheVariants.{UnknownNumber, OutOfMemory}
 use Rattle.rhd_session.specs.declared.pick.Layer.{Layer}
-use Rattle.rhd_session.specs.declared.pick.Layer.TheVariants.{Global}
+use Rattle.rhd_session.specs.declared.pick.Layer.TheVariants.{Library, Global}
 use Rattle.rhd_session.specs.declared.pick.Pick.{Pick}
 use Rattle.rhd_session.specs.declared.node.Whose.{Whose}
 use Rattle.rhd_session.specs.declared.node.Whose.TheVariants as whose
 use Rattle.rhd_session.specs.declared.node.CallNode.{CallNode, CallNode'}
 use Rattle.rhd_session.specs.declared.node.Nodes.{Nodes, Nodes', Row_of-CallNode, end_of-CallNode, more_of-CallNode}
 use Rattle.rhd_session.specs.declared.reply.Reply.{Reply}
-use Rattle.rhd_session.specs.declared.reply.Reply.TheVariants.{Done, Refused, Called}
+use Rattle.rhd_session.specs.declared.reply.Reply.TheVariants.{Done, Made, Refused, Called}
 use Rattle.rhd_text.specs.PrintedTexts.{quoted}
 use Rattle.rhd_text.specs.PrintedValues.{spelled}
 
@@ -40,12 +41,19 @@ label (Named name native_only shape pos) = name
 
 -- where a function was found
 unfoldable pub layer_text : Layer → List ℕ
+layer_text (Library n) = codes "lib" ++ decimal n
 layer_text (Global n) = codes "global" ++ decimal n
+
+-- a native by its number, a script by that of its body
+unfoldable pub func_text : RhaiFunc → List ℕ
+func_text (funcs.Pure id context pure volatile) = codes "#" ++ decimal id.0
+func_text (funcs.Method id context pure volatile) = codes "#" ++ decimal id.0
+func_text (funcs.Script def env) = codes "@" ++ decimal def.body.0
 
 -- the function that was picked, if one was
 unfoldable pub pick_text : Option Pick → List ℕ
 pick_text None = codes "-"
-pick_text (Some p) = layer_text p.layer ++ codes "#" ++ decimal (native_of p.func).0
+pick_text (Some p) = layer_text p.layer ++ func_text p.func
 
 -- whose the answer or the fault is
 abbrev pub whose_text : Whose → List ℕ
@@ -86,6 +94,7 @@ abbrev mutual
 -- the line of a reply
 unfoldable pub printed : Reply → List ℕ
 printed Done = codes "ok" ++ 10 ∷ []
+printed (Made id) = codes "module " ++ decimal id.0 ++ 10 ∷ []
 printed (Refused fault) = codes "refused " ++ spelled_refusal fault ++ 10 ∷ []
 printed (Called node) = tree_text node
 

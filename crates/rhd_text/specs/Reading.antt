@@ -1,7 +1,7 @@
 -- How operands are read, from the left.
 use Rattle.std.specs.Prelude.{ℕ, zero, suc, ◌&&◌, Bool, true, false, List, [], ◌∷◌, ◌++◌, length, take, drop, Option, Some, None, nat_lt, ◌==◌, if◌then◌else◌, option_and_then}
 use Rattle.std.specs.List.{prefix_len}
-use Rattle.std.specs.Str.{is_utf8}
+use Rattle.std.specs.Str.{is_utf8, bytes_eq}
 use Rattle.rhd_value.specs.Tree.{Tree, unit, integer, text}
 use Rattle.rhd_value.specs.Kinds.{plain}
 use Rattle.rhd_text.specs.Bytes.{is_blank, is_word_byte, may_end, begins, unescaped, is_name, num_of, int_of, given_of}
@@ -40,6 +40,14 @@ unfoldable pub name_at : Parse (List ℕ)
 name_at bytes = do
   w ← word_at bytes
   if is_name w.0 then Some w else None
+
+-- whether this is the next word, and the bytes after it if it is
+abbrev pub flag_of : List ℕ → List ℕ → Option (List ℕ × List ℕ) → Bool × List ℕ
+flag_of w bytes None = (false, bytes)
+flag_of w bytes (Some x) = if bytes_eq x.0 w then (true, x.1) else (false, bytes)
+
+unfoldable pub flag_at : List ℕ → List ℕ → Bool × List ℕ
+flag_at w bytes = flag_of w bytes (word_at bytes)
 
 -- the number of so many bits of the next word
 unfoldable pub num_at : ℕ → Parse ℕ
@@ -136,6 +144,12 @@ many stop one found zero bytes = if stop bytes then Some (found, bytes) else Non
 many stop one found (suc most) bytes = if stop bytes then Some (found, bytes) else (do
   x ← one bytes
   many stop one (found ++ x.0 ∷ []) most x.1)
+
+-- texts between round brackets
+unfoldable pub texts_at : Parse (List (List ℕ))
+texts_at bytes = if comes 40 bytes then (do
+  x ← many (comes 41) wording_at [] (length (after_bracket bytes)) (after_bracket bytes)
+  Some (x.0, after_bracket x.1)) else None
 
 -- ---- arguments
 

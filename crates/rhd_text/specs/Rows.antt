@@ -3,6 +3,9 @@ use Rattle.std.specs.Prelude.{ℕ, Bool, true, false, List, [], ◌∷◌, Optio
 use Rattle.rhd_value.specs.declared.tag.Position.{Position}
 use Rattle.rhd_func.specs.declared.request.CallShape.TheVariants.{Plain}
 use Rattle.rhd_func.specs.declared.request.CallRequest.TheVariants.{Named}
+use Rattle.rhd_func.specs.declared.access.FnAccess.{FnAccess}
+use Rattle.rhd_func.specs.declared.access.FnAccess.TheVariants.{Private, Public}
+use Rattle.rhd_func.specs.declared.func.ScriptFuncDef.{ScriptFuncDef}
 use Rattle.rhd_session.specs.declared.command.Command.TheVariants as commands
 use Rattle.rhd_session.specs.declared.limits.Limits.{Limits}
 use Rattle.rhd_text.specs.declared.place.Place.{Place}
@@ -18,24 +21,28 @@ use Rattle.rhd_text.specs.declared.keyword.CallWord.TheVariants as words
 use Rattle.rhd_text.specs.declared.keyword.Keyword.{Keyword}
 use Rattle.rhd_text.specs.declared.keyword.Keyword.TheVariants as keywords
 
--- an operand of a line: a name; a text, quoted or not; a number of 32 or of 64 bits; one argument, which may be
--- given; arguments up to the end of the line, which may be given or not
+-- an operand of a line: a name; a text, quoted or not; texts between brackets; a number of 32 or of 64 bits; one
+-- argument, which may be given; arguments up to the end of the line, which may be given or not; a word that may be left out
 pub data Operand : Type 0 where
   NAME : Operand
   WORD : Operand
+  WORDS : Operand
   NUM : Operand
   LONG : Operand
   ARG : Operand
   ARGS : Bool → Operand
+  OPTIONAL : List ℕ → Operand
 
 -- what an operand says
 abbrev pub Meaning : Operand → Type 0
 Meaning NAME = List ℕ
 Meaning WORD = List ℕ
+Meaning WORDS = List (List ℕ)
 Meaning NUM = ℕ
 Meaning LONG = ℕ
 Meaning ARG = Argument
 Meaning (ARGS given) = Arguments
+Meaning (OPTIONAL w) = Bool
 
 -- a function of what these operands say
 abbrev pub From : List Operand → Type 0 → Type 0
@@ -73,11 +80,15 @@ keyword (keywords.Do _) = codes "do"
 keyword keywords.Ret = codes "ret"
 keyword keywords.Fail = codes "fail"
 keyword keywords.Register = codes "register"
+keyword keywords.Module = codes "module"
+keyword keywords.Script = codes "script"
+keyword keywords.Lib = codes "lib"
+keyword keywords.PopLib = codes "pop-lib"
 keyword (keywords.Call w) = call_word w
 
 -- all keywords of one word
 abbrev pub one_word : List Keyword
-one_word = keywords.Limits ∷ keywords.Body ∷ keywords.Ret ∷ keywords.Fail ∷ keywords.Register ∷ keywords.Call words.Call ∷ keywords.Call words.CallNative ∷ []
+one_word = keywords.Limits ∷ keywords.Body ∷ keywords.Ret ∷ keywords.Fail ∷ keywords.Register ∷ keywords.Module ∷ keywords.Script ∷ keywords.Lib ∷ keywords.PopLib ∷ keywords.Call words.Call ∷ keywords.Call words.CallNative ∷ []
 
 -- limits, of which the level is at most 1,000
 abbrev pub allowed : Limits → Option Part
@@ -87,6 +98,15 @@ allowed limits = if nat_le limits.level 1000 then Some (parts.Limits limits) els
 abbrev pub answered : Argument → BodyEnd
 answered (argument.Value t) = Ret t
 answered (argument.Given g) = RetGiven g
+
+-- whether a script is found from outside its module
+abbrev pub access : Bool → FnAccess
+access true = Private
+access false = Public
+
+-- a script of this name, with these parameters and the body of this number
+abbrev pub scripted : List ℕ → List (List ℕ) → ℕ → Bool → ScriptFuncDef
+scripted f params n private = record { name = f; params = params; this_type = None; access = access private; body = record { 0 = n } }
 
 -- a call line, and in a body a step, whose arguments may be given ones
 abbrev pub called : Bool → CallWord → Row
@@ -101,4 +121,8 @@ row (keywords.Do w) = called true w
 row keywords.Ret = record { operands = ARG ∷ []; part = λ place x. Some (parts.End (answered x)) }
 row keywords.Fail = record { operands = WORD ∷ []; part = λ place text. Some (parts.End (Fail text)) }
 row keywords.Register = record { operands = NAME ∷ NUM ∷ []; part = λ place f n. Some (parts.Command (commands.RegisterFn f (record { 0 = n }))) }
+row keywords.Module = record { operands = []; part = λ place. Some (parts.Command commands.NewModule) }
+row keywords.Script = record { operands = NUM ∷ WORD ∷ WORDS ∷ NUM ∷ OPTIONAL (codes "private") ∷ []; part = λ place m f params n private. Some (parts.Command (commands.Script (record { 0 = m }) (scripted f params n private))) }
+row keywords.Lib = record { operands = NUM ∷ []; part = λ place m. Some (parts.Command (commands.PushLib (record { 0 = m }))) }
+row keywords.PopLib = record { operands = []; part = λ place. Some (parts.Command commands.PopLib) }
 row (keywords.Call w) = called false w

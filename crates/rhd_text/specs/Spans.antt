@@ -1,5 +1,5 @@
 -- HOW THINGS ARE WRITTEN. A span says of some bytes, and of the bytes that are left, what is written between them.
-use Rattle.std.specs.Prelude.{◌≡◌, ◌≢◌, ◌⊎◌, ◌<◌, ℕ, ℤ, Bool, true, List, [], ◌∷◌, ◌++◌, length, Option, Some}
+use Rattle.std.specs.Prelude.{◌≡◌, ◌≢◌, ◌⊎◌, ◌<◌, ℕ, ℤ, Bool, true, false, List, [], ◌∷◌, ◌++◌, length, Option, Some}
 use Rattle.std.specs.List.{list_all}
 use Rattle.std.specs.Str.{is_utf8}
 use Rattle.rhd_value.specs.Tree.{Kind, unit, integer, text, Tree}
@@ -57,6 +57,11 @@ name w bytes rest = (is_name w ≡ true) × bare w bytes rest
 abbrev pub meant : {A : Type 0} → (List ℕ → Option A) → A → Span
 meant of x bytes rest = (w : List ℕ) × (of w ≡ Some x) × bare w bytes rest
 
+-- an unquoted word, or nothing
+abbrev pub optional : List ℕ → Bool → Span
+optional w true = bare w
+optional w false = nothing
+
 -- the word of a number of so many bits
 abbrev pub number : ℕ → ℕ → Span
 number bits = meant (num_of bits)
@@ -107,6 +112,10 @@ value t = blanks ▸ (λ bytes rest. (t.marks ≡ no_marks) × kind t.kind bytes
 abbrev pub each : {A : Type 0} → (A → Span) → List A → Span
 each span [] = nothing
 each span (x ∷ xs) = span x ▸ each span xs
+
+-- texts between round brackets
+abbrev pub words : List (List ℕ) → Span
+words ws = bracket 40 ▸ (each word ws ▸ bracket 41)
 
 -- ---- arguments
 

@@ -2,7 +2,7 @@
 
 ghost use Rattle.std.specs.Prelude.{◌≡◌};
 ghost use Rattle.rhd_text.specs.declared.keyword.Keyword.TheVariants as keywords;
-ghost use Rattle.rhd_text.specs.Rows.{answered};
+ghost use Rattle.rhd_text.specs.Rows.{answered, access};
 ghost use Rattle.rhd_text.specs.ReadRows.{row_at};
 ghost use Rattle.rhd_text.specs.Answers.{Gives};
 
@@ -11,13 +11,13 @@ use crate::body::{BodyEnd, CallPlan};
 use crate::fault::Stop;
 use crate::keyword::{CallWord, Keyword};
 use crate::numbers::{long_at, num_at};
-use crate::operands::name_at;
+use crate::operands::{name_at, texts_at};
 use crate::part::Part;
 use crate::place::Place;
 use crate::quoted::wording_at;
-use crate::words::is_end;
-use rhd_func::{CallRequest, CallShape};
-use rhd_session::{Command, Limits};
+use crate::words::{flag_at, is_end};
+use rhd_func::{BodyId, CallRequest, CallShape, FnAccess, ScriptFuncDef, SharedDef};
+use rhd_session::{Command, Limits, ModuleId};
 use rhd_value::{FnId, Position};
 use std::alloc::Global;
 
@@ -135,6 +135,73 @@ fn limits_at(bytes: &[u8], place: Place) -> Result<Part, Stop>
     }))
 }
 
+#[tactic(auto, unfolding(crate::specs::ReadRows::row_at))]
+fn module_at(bytes: &[u8], place: Place) -> Result<Part, Stop>
+    ensures { Gives (λ x. x) result (row_at place keywords.Module bytes.now) }
+{
+    if !is_end(bytes) {
+        return Err(Stop::Bad);
+    }
+    Ok(Part::Command(Command::NewModule))
+}
+
+fn access(private: bool) -> FnAccess
+    ensures { result ≡ access private }
+{
+    match private {
+        true => FnAccess::Private,
+        false => FnAccess::Public,
+    }
+}
+
+#[tactic(auto, unfolding(crate::specs::ReadRows::row_at))]
+fn script_at(alloc: Global, bytes: &[u8], place: Place) -> Result<Part, Stop>
+    ensures { Gives (λ x. x) result (row_at place keywords.Script bytes.now) }
+{
+    let (module, rest) = num_at(bytes)?;
+    let (name, rest) = wording_at(alloc, rest)?;
+    let (params, rest) = texts_at(alloc, rest)?;
+    let (body, rest) = num_at(rest)?;
+    let (private, rest) = flag_at(rest, b"private");
+    if !is_end(rest) {
+        return Err(Stop::Bad);
+    }
+    let def = ScriptFuncDef {
+        name,
+        params,
+        this_type: None,
+        access: access(private),
+        body: BodyId(body),
+    };
+    Ok(Part::Command(Command::Script {
+        module: ModuleId(module),
+        def: SharedDef::new(alloc, def)?,
+    }))
+}
+
+#[tactic(auto, unfolding(crate::specs::ReadRows::row_at))]
+fn lib_at(bytes: &[u8], place: Place) -> Result<Part, Stop>
+    ensures { Gives (λ x. x) result (row_at place keywords.Lib bytes.now) }
+{
+    let (module, rest) = num_at(bytes)?;
+    if !is_end(rest) {
+        return Err(Stop::Bad);
+    }
+    Ok(Part::Command(Command::PushLib {
+        module: ModuleId(module),
+    }))
+}
+
+#[tactic(auto, unfolding(crate::specs::ReadRows::row_at))]
+fn pop_lib_at(bytes: &[u8], place: Place) -> Result<Part, Stop>
+    ensures { Gives (λ x. x) result (row_at place keywords.PopLib bytes.now) }
+{
+    if !is_end(bytes) {
+        return Err(Stop::Bad);
+    }
+    Ok(Part::Command(Command::PopLib))
+}
+
 /// The part of a line form, by what stands after its keyword.
 pub fn row_at(alloc: Global, keyword: Keyword, bytes: &[u8], place: Place) -> Result<Part, Stop>
     ensures { Gives (λ x. x) result (row_at place keyword bytes.now) }
@@ -146,6 +213,10 @@ pub fn row_at(alloc: Global, keyword: Keyword, bytes: &[u8], place: Place) -> Re
         Keyword::Ret => ret_at(alloc, bytes, place),
         Keyword::Fail => fail_at(alloc, bytes, place),
         Keyword::Register => register_at(alloc, bytes, place),
+        Keyword::Module => module_at(bytes, place),
+        Keyword::Script => script_at(alloc, bytes, place),
+        Keyword::Lib => lib_at(bytes, place),
+        Keyword::PopLib => pop_lib_at(bytes, place),
         Keyword::Call(call) => call_at(alloc, bytes, place, call),
     }
 }

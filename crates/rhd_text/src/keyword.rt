@@ -45,6 +45,10 @@ pub enum Keyword {
     Ret,
     Fail,
     Register,
+    Module,
+    Script,
+    Lib,
+    PopLib,
     Call(CallWord),
 }
 
@@ -60,6 +64,10 @@ impl Keyword {
             Keyword::Ret => b"ret",
             Keyword::Fail => b"fail",
             Keyword::Register => b"register",
+            Keyword::Module => b"module",
+            Keyword::Script => b"script",
+            Keyword::Lib => b"lib",
+            Keyword::PopLib => b"pop-lib",
             Keyword::Call(call) => call.spelling(),
         }
     }
@@ -88,6 +96,10 @@ fn keyword_of(word: &[u8]) -> Option<Keyword>
             Keyword::Ret,
             Keyword::Fail,
             Keyword::Register,
+            Keyword::Module,
+            Keyword::Script,
+            Keyword::Lib,
+            Keyword::PopLib,
             Keyword::Call(CallWord::Call),
             Keyword::Call(CallWord::CallNative),
         ],

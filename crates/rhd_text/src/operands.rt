@@ -1,14 +1,15 @@
-//! Names.
+//! Names, and lists of texts.
 
-ghost use Rattle.std.specs.Prelude.{◌≡◌, true};
+ghost use Rattle.std.specs.Prelude.{◌≡◌, [], length, true};
 ghost use Rattle.rhd_text.specs.Bytes.{is_name};
-ghost use Rattle.rhd_text.specs.Reading.{name_at};
+ghost use Rattle.rhd_text.specs.Reading.{name_at, comes, wording_at, many, texts_at};
 ghost use Rattle.rhd_text.specs.Answers.{Gives};
 
+use crate::brackets::{after_bracket, comes};
 use crate::fault::Stop;
-use crate::quoted::text_of;
+use crate::quoted::{text_of, wording_at};
 use crate::words::{is_name, word_at};
-use rhd_value::Text;
+use rhd_value::{Text, Texts};
 use std::alloc::Global;
 
 /// The text of a name.
@@ -30,4 +31,40 @@ pub fn name_at(alloc: Global, bytes: &[u8]) -> Result<(Text, &[u8]), Stop>
     }
     let name = name_of(alloc, word)?;
     Ok((name, rest))
+}
+
+/// Texts up to the bracket that ends them, and the bytes from there.
+#[tactic(auto, unfolding(crate::specs::Reading::many))]
+fn texts_to_bracket(alloc: Global, bytes: &[u8]) -> Result<(Texts, &[u8]), Stop>
+    ensures { Gives (λ x. (x.0, x.1.now)) result (many (comes 41) wording_at [] (length bytes.now) bytes.now) }
+{
+    let mut texts = Texts::new(alloc);
+    let mut rest = bytes;
+    let mut most = bytes.len();
+    while most > 0 {
+        if comes(rest, b')') {
+            return Ok((texts, rest));
+        }
+        let (x, after) = wording_at(alloc, rest)?;
+        texts.push(x)?;
+        rest = after;
+        most -= 1;
+    }
+    if comes(rest, b')') {
+        Ok((texts, rest))
+    } else {
+        Err(Stop::Bad)
+    }
+}
+
+/// Texts between round brackets, and the bytes after them.
+#[tactic(auto, unfolding(crate::specs::Reading::texts_at))]
+pub fn texts_at(alloc: Global, bytes: &[u8]) -> Result<(Texts, &[u8]), Stop>
+    ensures { Gives (λ x. (x.0, x.1.now)) result (texts_at bytes.now) }
+{
+    if !comes(bytes, b'(') {
+        return Err(Stop::Bad);
+    }
+    let (texts, rest) = texts_to_bracket(alloc, after_bracket(bytes))?;
+    Ok((texts, after_bracket(rest)))
 }

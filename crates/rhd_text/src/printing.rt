@@ -50,6 +50,11 @@ fn lines_of(alloc: Global, reply: &Reply) -> Result<Vec<u8>, OutOfMemory>
     let mut lines = Vec::new(alloc);
     match reply {
         Reply::Done => lines.extend_from_slice(b"ok\n")?,
+        Reply::Made(module) => {
+            lines.extend_from_slice(b"module ")?;
+            push_number(alloc, u64::from(module.0), &mut lines)?;
+            lines.push(b'\n')?;
+        }
         Reply::Refused(fault) => {
             lines.extend_from_slice(b"refused ")?;
             push_refusal(alloc, fault, &mut lines)?;

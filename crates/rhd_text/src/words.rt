@@ -2,9 +2,10 @@
 
 ghost use Rattle.std.specs.Prelude.{◌≡◌, ◌≤◌, length, not};
 ghost use Rattle.std.specs.List.{list_all, prefix_len};
+ghost use Rattle.std.specs.Option.{option_map};
 ghost use Rattle.std.specs.Char.{is_ascii_digit};
 ghost use Rattle.rhd_text.specs.Bytes.{is_blank, is_bracket, is_word_byte, may_end, is_name};
-ghost use Rattle.rhd_text.specs.Reading.{skip_blanks, is_end, run_at, word_at};
+ghost use Rattle.rhd_text.specs.Reading.{skip_blanks, is_end, run_at, word_at, flag_at};
 ghost use Rattle.rhd_text.specs.Answers.{Gives};
 
 use crate::fault::Stop;
@@ -65,15 +66,24 @@ pub fn may_end(bytes: &[u8]) -> bool
     }
 }
 
+fn find_run(bytes: &[u8]) -> Option<(&[u8], &[u8])>
+    ensures { option_map (λ x. (x.0.now, x.1.now)) result ≡ run_at bytes.now }
+{
+    let (word, rest) = bytes.split_at(run_len(bytes));
+    if word.is_empty() || !may_end(rest) {
+        return None;
+    }
+    Some((word, rest))
+}
+
 /// The run of word bytes at the front, of one or more, and the bytes after it.
 pub fn run_at(bytes: &[u8]) -> Result<(&[u8], &[u8]), Stop>
     ensures { Gives (λ x. (x.0.now, x.1.now)) result (run_at bytes.now) }
 {
-    let (word, rest) = bytes.split_at(run_len(bytes));
-    if word.is_empty() || !may_end(rest) {
-        return Err(Stop::Bad);
+    match find_run(bytes) {
+        Some(found) => Ok(found),
+        None => Err(Stop::Bad),
     }
-    Ok((word, rest))
 }
 
 /// The next word, and the bytes after it.
@@ -82,6 +92,28 @@ pub fn word_at(bytes: &[u8]) -> Result<(&[u8], &[u8]), Stop>
     ensures { Gives (λ x. (x.0.now, x.1.now)) result (word_at bytes.now) }
 {
     run_at(skip_blanks(bytes))
+}
+
+#[tactic(auto, unfolding(crate::specs::Reading::word_at))]
+fn find_word(bytes: &[u8]) -> Option<(&[u8], &[u8])>
+    ensures { option_map (λ x. (x.0.now, x.1.now)) result ≡ word_at bytes.now }
+{
+    find_run(skip_blanks(bytes))
+}
+
+/// Whether this word comes next, and the bytes after it if it does.
+#[tactic(auto, unfolding(crate::specs::Reading::flag_at))]
+pub fn flag_at<'a>(bytes: &'a [u8], word: &[u8]) -> (bool, &'a [u8])
+    ensures { (result.0, result.1.now) ≡ flag_at word.now bytes.now }
+{
+    let Some((next, rest)) = find_word(bytes) else {
+        return (false, bytes);
+    };
+    if next == word {
+        (true, rest)
+    } else {
+        (false, bytes)
+    }
 }
 
 /// Whether all bytes are digits.

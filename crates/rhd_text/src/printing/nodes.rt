@@ -1,12 +1,13 @@
 //! The line of a call.
 
-ghost use Rattle.std.specs.Prelude.{◌≡◌, ◌++◌, OnOk};
-ghost use Rattle.rhd_text.specs.PrintedReplies.{spelled_fault, label, layer_text, pick_text, whose_text, result_text, after_text, call_line, indent, tree_text, nodes_text};
+ghost use Rattle.std.specs.Prelude.{◌≡◌, ◌++◌, ◌∷◌, [], OnOk};
+ghost use Rattle.std.specs.Fmt.{decimal};
+ghost use Rattle.rhd_text.specs.PrintedReplies.{spelled_fault, label, layer_text, func_text, pick_text, whose_text, result_text, after_text, call_line, indent, tree_text, nodes_text};
 ghost use Rattle.rhd_session.specs.declared.node.CallNode.{out-CallNode};
 
 use super::quotes::{push_number, push_quoted};
 use super::values::push_value;
-use rhd_func::CallRequest;
+use rhd_func::{CallRequest, RhaiFunc};
 use rhd_session::{CallNode, Layer, Nodes, Pick, Whose};
 use rhd_value::{Dynamic, EvalAltResult, OutOfMemory};
 use std::alloc::Global;
@@ -43,10 +44,33 @@ fn push_layer(alloc: Global, layer: Layer, out: &mut Vec<u8>) -> Result<(), OutO
     ensures { OnOk result (out.new.items ≡ out.old.items ++ layer_text layer) }
 {
     match layer {
+        Layer::Library(number) => {
+            out.extend_from_slice(b"lib")?;
+            push_number(alloc, number, out)
+        }
         Layer::Global(number) => {
             out.extend_from_slice(b"global")?;
             push_number(alloc, number, out)
         }
+    }
+}
+
+fn push_marked(alloc: Global, mark: u8, number: u32, out: &mut Vec<u8>) -> Result<(), OutOfMemory>
+    ensures { OnOk result (out.new.items ≡ out.old.items ++ (mark ∷ []) ++ decimal number) }
+{
+    out.push(mark)?;
+    push_number(alloc, u64::from(number), out)
+}
+
+/// A native by its number, a script by that of its body.
+#[tactic(auto, unfolding(crate::specs::PrintedReplies::func_text))]
+fn push_func(alloc: Global, func: &RhaiFunc, out: &mut Vec<u8>) -> Result<(), OutOfMemory>
+    ensures { OnOk result (out.new.items ≡ out.old.items ++ func_text func.now) }
+{
+    match func {
+        RhaiFunc::Pure { func, .. } => push_marked(alloc, b'#', func.0, out),
+        RhaiFunc::Method { func, .. } => push_marked(alloc, b'#', func.0, out),
+        RhaiFunc::Script { fn_def, .. } => push_marked(alloc, b'@', fn_def.def().body.0, out),
     }
 }
 
@@ -58,8 +82,7 @@ fn push_pick(alloc: Global, pick: &Option<Pick>, out: &mut Vec<u8>) -> Result<()
         None => Ok(out.extend_from_slice(b"-")?),
         Some(pick) => {
             push_layer(alloc, pick.layer, out)?;
-            out.extend_from_slice(b"#")?;
-            push_number(alloc, u64::from(pick.func.native().0), out)
+            push_func(alloc, &pick.func, out)
         }
     }
 }
