@@ -17,4 +17,4 @@ pub mod BodyLaws
 pub mod PrintingWeights
 pub mod PrintingEntries
 pub mod PrintingTrees
-mod TextLimits
+pub mod TextLimits

@@ -1,6 +1,6 @@
 -- The limits of a text allow no level above 1,000, and a line adds one command at most.
 use Rattle.std.proofs.Common.{◌≡◌, ℕ, ◌+◌, ◌≤◌, Bool, true, false, cond, List, [], ◌∷◌, ◌++◌, length, Option, Some, None, refl, sym, ap, subst, ◌∙◌, arith}
-use Rattle.std.specs.Prelude.{IfSome, nat_le, ◌&&◌}
+use Rattle.std.specs.Prelude.{IfOk, IfSome, nat_le, ◌&&◌, Result, Ok, Err}
 use Rattle.std.specs.Option.{is_none}
 use Rattle.std.proofs.lemmas.Bool.{leb-true}
 use Rattle.std.proofs.lemmas.List.{length_push}
@@ -11,6 +11,7 @@ use Rattle.rhd_text.specs.declared.body.CallPlan.{CallPlan}
 use Rattle.rhd_text.specs.declared.session.SessionText.{SessionText}
 use Rattle.rhd_text.specs.declared.part.Part.{Part}
 use Rattle.rhd_text.specs.declared.part.Part.TheVariants as parts
+use Rattle.rhd_text.specs.declared.fault.TextFault.{TextFault}
 use Rattle.rhd_text.specs.declared.line.Line.{Line}
 use Rattle.rhd_text.specs.declared.line.Line.TheVariants.{Skipped, Says}
 use Rattle.rhd_text.specs.declared.place.Place.{Place}
@@ -18,7 +19,7 @@ use Rattle.rhd_text.specs.declared.keyword.Keyword.{Keyword}
 use Rattle.rhd_text.specs.declared.keyword.Keyword.TheVariants as keywords
 use Rattle.rhd_text.specs.Rows.{row, allowed}
 use Rattle.rhd_text.specs.Grammar.{operands, IsLine}
-use Rattle.rhd_text.specs.Session.{empty_text, takes_headers, stepped, ended, in_latest, with_limits, with_body, with_call, with_end, with_part, with_line, IsText, IsSession}
+use Rattle.rhd_text.specs.Session.{empty_text, takes_headers, stepped, ended, in_latest, with_limits, with_body, with_call, with_end, with_part, with_line, IsText, IsSession, ReadsText}
 use Rattle.rhd_text.specs.Reading.{◌>>=◌}
 use Rattle.rhd_text.proofs.Agrees.{bind_some, cond_some, same_some}
 
@@ -100,5 +101,14 @@ text_keeps held n t (line ∷ more) u w fits =
     let r = text_keeps held (n + 1) w.1 more u w.4 k.0 in
     (r.0, omega (arith, k.1, r.1))
 
-pub session_fits : (held : ℕ) (ls : List (List ℕ)) (u : SessionText) → IsSession held ls u → Fits u.limits × (length u.commands ≤ length ls)
+session_fits : (held : ℕ) (ls : List (List ℕ)) (u : SessionText) → IsSession held ls u → Fits u.limits × (length u.commands ≤ length ls)
 session_fits held ls u w = let k = text_keeps held 1 empty_text ls u w tt in (k.0, omega (arith, k.1))
+
+-- what reading answered
+pub limits_read : (held : ℕ) (ls : List (List ℕ)) (r : Result SessionText TextFault) → ReadsText held ls r → IfOk r (λ t. Fits t.limits)
+limits_read held ls (Ok t) w = (session_fits held ls t w).0
+limits_read held ls (Err e) w = tt
+
+pub count_read : (held : ℕ) (ls : List (List ℕ)) (r : Result SessionText TextFault) → ReadsText held ls r → IfOk r (λ t. length t.commands ≤ length ls)
+count_read held ls (Ok t) w = (session_fits held ls t w).1
+count_read held ls (Err e) w = tt

@@ -3,6 +3,7 @@ use Rattle.std.specs.Str.Lines.{lines}
 use Rattle.rhd_text.specs.ReadSession.{session_of}
 use Rattle.rhd_text.specs.Answers.{Reads}
 use Rattle.rhd_text.proofs.SessionLaws.{reads, reads_no_other, names_no_other}
+use Rattle.rhd_text.proofs.TextLimits.{limits_read, count_read}
 use Rattle.rhd_text.proofs.reading.read_text.Goals as goal
 
 pub returns-clause-reads : goal.returns-clause-reads
@@ -13,3 +14,13 @@ returns-clause-text g c = reads_no_other (length c.args.natives.now.items.items)
 
 pub returns-clause-bad : goal.returns-clause-bad
 returns-clause-bad g c = names_no_other (length c.args.natives.now.items.items) (lines c.args.bytes.now) c.read_lines.result (subst (λ (h : ℕ). Reads c.read_lines.result (session_of h (lines c.args.bytes.now))) c.len.ensures c.read_lines.ensures)
+
+pub returns-clause-limits : goal.returns-clause-limits
+returns-clause-limits g c =
+    limits_read (length c.args.natives.now.items.items) (lines c.args.bytes.now) c.read_lines.result
+    (reads (length c.args.natives.now.items.items) (lines c.args.bytes.now) c.read_lines.result (subst (λ (h : ℕ). Reads c.read_lines.result (session_of h (lines c.args.bytes.now))) c.len.ensures c.read_lines.ensures))
+
+pub returns-clause-count : goal.returns-clause-count
+returns-clause-count g c =
+    count_read (length c.args.natives.now.items.items) (lines c.args.bytes.now) c.read_lines.result
+    (reads (length c.args.natives.now.items.items) (lines c.args.bytes.now) c.read_lines.result (subst (λ (h : ℕ). Reads c.read_lines.result (session_of h (lines c.args.bytes.now))) c.len.ensures c.read_lines.ensures))
