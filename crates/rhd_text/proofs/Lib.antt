@@ -4,9 +4,14 @@ pub mod NumberLaws
 pub mod Agrees
 pub mod WordLaws
 pub mod ListLaws
+pub mod ByteLaws
+pub mod QuoteLaws
+pub mod ValueLaws
+pub mod ArgumentLaws
 pub mod OperandLaws
 pub mod RowLaws
 pub mod SessionLaws
+pub mod BodyLaws
 pub mod PrintingWeights
 pub mod PrintingEntries
 pub mod PrintingTrees

@@ -32,10 +32,10 @@ small_or_none (Err e) v most P p h =
       | inr le ↦ rw (le-ltb v most le) refl
     ]
 
-pub parsed_u32 : {E : Type 0} (w : List ℕ) (r : Result ℕ E) → is_digits w ≡ true → ParsesUnsigned 32 10 w r → result_ok r ≡ cond (ltb (digits_value 10 w) (2 ^ 32)) (Some (digits_value 10 w)) None
-parsed_u32 w r h p =
+pub parsed_number : {E : Type 0} (bits : ℕ) (w : List ℕ) (r : Result ℕ E) → is_digits w ≡ true → ParsesUnsigned bits 10 w r → result_ok r ≡ cond (ltb (digits_value 10 w) (2 ^ bits)) (Some (digits_value 10 w)) None
+parsed_number bits w r h p =
     let a = and_parts (ltb 0 (length w)) (list_all is_ascii_digit w) h in
-    small_or_none r (digits_value 10 w) (2 ^ 32) (0 < length w) (ltb-true _ _ a.0) (parse_digits own 32 w r p a.1)
+    small_or_none r (digits_value 10 w) (2 ^ bits) (0 < length w) (ltb-true _ _ a.0) (parse_digits own bits w r p a.1)
 
 -- the same of signed numbers
 pos_or_none : {E : Type 0} (r : Result ℤ E) (v most : ℕ) (P : Type 0) → P → OkIff r (P × (v < most)) (pos v) → result_ok r ≡ cond (ltb v most) (Some (pos v)) None
@@ -92,6 +92,12 @@ not_true false h = refl
 pub tells_text : {X E : Type 0} (Q : X → Type 0) (P : E → Type 0) (r : Result X E) (bs : List ℕ) → MatchResult r (λ s. Q s × IsUtf8 bs) (λ e. ¬ (IsUtf8 bs) × P e) → is_ok r ≡ is_utf8 bs
 tells_text Q P (Ok x) bs h = sym (is_utf8-from_IsUtf8 bs h.1)
 tells_text Q P (Err e) bs h = not_true (is_utf8 bs) (λ t. h.0 (IsUtf8-from_is_utf8 bs t))
+
+pub is_text : (bs : List ℕ) → IsUtf8 bs → is_utf8 bs ≡ true
+is_text bs h = is_utf8-from_IsUtf8 bs h
+
+pub is_no_text : (bs : List ℕ) → ¬ (IsUtf8 bs) → is_utf8 bs ≡ false
+is_no_text bs h = sym (not_true (is_utf8 bs) (λ t. h (IsUtf8-from_is_utf8 bs t)))
 
 -- ---- names
 

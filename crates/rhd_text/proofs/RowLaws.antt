@@ -1,21 +1,24 @@
 -- Rows and lines: what is read is what is written.
 use Rattle.std.proofs.Common.{◌≡◌, ◌⊎◌, ℕ, Bool, true, false, cond, not, List, [], ◌∷◌, ◌++◌, Option, Some, None, refl, sym, ap, subst, ◌∙◌, inl, inr}
+use Rattle.std.specs.Prelude.{codes}
 use Rattle.std.specs.Str.{is_utf8, bytes_eq}
 use Rattle.std.proofs.lemmas.Slice.Eq.{bytes_eq-Decides}
 use Rattle.std.proofs.lemmas.Bool.{eqb-true}
-use Rattle.rhd_session.specs.declared.command.Command.{Command}
+use Rattle.rhd_text.specs.declared.part.Part.{Part}
 use Rattle.rhd_text.specs.declared.place.Place.{Place}
 use Rattle.rhd_text.specs.declared.line.Line.{Line}
 use Rattle.rhd_text.specs.declared.line.Line.TheVariants.{Skipped, Says}
 use Rattle.rhd_text.specs.declared.keyword.Keyword.{Keyword}
-use Rattle.rhd_text.specs.declared.keyword.Keyword.TheVariants.{Register, Call}
+use Rattle.rhd_text.specs.declared.keyword.Keyword.TheVariants.{Limits, Body, Do, Ret, Fail, Register, Call}
+use Rattle.rhd_text.specs.declared.keyword.CallWord.{CallWord}
+use Rattle.rhd_text.specs.declared.keyword.CallWord.TheVariants as words
 use Rattle.rhd_text.specs.Bytes.{is_blank}
-use Rattle.rhd_text.specs.Rows.{Operand, Meaning, From, row, keyword, keywords}
+use Rattle.rhd_text.specs.Rows.{Operand, Meaning, From, row, call_word, keyword, one_word}
 use Rattle.rhd_text.specs.Spans.{blanks, bare}
-use Rattle.rhd_text.specs.Grammar.{operands, command, WrittenLine, IsLine}
+use Rattle.rhd_text.specs.Grammar.{operands, head, part, WrittenLine, IsLine}
 use Rattle.rhd_text.specs.Reading.{◌>>=◌, skip_blanks, is_end, word_at}
-use Rattle.rhd_text.specs.ReadRows.{operand_at, operands_at, row_at, keyword_in, keyword_of, begins_no_command, is_skipped, line_at, line_of}
-use Rattle.rhd_text.proofs.Agrees.{bind_some, same_some}
+use Rattle.rhd_text.specs.ReadRows.{operand_at, operands_at, row_at, keyword_in, keyword_of, step_of, step_at, keyword_at, begins_no_part, is_skipped, line_at, line_of}
+use Rattle.rhd_text.proofs.Agrees.{bind_some, same_some, some_pair}
 use Rattle.rhd_text.proofs.WordLaws.{stops_nil, head_stop, skipped, skips_to, bare_agrees, bare_here, end_sound, end_complete}
 use Rattle.rhd_text.proofs.OperandLaws.{operand_agrees}
 
@@ -50,36 +53,130 @@ keyword_found [] w k e = absurd cc
 keyword_found (j ∷ ks) w k e = keyword_test (bytes_eq (keyword j) w) w j k (keyword_in ks w) refl e (λ f. keyword_found ks w k f)
 
 keyword_sound : (w : List ℕ) (k : Keyword) → keyword_of w ≡ Some k → w ≡ keyword k
-keyword_sound w k e = keyword_found keywords w k e
+keyword_sound w k e = keyword_found one_word w k e
 
--- no earlier keyword is spelled so
-keyword_complete : (k : Keyword) → keyword_of (keyword k) ≡ Some k
+-- no earlier keyword is spelled so, and none is spelled `do`
+keyword_complete : (k : Keyword) → (bytes_eq (keyword k) (codes "do") ≡ false) → keyword_of (keyword k) ≡ Some k
 unfolding keyword_in
-keyword_complete Register = refl
-keyword_complete Call = refl
+keyword_complete Limits h = refl
+keyword_complete Body h = refl
+keyword_complete (Do v) h = absurd cc
+keyword_complete Ret h = refl
+keyword_complete Fail h = refl
+keyword_complete Register h = refl
+keyword_complete (Call words.Call) h = refl
+keyword_complete (Call words.CallNative) h = refl
 
 -- a keyword begins no comment
-keyword_shows : (k : Keyword) (rest : List ℕ) → begins_no_command (keyword k ++ rest) ≡ false
+keyword_shows : (k : Keyword) (rest : List ℕ) → begins_no_part (keyword k ++ rest) ≡ false
+keyword_shows Limits rest = refl
+keyword_shows Body rest = refl
+keyword_shows (Do v) rest = refl
+keyword_shows Ret rest = refl
+keyword_shows Fail rest = refl
 keyword_shows Register rest = refl
-keyword_shows Call rest = refl
+keyword_shows (Call words.Call) rest = refl
+keyword_shows (Call words.CallNative) rest = refl
+
+-- where the first word is not `do`, it is all
+alone : (k : Keyword) (bytes rest : List ℕ) → bytes_eq (keyword k) (codes "do") ≡ false → bare (keyword k) bytes rest → head k bytes rest
+alone Limits bytes rest h w = w
+alone Body bytes rest h w = w
+alone (Do v) bytes rest h w = absurd cc
+alone Ret bytes rest h w = w
+alone Fail bytes rest h w = w
+alone Register bytes rest h w = w
+alone (Call v) bytes rest h w = w
+
+step_is : (k s : Keyword) → step_of k ≡ Some s → (v : CallWord) × (k ≡ Call v) × (Do v ≡ s)
+step_is Limits s e = absurd cc
+step_is Body s e = absurd cc
+step_is (Do v) s e = absurd cc
+step_is Ret s e = absurd cc
+step_is Fail s e = absurd cc
+step_is Register s e = absurd cc
+step_is (Call v) s e = (v, refl, same_some (Do v) s e)
+
+step_sound : (k : Keyword) (first bytes rest : List ℕ) → bare (codes "do") first bytes → step_at bytes ≡ Some (k, rest) → head k first rest
+unfolding step_at
+step_sound k first bytes rest d e =
+    let a = bind_some (word_at bytes) (λ w. keyword_of w.0 >>= λ j. step_of j >>= λ s. Some (s, w.1)) (k, rest) e in
+    let b = bind_some (keyword_of a.0.0) (λ j. step_of j >>= λ s. Some (s, a.0.1)) (k, rest) a.2 in
+    let f = bind_some (step_of b.0) (λ s. Some (s, a.0.1)) (k, rest) b.2 in
+    let p = some_pair f.0 k a.0.1 rest f.2 in
+    let i = step_is b.0 f.0 f.1 in
+    let w : a.0.0 ≡ call_word i.0 = keyword_sound a.0.0 b.0 b.1 ∙ ap keyword i.1 in
+    let s = subst (λ (v : List ℕ). bare v bytes a.0.1) w (bare_agrees.sound a.0.0 bytes a.0.1 a.1) in
+    subst (λ (j : Keyword). head j first rest) (i.2 ∙ p.0) (bytes, d, subst (λ (r : List ℕ). bare (call_word i.0) bytes r) p.1 s)
+
+abbrev plain_at : List ℕ → List ℕ → Option (Keyword × List ℕ)
+plain_at w after = keyword_of w >>= λ j. Some (j, after)
+
+plain_sound : (k : Keyword) (w bytes rest after : List ℕ) → bytes_eq w (codes "do") ≡ false → bare w bytes after → plain_at w after ≡ Some (k, rest) → head k bytes rest
+plain_sound k w bytes rest after h d e =
+    let b = bind_some (keyword_of w) (λ j. Some (j, after)) (k, rest) e in
+    let p = some_pair b.0 k after rest b.2 in
+    let same : w ≡ keyword k = keyword_sound w b.0 b.1 ∙ ap keyword p.0 in
+    alone k bytes rest (sym (ap (λ (v : List ℕ). bytes_eq v (codes "do")) same) ∙ h) (subst (λ (r : List ℕ). bare (keyword k) bytes r) p.1 (subst (λ (v : List ℕ). bare v bytes after) same d))
+
+head_cases : (b : Bool) (k : Keyword) (w bytes rest after : List ℕ) → bytes_eq w (codes "do") ≡ b → bare w bytes after → cond b (step_at after) (plain_at w after) ≡ Some (k, rest) → head k bytes rest
+head_cases true k w bytes rest after h d e = step_sound k bytes after rest (subst (λ (v : List ℕ). bare v bytes after) ((bytes_eq-Decides w (codes "do")).0 h) d) e
+head_cases false k w bytes rest after h d e = plain_sound k w bytes rest after h d e
+
+head_sound : (k : Keyword) (bytes rest : List ℕ) → keyword_at bytes ≡ Some (k, rest) → head k bytes rest
+unfolding keyword_at
+head_sound k bytes rest e =
+    let a = bind_some (word_at bytes) (λ w. cond (bytes_eq w.0 (codes "do")) (step_at w.1) (keyword_of w.0 >>= λ j. Some (j, w.1))) (k, rest) e in
+    head_cases (bytes_eq a.0.0 (codes "do")) k a.0.0 bytes rest a.0.1 refl (bare_agrees.sound a.0.0 bytes a.0.1 a.1) a.2
+
+one_word_complete : (k : Keyword) (bytes rest : List ℕ) → bytes_eq (keyword k) (codes "do") ≡ false → bare (keyword k) bytes rest → keyword_at bytes ≡ Some (k, rest)
+unfolding keyword_at
+one_word_complete k bytes rest h w = rw (bare_agrees.complete (keyword k) bytes rest w, h, keyword_complete k h) refl
+
+step_complete : (v : CallWord) (bytes rest : List ℕ) → bare (call_word v) bytes rest → step_at bytes ≡ Some (Do v, rest)
+unfolding step_at keyword_in
+step_complete words.Call bytes rest w = rw (bare_agrees.complete (call_word words.Call) bytes rest w) refl
+step_complete words.CallNative bytes rest w = rw (bare_agrees.complete (call_word words.CallNative) bytes rest w) refl
+
+do_complete : (v : CallWord) (bytes rest : List ℕ) → head (Do v) bytes rest → keyword_at bytes ≡ Some (Do v, rest)
+unfolding keyword_at
+do_complete v bytes rest w = rw (bare_agrees.complete (codes "do") bytes w.0 w.1) (step_complete v w.0 rest w.2)
+
+head_complete : (k : Keyword) (bytes rest : List ℕ) → head k bytes rest → keyword_at bytes ≡ Some (k, rest)
+head_complete Limits bytes rest w = one_word_complete Limits bytes rest refl w
+head_complete Body bytes rest w = one_word_complete Body bytes rest refl w
+head_complete (Do v) bytes rest w = do_complete v bytes rest w
+head_complete Ret bytes rest w = one_word_complete Ret bytes rest refl w
+head_complete Fail bytes rest w = one_word_complete Fail bytes rest refl w
+head_complete Register bytes rest w = one_word_complete Register bytes rest refl w
+head_complete (Call words.Call) bytes rest w = one_word_complete (Call words.Call) bytes rest refl w
+head_complete (Call words.CallNative) bytes rest w = one_word_complete (Call words.CallNative) bytes rest refl w
+
+-- what stands first is the first word
+first_word : (k : Keyword) (bytes rest : List ℕ) → head k bytes rest → (after : List ℕ) × bare (keyword k) bytes after
+first_word Limits bytes rest w = (rest, w)
+first_word Body bytes rest w = (rest, w)
+first_word (Do v) bytes rest w = (w.0, w.1)
+first_word Ret bytes rest w = (rest, w)
+first_word Fail bytes rest w = (rest, w)
+first_word Register bytes rest w = (rest, w)
+first_word (Call v) bytes rest w = (rest, w)
 
 -- ---- a line
 
-skipped_sound : (s bytes : List ℕ) → blanks bytes s → begins_no_command s ≡ true → blanks bytes [] ⊎ ((comment : List ℕ) × blanks bytes (59 ∷ comment))
+skipped_sound : (s bytes : List ℕ) → blanks bytes s → begins_no_part s ≡ true → blanks bytes [] ⊎ ((comment : List ℕ) × blanks bytes (59 ∷ comment))
 skipped_sound [] bytes b e = inl b
 skipped_sound (x ∷ s) bytes b e = inr (s, subst (λ (y : ℕ). blanks bytes (y ∷ s)) (eqb-true x 59 e) b)
 
-not_skipped : (place : Place) (l : Line) (bytes : List ℕ) → (word_at bytes >>= λ w. keyword_of w.0 >>= λ k. row_at place k w.1 >>= λ c. Some (Says c)) ≡ Some l → WrittenLine place l bytes
+not_skipped : (place : Place) (l : Line) (bytes : List ℕ) → (keyword_at bytes >>= λ k. row_at place k.0 k.1 >>= λ c. Some (Says c)) ≡ Some l → WrittenLine place l bytes
 unfolding row_at
 not_skipped place l bytes e =
-    let a = bind_some (word_at bytes) (λ w. keyword_of w.0 >>= λ k. row_at place k w.1 >>= λ c. Some (Says c)) l e in
-    let b = bind_some (keyword_of a.0.0) (λ k. row_at place k a.0.1 >>= λ c. Some (Says c)) l a.2 in
-    let d = bind_some (row_at place b.0 a.0.1) (λ c. Some (Says c)) l b.2 in
-    let w = subst (λ (v : List ℕ). bare v bytes a.0.1) (keyword_sound a.0.0 b.0 b.1) (bare_agrees.sound a.0.0 bytes a.0.1 a.1) in
+    let a = bind_some (keyword_at bytes) (λ k. row_at place k.0 k.1 >>= λ c. Some (Says c)) l e in
+    let d = bind_some (row_at place a.0.0 a.0.1) (λ c. Some (Says c)) l a.2 in
     subst (λ (j : Line). WrittenLine place j bytes) (same_some (Says d.0) l d.2)
-    (b.0, a.0.1, w, row_sound (row b.0).operands ((row b.0).command place) d.0 a.0.1 d.1)
+    (a.0.0, a.0.1, head_sound a.0.0 bytes a.0.1 a.1, row_sound (row a.0.0).operands ((row a.0.0).part place) d.0 a.0.1 d.1)
 
-line_cases : (t s : Bool) (held n : ℕ) (l : Line) (bytes : List ℕ) → is_utf8 bytes ≡ t → is_skipped bytes ≡ s → cond (not t) None (cond s (Some Skipped) (word_at bytes >>= λ w. keyword_of w.0 >>= λ k. row_at (record { held = held; line = n }) k w.1 >>= λ c. Some (Says c))) ≡ Some l → IsLine held n l bytes
+line_cases : (t s : Bool) (held n : ℕ) (l : Line) (bytes : List ℕ) → is_utf8 bytes ≡ t → is_skipped bytes ≡ s → cond (not t) None (cond s (Some Skipped) (keyword_at bytes >>= λ k. row_at (record { held = held; line = n }) k.0 k.1 >>= λ c. Some (Says c))) ≡ Some l → IsLine held n l bytes
 line_cases true true held n l bytes ht hs e = record {
   text = ht;
   written = subst (λ (j : Line). WrittenLine (record { held = held; line = n }) j bytes) (same_some Skipped l e) (skipped_sound (skip_blanks bytes) bytes (skipped bytes) hs);
@@ -92,21 +189,22 @@ unfolding line_at
 line_sound held n l bytes e = line_cases (is_utf8 bytes) (is_skipped bytes) held n l bytes refl refl e
 
 skip_complete : (bytes : List ℕ) → blanks bytes [] ⊎ ((comment : List ℕ) × blanks bytes (59 ∷ comment)) → is_skipped bytes ≡ true
-skip_complete bytes (inl b) = ap begins_no_command (skips_to bytes [] b (stops_nil is_blank))
-skip_complete bytes (inr c) = ap begins_no_command (skips_to bytes (59 ∷ c.0) c.1 (head_stop 59 c.0 refl))
+skip_complete bytes (inl b) = ap begins_no_part (skips_to bytes [] b (stops_nil is_blank))
+skip_complete bytes (inr c) = ap begins_no_part (skips_to bytes (59 ∷ c.0) c.1 (head_stop 59 c.0 refl))
 
-command_complete : (place : Place) (c : Command) (bytes : List ℕ) → command place c bytes → (is_skipped bytes ≡ false) × ((word_at bytes >>= λ w. keyword_of w.0 >>= λ k. row_at place k w.1 >>= λ d. Some (Says d)) ≡ Some (Says c))
+part_complete : (place : Place) (c : Part) (bytes : List ℕ) → part place c bytes → (is_skipped bytes ≡ false) × ((keyword_at bytes >>= λ k. row_at place k.0 k.1 >>= λ d. Some (Says d)) ≡ Some (Says c))
 unfolding row_at
-command_complete place c bytes w =
-    let h = bare_here (keyword w.0) bytes w.1 w.2 in (
-      ap begins_no_command h.2 ∙ keyword_shows w.0 w.1,
-      rw (bare_agrees.complete (keyword w.0) bytes w.1 w.2, keyword_complete w.0, row_complete (row w.0).operands ((row w.0).command place) c w.1 w.3) refl,
+part_complete place c bytes w =
+    let f = first_word w.0 bytes w.1 w.2 in
+    let h = bare_here (keyword w.0) bytes f.0 f.1 in (
+      ap begins_no_part h.2 ∙ keyword_shows w.0 f.0,
+      rw (head_complete w.0 bytes w.1 w.2, row_complete (row w.0).operands ((row w.0).part place) c w.1 w.3) refl,
     )
 
 written_complete : (place : Place) (l : Line) (bytes : List ℕ) → is_utf8 bytes ≡ true → WrittenLine place l bytes → line_at place bytes ≡ Some l
 unfolding line_at
 written_complete place Skipped bytes t w = rw (t, skip_complete bytes w) refl
-written_complete place (Says c) bytes t w = let k = command_complete place c bytes w in rw (t, k.0) k.1
+written_complete place (Says c) bytes t w = let k = part_complete place c bytes w in rw (t, k.0) k.1
 
 pub line_complete : (held n : ℕ) (l : Line) (bytes : List ℕ) → IsLine held n l bytes → line_of held n bytes ≡ Some l
 line_complete held n l bytes w = written_complete (record { held = held; line = n }) l bytes w.text w.written

@@ -1,11 +1,12 @@
 -- BYTES AND WORDS: which bytes part words, and what a word may say.
-use Rattle.std.specs.Prelude.{ℕ, ◌^◌, Bool, true, false, ◌&&◌, ◌||◌, not, List, [], ◌∷◌, length, drop, Option, Some, None, ℤ, pos, neg_ℤ, nat_le, nat_lt, ◌==◌, slice_index, if◌then◌else◌}
+use Rattle.std.specs.Prelude.{ℕ, ◌^◌, Bool, true, false, ◌&&◌, ◌||◌, not, List, [], ◌∷◌, length, drop, Option, Some, None, ℤ, pos, neg_ℤ, nat_le, nat_lt, ◌==◌, slice_index, codes, if◌then◌else◌}
 use Rattle.std.specs.Option.{option_map}
+use Rattle.std.specs.Str.{bytes_eq}
 use Rattle.std.specs.List.{list_all}
 use Rattle.std.specs.Char.{is_ascii_digit, is_ascii_lowercase}
 use Rattle.std.specs.Str.Parse.{digits_value}
-use Rattle.rhd_value.specs.Tree.{Tree, integer}
-use Rattle.rhd_value.specs.Kinds.{plain}
+use Rattle.rhd_text.specs.declared.body.Given.{Given}
+use Rattle.rhd_text.specs.declared.body.Given.TheVariants.{This, Last, Arg}
 
 -- a space or a tab
 abbrev pub is_blank : ℕ → Bool
@@ -28,6 +29,17 @@ may_end (b ∷ bytes) = is_blank b || is_bracket b
 abbrev pub begins : ℕ → List ℕ → Bool
 begins b bytes = slice_index bytes 0 == b
 
+-- the byte that a backslash and this byte stand for
+abbrev pub unescaped : ℕ → Option ℕ
+unescaped b =
+    if b == 92 then Some 92
+    else (if b == 34 then Some 34
+    else (if b == 39 then Some 39
+    else (if b == 110 then Some 10
+    else (if b == 116 then Some 9
+    else (if b == 114 then Some 13
+    else None)))))
+
 -- one lower-case letter, and digits, possibly none
 abbrev pub is_name : List ℕ → Bool
 is_name [] = false
@@ -37,9 +49,16 @@ is_name (c ∷ cs) = is_ascii_lowercase c && list_all is_ascii_digit cs
 abbrev pub is_digits : List ℕ → Bool
 is_digits w = nat_lt 0 (length w) && list_all is_ascii_digit w
 
--- the number of 1 to 20 digits, where it is below 2 ^ 32
-unfoldable pub num_of : List ℕ → Option ℕ
-num_of w = if is_digits w && nat_le (length w) 20 && nat_lt (digits_value 10 w) (2 ^ 32) then Some (digits_value 10 w) else None
+-- the number of 1 to 20 digits, where it has so many bits
+unfoldable pub num_of : ℕ → List ℕ → Option ℕ
+num_of bits w = if is_digits w && nat_le (length w) 20 && nat_lt (digits_value 10 w) (2 ^ bits) then Some (digits_value 10 w) else None
+
+-- `$this`, `$last`, or `$` and the number of an argument
+unfoldable pub given_of : List ℕ → Option Given
+given_of w =
+    if bytes_eq w (codes "$this") then Some This
+    else (if bytes_eq w (codes "$last") then Some Last
+    else (if begins 36 w then option_map (λ n. Arg n) (num_of 32 (drop 1 w)) else None))
 
 -- digits, or `-` and digits
 abbrev pub is_signed_digits : List ℕ → Bool
@@ -55,7 +74,3 @@ fitting_int w =
 -- the integer of any number of digits with or without `-`, where it has 64 bits
 unfoldable pub int_of : List ℕ → Option ℤ
 int_of w = if is_signed_digits w then fitting_int w else None
-
--- the integer as a value without marks
-abbrev pub value_of : List ℕ → Option Tree
-value_of w = option_map (λ z. plain (integer z)) (int_of w)

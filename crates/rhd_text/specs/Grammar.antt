@@ -1,33 +1,42 @@
 -- HOW A LINE IS WRITTEN, by the table of Rows.
-use Rattle.std.specs.Prelude.{◌≡◌, ◌⊎◌, ℕ, true, List, [], ◌∷◌, Option, Some}
+use Rattle.std.specs.Prelude.{◌≡◌, ◌⊎◌, ℕ, true, List, [], ◌∷◌, Option, Some, codes}
 use Rattle.std.specs.Str.{is_utf8}
-use Rattle.rhd_session.specs.declared.command.Command.{Command}
+use Rattle.rhd_text.specs.declared.part.Part.{Part}
 use Rattle.rhd_text.specs.declared.place.Place.{Place}
 use Rattle.rhd_text.specs.declared.line.Line.{Line}
 use Rattle.rhd_text.specs.declared.line.Line.TheVariants.{Skipped, Says}
 use Rattle.rhd_text.specs.declared.keyword.Keyword.{Keyword}
-use Rattle.rhd_text.specs.Rows.{Operand, NAME, NUM, INTS, Meaning, From, row, keyword}
-use Rattle.rhd_text.specs.Spans.{Span, blanks, bare, name, number, value, each}
+use Rattle.rhd_text.specs.declared.keyword.Keyword.TheVariants.{Do}
+use Rattle.rhd_text.specs.Rows.{Operand, NAME, WORD, NUM, LONG, ARG, ARGS, Meaning, From, row, call_word, keyword}
+use Rattle.rhd_text.specs.Spans.{Span, ◌▸◌, blanks, bare, name, word, number, argument, arguments}
 
 -- how each kind of operand is written
 abbrev pub operand : (o : Operand) → Meaning o → Span
 operand NAME = name
-operand NUM = number
-operand INTS = λ ts bytes rest. each value ts bytes rest × blanks rest []
+operand WORD = word
+operand NUM = number 32
+operand LONG = number 64
+operand ARG = argument true
+operand (ARGS given) = arguments given
 
 -- the operands of a row, to the end of the line, where the row gives this of what they say
 abbrev pub operands : {R : Type 0} (os : List Operand) → From os (Option R) → R → List ℕ → Type 0
 operands [] says c bytes = blanks bytes [] × (says ≡ Some c)
 operands (o ∷ os) says c bytes = (x : Meaning o) × (rest : List ℕ) × operand o x bytes rest × operands os (says x) c rest
 
--- a command is written in one of the rows
-abbrev pub command : Place → Command → List ℕ → Type 0
-command place c bytes = (k : Keyword) × (rest : List ℕ) × bare (keyword k) bytes rest × operands (row k).operands ((row k).command place) c rest
+-- how a line begins: with a word, and where that is `do` with the word of a call after it
+abbrev pub head : Keyword → Span
+head (Do w) = bare (codes "do") ▸ bare (call_word w)
+head k = bare (keyword k)
 
--- only blanks, or a comment; else a command
+-- a part of a text is written in one of the rows
+abbrev pub part : Place → Part → List ℕ → Type 0
+part place p bytes = (k : Keyword) × (rest : List ℕ) × head k bytes rest × operands (row k).operands ((row k).part place) p rest
+
+-- only blanks, or a comment; else a part of the text
 abbrev pub WrittenLine : Place → Line → List ℕ → Type 0
 WrittenLine place Skipped bytes = blanks bytes [] ⊎ ((comment : List ℕ) × blanks bytes (59 ∷ comment))
-WrittenLine place (Says c) bytes = command place c bytes
+WrittenLine place (Says p) bytes = part place p bytes
 
 -- line n is in UTF-8, and written so
 pub record IsLine (held : ℕ) (n : ℕ) (line : Line) (bytes : List ℕ) : Type 0 where

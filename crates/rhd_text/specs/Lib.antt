@@ -1,4 +1,5 @@
 pub mod Bytes
+pub mod Arguments
 pub mod Rows
 pub mod Spans
 pub mod Grammar

@@ -1,8 +1,14 @@
 -- How operands are read, from the left.
-use Rattle.std.specs.Prelude.{ℕ, zero, suc, ◌&&◌, Bool, List, [], ◌∷◌, ◌++◌, length, take, drop, Option, Some, None, nat_lt, ◌==◌, if◌then◌else◌, option_and_then}
+use Rattle.std.specs.Prelude.{ℕ, zero, suc, ◌&&◌, Bool, true, false, List, [], ◌∷◌, ◌++◌, length, take, drop, Option, Some, None, nat_lt, ◌==◌, if◌then◌else◌, option_and_then}
 use Rattle.std.specs.List.{prefix_len}
-use Rattle.rhd_value.specs.Tree.{Tree}
-use Rattle.rhd_text.specs.Bytes.{is_blank, is_word_byte, may_end, is_name, num_of, value_of}
+use Rattle.std.specs.Str.{is_utf8}
+use Rattle.rhd_value.specs.Tree.{Tree, unit, integer, text}
+use Rattle.rhd_value.specs.Kinds.{plain}
+use Rattle.rhd_text.specs.Bytes.{is_blank, is_word_byte, may_end, begins, unescaped, is_name, num_of, int_of, given_of}
+use Rattle.rhd_text.specs.declared.arguments.Argument.{Argument}
+use Rattle.rhd_text.specs.declared.arguments.Argument.TheVariants as argument
+use Rattle.rhd_text.specs.declared.arguments.Arguments.{Arguments}
+use Rattle.rhd_text.specs.Arguments.{together}
 
 -- what is read first, and then with it
 infixl 10 ◌>>=◌
@@ -35,19 +41,94 @@ name_at bytes = do
   w ← word_at bytes
   if is_name w.0 then Some w else None
 
--- the number of the next word
-unfoldable pub num_at : Parse ℕ
-num_at bytes = do
+-- the number of so many bits of the next word
+unfoldable pub num_at : ℕ → Parse ℕ
+num_at bits bytes = do
   w ← word_at bytes
-  n ← num_of w.0
+  n ← num_of bits w.0
   Some (n, w.1)
 
--- the value of the next word
+-- whether this byte comes next, after any blanks
+abbrev pub comes : ℕ → List ℕ → Bool
+comes b bytes = begins b (skip_blanks bytes)
+
+-- what stands after the next byte that is no blank
+abbrev pub after_bracket : List ℕ → List ℕ
+after_bracket bytes = drop 1 (skip_blanks bytes)
+
+-- ---- quoted texts
+
+abbrev pub put : Option ℕ → Option (List ℕ × List ℕ) → Option (List ℕ × List ℕ)
+put b read = do
+  c ← b
+  r ← read
+  Some (c ∷ r.0, r.1)
+
+abbrev pub plain_byte : ℕ → List ℕ → Option (List ℕ × List ℕ) → Option (List ℕ × List ℕ)
+plain_byte b bytes read = if b == 34 then Some ([], bytes) else (if b == 92 then read else put (Some b) read)
+
+-- a text up to the quotation mark that ends it; escaped says whether a backslash stands before the bytes
+abbrev pub text_at : Bool → Parse (List ℕ)
+text_at escaped [] = None
+text_at true (b ∷ bytes) = put (unescaped b) (text_at false bytes)
+text_at false (b ∷ bytes) = plain_byte b bytes (text_at (b == 92) bytes)
+
+-- these bytes, where they are UTF-8
+abbrev pub text_of : List ℕ → Option (List ℕ)
+text_of w = if is_utf8 w then Some w else None
+
+-- the rest of a quoted text, after the quotation mark that begins it
+unfoldable pub quoted_at : Parse (List ℕ)
+quoted_at bytes = do
+  t ← text_at false bytes
+  if may_end t.1 then (do
+    s ← text_of t.0
+    Some (s, t.1)) else None
+
+-- an unquoted text
+abbrev pub plain_text_at : Parse (List ℕ)
+plain_text_at bytes = do
+  w ← run_at bytes
+  s ← text_of w.0
+  Some (s, w.1)
+
+-- a text, quoted or not, before which no blank is left
+unfoldable pub text_here : Parse (List ℕ)
+text_here bytes = if begins 34 bytes then quoted_at (drop 1 bytes) else plain_text_at bytes
+
+-- the next text, quoted or not
+unfoldable pub wording_at : Parse (List ℕ)
+wording_at bytes = text_here (skip_blanks bytes)
+
+-- ---- values
+
+-- the rest of `()`, after its first byte
+abbrev pub unit_at : Parse Tree
+unit_at bytes = if comes 41 bytes then Some (plain unit, after_bracket bytes) else None
+
+-- a run as an integer
+abbrev pub int_at : Parse Tree
+int_at bytes = do
+  w ← run_at bytes
+  z ← int_of w.0
+  Some (plain (integer z), w.1)
+
+-- the rest of a quoted text as a value
+abbrev pub text_value_at : Parse Tree
+text_value_at bytes = do
+  s ← quoted_at bytes
+  Some (plain (text s.0), s.1)
+
+-- a value before which no blank is left
+unfoldable pub value_here : Parse Tree
+value_here bytes =
+    if begins 40 bytes then unit_at (drop 1 bytes)
+    else (if begins 34 bytes then text_value_at (drop 1 bytes)
+    else int_at bytes)
+
+-- the next value
 unfoldable pub value_at : Parse Tree
-value_at bytes = do
-  w ← word_at bytes
-  t ← value_of w.0
-  Some (t, w.1)
+value_at bytes = value_here (skip_blanks bytes)
 
 -- Elements until the bytes stop them. The number bounds the turns: the count of the bytes is always enough.
 unfoldable pub many : {A : Type 0} → (List ℕ → Bool) → Parse A → List A → ℕ → Parse (List A)
@@ -56,6 +137,23 @@ many stop one found (suc most) bytes = if stop bytes then Some (found, bytes) el
   x ← one bytes
   many stop one (found ++ x.0 ∷ []) most x.1)
 
--- values up to the end of the line
-unfoldable pub values_at : Parse (List Tree)
-values_at bytes = many is_end value_at [] (length bytes) bytes
+-- ---- arguments
+
+-- the word of a given value
+unfoldable pub given_at : Parse Argument
+given_at bytes = do
+  w ← word_at bytes
+  g ← given_of w.0
+  Some (argument.Given g, w.1)
+
+-- the next argument, which may be a given value where those are allowed
+unfoldable pub argument_at : Bool → Parse Argument
+argument_at given bytes = if given && comes 36 bytes then given_at bytes else (do
+  t ← value_at bytes
+  Some (argument.Value t.0, t.1))
+
+-- arguments up to the end of the line
+unfoldable pub arguments_at : Bool → Parse Arguments
+arguments_at given bytes = do
+  x ← many is_end (argument_at given) [] (length bytes) bytes
+  Some (together x.0, x.1)

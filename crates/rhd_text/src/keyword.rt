@@ -1,23 +1,66 @@
 //! Keywords.
 
 ghost use Rattle.std.specs.Prelude.{◌≡◌};
-ghost use Rattle.rhd_text.specs.Rows.{keyword};
-ghost use Rattle.rhd_text.specs.ReadRows.{keyword_in, keyword_of};
+ghost use Rattle.rhd_text.specs.Rows.{call_word, native_only, keyword};
+ghost use Rattle.rhd_text.specs.ReadRows.{keyword_in, keyword_of, step_at, keyword_at};
+ghost use Rattle.rhd_text.specs.Answers.{Gives};
 
-/// The first word of a command's line.
+use crate::fault::Stop;
+use crate::words::word_at;
+
+/// The word of a line that makes a call.
+#[derive(Clone, Copy, Debug, PartialEq, Eq)]
+pub enum CallWord {
+    Call,
+    CallNative,
+}
+
+impl CallWord {
+    fn spelling(self) -> &'static [u8]
+        ensures { result.now ≡ call_word self }
+    {
+        match self {
+            CallWord::Call => b"call",
+            CallWord::CallNative => b"call-native",
+        }
+    }
+
+    /// Whether only natives may answer.
+    pub fn native_only(self) -> bool
+        ensures { result ≡ native_only self }
+    {
+        match self {
+            CallWord::Call => false,
+            CallWord::CallNative => true,
+        }
+    }
+}
+
+/// What a line begins with: one word, or `do` and the word of a call.
 #[derive(Clone, Copy, Debug, PartialEq, Eq)]
 pub enum Keyword {
+    Limits,
+    Body,
+    Do(CallWord),
+    Ret,
+    Fail,
     Register,
-    Call,
+    Call(CallWord),
 }
 
 impl Keyword {
+    /// The first word.
     fn spelling(self) -> &'static [u8]
         ensures { result.now ≡ keyword self }
     {
         match self {
+            Keyword::Limits => b"limits",
+            Keyword::Body => b"body",
+            Keyword::Do(_) => b"do",
+            Keyword::Ret => b"ret",
+            Keyword::Fail => b"fail",
             Keyword::Register => b"register",
-            Keyword::Call => b"call",
+            Keyword::Call(call) => call.spelling(),
         }
     }
 }
@@ -34,9 +77,47 @@ fn keyword_in(keywords: &[Keyword], word: &[u8]) -> Option<Keyword>
     None
 }
 
-/// The keyword that is spelled so.
-pub fn keyword_of(word: &[u8]) -> Option<Keyword>
+/// The keyword of one word that is spelled so.
+fn keyword_of(word: &[u8]) -> Option<Keyword>
     ensures { result ≡ keyword_of word.now }
 {
-    keyword_in(&[Keyword::Register, Keyword::Call], word)
+    keyword_in(
+        &[
+            Keyword::Limits,
+            Keyword::Body,
+            Keyword::Ret,
+            Keyword::Fail,
+            Keyword::Register,
+            Keyword::Call(CallWord::Call),
+            Keyword::Call(CallWord::CallNative),
+        ],
+        word,
+    )
+}
+
+/// The word of a call after `do`, and the bytes after it.
+#[tactic(auto, unfolding(crate::specs::ReadRows::step_at))]
+fn step_at(bytes: &[u8]) -> Result<(Keyword, &[u8]), Stop>
+    ensures { Gives (λ x. (x.0, x.1.now)) result (step_at bytes.now) }
+{
+    let (word, rest) = word_at(bytes)?;
+    match keyword_of(word) {
+        Some(Keyword::Call(call)) => Ok((Keyword::Do(call), rest)),
+        _ => Err(Stop::Bad),
+    }
+}
+
+/// What the line begins with, and the bytes after it.
+#[tactic(auto, unfolding(crate::specs::ReadRows::keyword_at))]
+pub fn keyword_at(bytes: &[u8]) -> Result<(Keyword, &[u8]), Stop>
+    ensures { Gives (λ x. (x.0, x.1.now)) result (keyword_at bytes.now) }
+{
+    let (word, rest) = word_at(bytes)?;
+    if word == b"do".as_slice() {
+        return step_at(rest);
+    }
+    let Some(keyword) = keyword_of(word) else {
+        return Err(Stop::Bad);
+    };
+    Ok((keyword, rest))
 }

@@ -1,6 +1,8 @@
 //! Session texts: reading them, and printing the replies.
 #![tactic(auto)]
 
+mod arguments;
+mod body;
 mod fault;
 mod forms;
 mod keyword;
@@ -9,12 +11,16 @@ mod line;
 mod lines;
 mod numbers;
 mod operands;
+mod part;
 mod place;
 mod printing;
+mod quoted;
 mod reading;
 mod session;
+mod values;
 mod words;
 
+pub use body::{BodyEnd, BodyPlan, BodyPlans, CallPlan, CallPlans, Given, GivenAt, Places};
 pub use fault::TextFault;
 pub use laws::{lines_are_read_as_they_are_written, texts_say_one_thing};
 pub use printing::{print_replies, print_reply, print_value};

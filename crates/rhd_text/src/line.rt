@@ -7,17 +7,17 @@ ghost use Rattle.rhd_text.specs.Answers.{Gives};
 
 use crate::fault::Stop;
 use crate::forms::row_at;
-use crate::keyword::keyword_of;
+use crate::keyword::keyword_at;
+use crate::part::Part;
 use crate::place::Place;
-use crate::words::{skip_blanks, word_at};
-use rhd_session::Command;
+use crate::words::skip_blanks;
 use std::alloc::Global;
 
 /// What one line is, where it is a line.
 #[derive(Drop)]
 pub enum Line {
     Skipped,
-    Says(Command),
+    Says(Part),
 }
 
 fn is_skipped(line: &[u8]) -> bool
@@ -47,10 +47,7 @@ pub fn line_at(alloc: Global, line: &[u8], place: Place) -> Result<Line, Stop>
     if is_skipped(line) {
         return Ok(Line::Skipped);
     }
-    let (word, rest) = word_at(line)?;
-    let Some(keyword) = keyword_of(word) else {
-        return Err(Stop::Bad);
-    };
-    let command = row_at(alloc, keyword, rest, place)?;
-    Ok(Line::Says(command))
+    let (keyword, rest) = keyword_at(line)?;
+    let part = row_at(alloc, keyword, rest, place)?;
+    Ok(Line::Says(part))
 }

@@ -1,6 +1,6 @@
 //! Numbers.
 
-ghost use Rattle.std.specs.Prelude.{◌≡◌, ◌^◌, nat_lt, if◌then◌else◌, true};
+ghost use Rattle.std.specs.Prelude.{◌≡◌, ◌^◌, ◌&&◌, nat_le, nat_lt, length, if◌then◌else◌, true};
 ghost use Rattle.std.specs.Str.Parse.{digits_value};
 ghost use Rattle.rhd_text.specs.Bytes.{is_digits, is_signed_digits, fitting_int, num_of, int_of};
 ghost use Rattle.rhd_text.specs.Reading.{num_at};
@@ -25,26 +25,65 @@ fn parse_u32(word: &[u8]) -> Option<u32>
     }
 }
 
-#[tactic(auto, unfolding(crate::specs::Bytes::num_of))]
-fn num_of(word: &[u8]) -> Option<u32>
-    ensures { result ≡ num_of word.now }
+fn parse_u64(word: &[u8]) -> Option<u64>
+    requires { is_digits word.now ≡ true }
+    ensures { result ≡ (if nat_lt (digits_value 10 word.now) (2 ^ 64) then Some (digits_value 10 word.now) else None) }
 {
-    if !is_digits(word) {
-        return None;
+    match str::from_utf8(word) {
+        Ok(text) => text.parse::<u64>().ok(),
+        Err(_) => None,
     }
-    if word.len() > 20 {
-        return None;
-    }
-    parse_u32(word)
 }
 
-/// A number, and the bytes after it.
+/// Whether a word is of 1 to 20 digits.
+fn may_be_number(word: &[u8]) -> bool
+    ensures { result ≡ (is_digits word.now && nat_le (length word.now) 20) }
+{
+    is_digits(word) && word.len() <= 20
+}
+
+/// The number of 32 bits that a word says.
+#[tactic(auto, unfolding(crate::specs::Bytes::num_of))]
+pub fn num_of(word: &[u8]) -> Option<u32>
+    ensures { result ≡ num_of 32 word.now }
+{
+    if may_be_number(word) {
+        parse_u32(word)
+    } else {
+        None
+    }
+}
+
+#[tactic(auto, unfolding(crate::specs::Bytes::num_of))]
+fn long_of(word: &[u8]) -> Option<u64>
+    ensures { result ≡ num_of 64 word.now }
+{
+    if may_be_number(word) {
+        parse_u64(word)
+    } else {
+        None
+    }
+}
+
+/// A number of 32 bits, and the bytes after it.
 #[tactic(auto, unfolding(crate::specs::Reading::num_at))]
 pub fn num_at(bytes: &[u8]) -> Result<(u32, &[u8]), Stop>
-    ensures { Gives (λ x. (x.0, x.1.now)) result (num_at bytes.now) }
+    ensures { Gives (λ x. (x.0, x.1.now)) result (num_at 32 bytes.now) }
 {
     let (word, rest) = word_at(bytes)?;
     let Some(number) = num_of(word) else {
+        return Err(Stop::Bad);
+    };
+    Ok((number, rest))
+}
+
+/// A number of 64 bits, and the bytes after it.
+#[tactic(auto, unfolding(crate::specs::Reading::num_at))]
+pub fn long_at(bytes: &[u8]) -> Result<(u64, &[u8]), Stop>
+    ensures { Gives (λ x. (x.0, x.1.now)) result (num_at 64 bytes.now) }
+{
+    let (word, rest) = word_at(bytes)?;
+    let Some(number) = long_of(word) else {
         return Err(Stop::Bad);
     };
     Ok((number, rest))

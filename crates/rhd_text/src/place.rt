@@ -1,10 +1,28 @@
 //! Where a line stands.
 
+ghost use Rattle.std.specs.Prelude.{◌≡◌};
+ghost use Rattle.rhd_text.specs.Rows.{position};
+
+use rhd_value::Position;
+
 /// What a line's meaning depends on beside its bytes.
 #[derive(Clone, Copy)]
 pub struct Place {
-    /// How many natives are held.
+    /// How many natives are held. Lines that name a native in a header are tested by it; a
+    /// `register` line is not.
     pub held: usize,
     /// The number of the line, counted from 1.
     pub line: u32,
+}
+
+impl Place {
+    /// The beginning of the line.
+    pub fn position(self) -> Position
+        ensures { result ≡ position self }
+    {
+        Position {
+            line: self.line,
+            column: 1,
+        }
+    }
 }

@@ -21,7 +21,7 @@ fn read_line(alloc: Global, said: &mut SessionText, line: &[u8], place: Place) -
     ensures { StepGives result said.new (after_line place.held place.line said.old line.now) }
 {
     let line = line_at(alloc, line, place)?;
-    said.add_line(line)
+    said.add_line(alloc, line)
 }
 
 fn read_lines(alloc: Global, bytes: &[u8], held: usize) -> Result<SessionText, TextFault>

@@ -1,17 +1,24 @@
 //! What a text says.
 
 ghost use Rattle.std.specs.Prelude.{◌≡◌};
-ghost use Rattle.rhd_text.specs.Session.{empty_text, with_line};
+ghost use Rattle.rhd_text.specs.Session.{empty_text, takes_headers, with_limits, with_body, with_call, with_end, with_part, with_line};
 ghost use Rattle.rhd_text.specs.Answers.{StepGives};
 
+use crate::body::{BodyEnd, BodyPlans, CallPlan};
 use crate::fault::Stop;
 use crate::line::Line;
-use rhd_session::Commands;
+use crate::part::Part;
+use rhd_session::{Commands, Limits};
 use std::alloc::Global;
 
 /// What a session text says.
 #[derive(Drop)]
 pub struct SessionText {
+    /// The limits of the session, where the text sets them.
+    pub limits: Option<Limits>,
+    /// The bodies, by their numbers.
+    pub bodies: BodyPlans,
+    /// What the session is told to do, in order.
     pub commands: Commands,
 }
 
@@ -21,17 +28,79 @@ impl SessionText {
         ensures { result ≡ empty_text }
     {
         SessionText {
+            limits: None,
+            bodies: BodyPlans::new(alloc),
             commands: Commands::new(alloc),
         }
     }
 
+    /// Whether headers may still stand: no command has come.
+    fn takes_headers(&self) -> bool
+        ensures { result ≡ takes_headers self.now }
+    {
+        self.commands.len() == 0
+    }
+
+    #[tactic(auto, unfolding(crate::specs::Session::with_limits))]
+    fn set_limits(&mut self, limits: Limits) -> Result<(), Stop>
+        ensures { StepGives result self.new (with_limits self.old limits) }
+    {
+        if !self.takes_headers() || self.limits.is_some() {
+            return Err(Stop::Bad);
+        }
+        self.limits = Some(limits);
+        Ok(())
+    }
+
+    #[tactic(auto, unfolding(crate::specs::Session::with_body))]
+    fn begin_body(&mut self, alloc: Global) -> Result<(), Stop>
+        ensures { StepGives result self.new (with_body self.old) }
+    {
+        if !self.takes_headers() {
+            return Err(Stop::Bad);
+        }
+        Ok(self.bodies.begin(alloc)?)
+    }
+
+    #[tactic(auto, unfolding(crate::specs::Session::with_call))]
+    fn add_call(&mut self, call: CallPlan) -> Result<(), Stop>
+        ensures { StepGives result self.new (with_call self.old call) }
+    {
+        if !self.takes_headers() {
+            return Err(Stop::Bad);
+        }
+        self.bodies.add_call(call)
+    }
+
+    #[tactic(auto, unfolding(crate::specs::Session::with_end))]
+    fn end_body(&mut self, end: BodyEnd) -> Result<(), Stop>
+        ensures { StepGives result self.new (with_end self.old end) }
+    {
+        if !self.takes_headers() {
+            return Err(Stop::Bad);
+        }
+        self.bodies.add_end(end)
+    }
+
+    fn add_part(&mut self, alloc: Global, part: Part) -> Result<(), Stop>
+        ensures { StepGives result self.new (with_part self.old part) }
+    {
+        match part {
+            Part::Limits(limits) => self.set_limits(limits),
+            Part::Body => self.begin_body(alloc),
+            Part::Do(call) => self.add_call(call),
+            Part::End(end) => self.end_body(end),
+            Part::Command(command) => Ok(self.commands.push(command)?),
+        }
+    }
+
     /// Adds what a line says, where it may stand there.
-    pub fn add_line(&mut self, line: Line) -> Result<(), Stop>
+    pub fn add_line(&mut self, alloc: Global, line: Line) -> Result<(), Stop>
         ensures { StepGives result self.new (with_line self.old line) }
     {
         match line {
             Line::Skipped => Ok(()),
-            Line::Says(command) => Ok(self.commands.push(command)?),
+            Line::Says(part) => self.add_part(alloc, part),
         }
     }
 }

@@ -55,7 +55,8 @@ pub fn is_end(bytes: &[u8]) -> bool
     skip_blanks(bytes).is_empty()
 }
 
-fn may_end(bytes: &[u8]) -> bool
+/// Whether a word may end before these bytes.
+pub fn may_end(bytes: &[u8]) -> bool
     ensures { result ≡ may_end bytes.now }
 {
     match bytes {
@@ -64,7 +65,8 @@ fn may_end(bytes: &[u8]) -> bool
     }
 }
 
-fn run_at(bytes: &[u8]) -> Result<(&[u8], &[u8]), Stop>
+/// The run of word bytes at the front, of one or more, and the bytes after it.
+pub fn run_at(bytes: &[u8]) -> Result<(&[u8], &[u8]), Stop>
     ensures { Gives (λ x. (x.0.now, x.1.now)) result (run_at bytes.now) }
 {
     let (word, rest) = bytes.split_at(run_len(bytes));

@@ -1,0 +1,141 @@
+//! Texts, quoted or not.
+
+ghost use Rattle.std.specs.Prelude.{◌≡◌, ◌<◌, false, length, drop, IsTrue};
+ghost use Rattle.rhd_text.specs.Bytes.{begins, unescaped};
+ghost use Rattle.rhd_text.specs.Reading.{comes, after_bracket, text_at, text_of, quoted_at, plain_text_at, text_here, wording_at};
+ghost use Rattle.rhd_text.specs.Answers.{Gives};
+
+use crate::fault::Stop;
+use crate::words::{may_end, run_at, skip_blanks};
+use rhd_value::Text;
+use std::alloc::Global;
+
+/// Whether the bytes begin with this one.
+pub fn begins(bytes: &[u8], b: u8) -> bool
+    requires { 0 < b }
+    ensures test { result ≡ begins b bytes.now }
+    ensures some { IsTrue result → 0 < length bytes.now }
+{
+    match bytes {
+        [] => false,
+        [first, ..] => *first == b,
+    }
+}
+
+/// The bytes after the first.
+pub fn after_first(bytes: &[u8]) -> &[u8]
+    requires { 0 < length bytes.now }
+    ensures { result.now ≡ drop 1 bytes.now }
+{
+    &bytes[1..]
+}
+
+/// Whether this byte comes next, after any blanks.
+pub fn comes(bytes: &[u8], b: u8) -> bool
+    requires { 0 < b }
+    ensures { result ≡ comes b bytes.now }
+{
+    begins(skip_blanks(bytes), b)
+}
+
+/// What stands after the next byte that is no blank.
+pub fn after_bracket(bytes: &[u8]) -> &[u8]
+    ensures { result.now ≡ after_bracket bytes.now }
+{
+    match skip_blanks(bytes) {
+        [] => &bytes[bytes.len()..],
+        [_, rest @ ..] => rest,
+    }
+}
+
+/// The text of these bytes, where they are UTF-8.
+pub fn text_of(alloc: Global, word: &[u8]) -> Result<Text, Stop>
+    ensures { Gives (λ x. x) result (text_of word.now) }
+{
+    match str::from_utf8(word) {
+        Ok(text) => Ok(Text::from_string(String::from_str(alloc, text)?)),
+        Err(_) => Err(Stop::Bad),
+    }
+}
+
+/// The byte that a backslash and this byte stand for.
+fn unescaped(b: u8) -> Option<u8>
+    ensures { result ≡ unescaped b }
+{
+    match b {
+        b'\\' => Some(b'\\'),
+        b'"' => Some(b'"'),
+        b'\'' => Some(b'\''),
+        b'n' => Some(b'\n'),
+        b't' => Some(b'\t'),
+        b'r' => Some(b'\r'),
+        _ => None,
+    }
+}
+
+/// The bytes of a text up to the quotation mark that ends it, and the bytes after that.
+fn text_at(alloc: Global, bytes: &[u8]) -> Result<(Vec<u8>, &[u8]), Stop>
+    ensures { Gives (λ x. (x.0.items, x.1.now)) result (text_at false bytes.now) }
+{
+    let mut out = Vec::new(alloc);
+    let mut escaped = false;
+    let mut rest = bytes;
+    while let [b, after @ ..] = rest {
+        if escaped {
+            let Some(c) = unescaped(*b) else {
+                return Err(Stop::Bad);
+            };
+            out.push(c)?;
+            escaped = false;
+        } else if *b == b'"' {
+            return Ok((out, after));
+        } else if *b == b'\\' {
+            escaped = true;
+        } else {
+            out.push(*b)?;
+        }
+        rest = after;
+    }
+    Err(Stop::Bad)
+}
+
+/// The rest of a quoted text, after the quotation mark that begins it, and the bytes after it.
+#[tactic(auto, unfolding(crate::specs::Reading::quoted_at))]
+pub fn quoted_at(alloc: Global, bytes: &[u8]) -> Result<(Text, &[u8]), Stop>
+    ensures { Gives (λ x. (x.0, x.1.now)) result (quoted_at bytes.now) }
+{
+    let (text, rest) = text_at(alloc, bytes)?;
+    if !may_end(rest) {
+        return Err(Stop::Bad);
+    }
+    let text = text_of(alloc, &text)?;
+    Ok((text, rest))
+}
+
+/// An unquoted text, and the bytes after it.
+fn plain_text_at(alloc: Global, bytes: &[u8]) -> Result<(Text, &[u8]), Stop>
+    ensures { Gives (λ x. (x.0, x.1.now)) result (plain_text_at bytes.now) }
+{
+    let (word, rest) = run_at(bytes)?;
+    let text = text_of(alloc, word)?;
+    Ok((text, rest))
+}
+
+/// A text, quoted or not, before which no blank is left, and the bytes after it.
+#[tactic(auto, unfolding(crate::specs::Reading::text_here))]
+fn text_here(alloc: Global, bytes: &[u8]) -> Result<(Text, &[u8]), Stop>
+    ensures { Gives (λ x. (x.0, x.1.now)) result (text_here bytes.now) }
+{
+    if begins(bytes, b'"') {
+        return quoted_at(alloc, after_first(bytes));
+    }
+    plain_text_at(alloc, bytes)
+}
+
+/// The next text, quoted or not, and the bytes after it.
+#[tactic(auto, unfolding(crate::specs::Reading::wording_at))]
+pub fn wording_at(alloc: Global, bytes: &[u8]) -> Result<(Text, &[u8]), Stop>
+    ensures { Gives (λ x. (x.0, x.1.now)) result (wording_at bytes.now) }
+{
+    text_here(alloc, skip_blanks(bytes))
+}
