@@ -15,6 +15,15 @@ use std::alloc::{AllocError, Global};
 use std::process::Abort;
 use std::test::Fail;
 
+/// So many of the words between commas.
+fn split_words(alloc: Global, count: usize, words: &str) -> Result<Vec<String>, AllocError> {
+    let mut owned = Vec::new(alloc);
+    for word in words.split(',').take(count) {
+        owned.push(String::from_str(alloc, word)?)?;
+    }
+    Ok(owned)
+}
+
 /// Runs the program on so many of the words between commas, with the kit's natives.
 fn run_words<S: Source, K: Sink>(
     alloc: Global,
@@ -23,12 +32,9 @@ fn run_words<S: Source, K: Sink>(
     source: &mut S,
     sink: &mut K,
 ) -> Result<ToolEnd, Fail> {
+    let owned = split_words(alloc, count, words)?;
     let mut natives = Natives::new(alloc);
     kit!(alloc, natives, return Err(AllocError.into()));
-    let mut owned = Vec::new(alloc);
-    for word in words.split(',').take(count) {
-        owned.push(String::from_str(alloc, word)?)?;
-    }
     Ok(run_tool(alloc, owned.as_slice(), source, sink, natives))
 }
 

@@ -208,21 +208,38 @@ fn by_value(number: u32) -> RhaiFunc {
     }
 }
 
-/// A call of `f` that led to two calls, of which the first led to one more.
+/// A call of `f` without arguments that fails: too deep, or because the budget is spent.
+fn failed(alloc: Global, level: u32, is_deep: bool) -> Result<CallNode, Fail> {
+    let call = CallRequest::Named {
+        name: text_of(alloc, "f")?,
+        native_only: false,
+        shape: CallShape::Plain(Values::new(alloc)),
+        pos: Position::NONE,
+    };
+    let fault = if is_deep {
+        EvalAltResult::ErrorStackOverflow(Position::NONE)
+    } else {
+        EvalAltResult::ErrorTooManyOperations(Position::NONE)
+    };
+    Ok(CallNode::failed(alloc, call, level, fault))
+}
+
+/// A call with one more child.
+fn with_child(mut node: CallNode, child: CallNode) -> Result<CallNode, Fail> {
+    node.children.push(child)?;
+    Ok(node)
+}
+
+/// A call of `f` that led to a call which led to one more.
+fn first_branch(alloc: Global) -> Result<CallNode, Fail> {
+    let inner = with_child(failed(alloc, 2, false)?, failed(alloc, 3, false)?)?;
+    with_child(failed(alloc, 1, true)?, inner)
+}
+
+/// The same, which led to another call after that.
 fn tree(alloc: Global) -> Result<CallNode, Fail> {
-    let spent = EvalAltResult::ErrorTooManyOperations(Position::NONE);
-    let deep = EvalAltResult::ErrorStackOverflow(Position::NONE);
-    let mut inner = node(alloc, None, Err(spent.dup(alloc)?), None)?;
-    inner.level = 3;
-    let mut first = node(alloc, None, Err(spent), None)?;
-    first.level = 2;
-    first.children.push(inner)?;
-    let mut second = node(alloc, None, Err(deep.dup(alloc)?), None)?;
-    second.level = 2;
-    let mut root = node(alloc, None, Err(deep), None)?;
-    root.children.push(first)?;
-    root.children.push(second)?;
-    Ok(root)
+    let root = first_branch(alloc)?;
+    with_child(root, failed(alloc, 2, true)?)
 }
 
 #[test]

@@ -171,6 +171,30 @@ fn check_replies(
     Ok(())
 }
 
+/// How the third native of a table is declared.
+fn check_third(rt: &impl Abort, alloc: Global, natives: &Natives) -> Result<(), Fail> {
+    let Some(native) = natives.get(FnId(2)) else {
+        panic!(rt; "a native");
+    };
+    check_declared(rt, alloc, native)
+}
+
+/// Runs the same commands twice in one session.
+fn check_session(rt: &impl Abort, alloc: Global, natives: Natives) -> Result<(), Fail> {
+    let mut session = Session::new(alloc, natives, Limits::DEFAULT)?;
+    let commands = commands(alloc)?;
+    let Ok(replies) = session.run(alloc, commands.as_slice()) else {
+        return Err(AllocError.into());
+    };
+    let want = "f - call ! 1 \"f (i64)\"\nrefused 4 99 20\nok\nf global0#1 called = 1\n";
+    check_replies(rt, alloc, replies.as_slice(), want)?;
+    let Ok(replies) = session.run(alloc, commands.as_slice()) else {
+        return Err(AllocError.into());
+    };
+    let want = "f global0#1 called = 1\nrefused 4 99 20\nok\nf global0#1 called = 1\n";
+    check_replies(rt, alloc, replies.as_slice(), want)
+}
+
 #[test]
 fn modules_and_sessions_answer(rt: HostRuntime) -> Result<(), Fail> {
     let alloc = rt.alloc();
@@ -179,20 +203,6 @@ fn modules_and_sessions_answer(rt: HostRuntime) -> Result<(), Fail> {
     check_module(&rt, alloc)?;
     let mut natives = Natives::new(alloc);
     kit!(alloc, natives, return Err(AllocError.into()));
-    let Some(native) = natives.get(FnId(2)) else {
-        return Err(AllocError.into());
-    };
-    check_declared(&rt, alloc, native)?;
-    let mut session = Session::new(alloc, natives, Limits::DEFAULT)?;
-    let commands = commands(alloc)?;
-    let Ok(replies) = session.run(alloc, commands.as_slice()) else {
-        return Err(AllocError.into());
-    };
-    let want = "f - call ! 1 \"f (i64)\"\nrefused 4 99 20\nok\nf global0#1 called = 1\n";
-    check_replies(&rt, alloc, replies.as_slice(), want)?;
-    let Ok(replies) = session.run(alloc, commands.as_slice()) else {
-        return Err(AllocError.into());
-    };
-    let want = "f global0#1 called = 1\nrefused 4 99 20\nok\nf global0#1 called = 1\n";
-    check_replies(&rt, alloc, replies.as_slice(), want)
+    check_third(&rt, alloc, &natives)?;
+    check_session(&rt, alloc, natives)
 }

@@ -276,12 +276,36 @@ fn check_places(rt: &impl Abort, alloc: Global) -> Result<(), Fail> {
     Ok(())
 }
 
+/// Calls natives of a table by their numbers.
+fn check_table(rt: &impl Abort, alloc: Global, natives: &Natives) -> Result<(), Fail> {
+    holds(rt, natives.get(FnId(21)).is_some(), "a native");
+    holds(rt, natives.get(FnId(22)).is_none(), "no native");
+    if natives.len() != 22 {
+        panic!(rt; "twenty-two natives");
+    }
+    let args = listed(alloc, &[Item::Int(8)])?;
+    let step = natives.start(alloc, FnId(0), None, None, args)?;
+    check_step(rt, alloc, step, Wanted::Answer("2"), "")?;
+    let first = Some(made(alloc, Item::Int(5))?);
+    let step = natives.start(alloc, FnId(21), None, first, Values::new(alloc))?;
+    check_step(rt, alloc, step, Wanted::Answer("1"), "!5")?;
+    let carry = carry(alloc, None, None)?;
+    let done = done(alloc, Some(Item::Int(4)))?;
+    let step = natives.resume(alloc, FnId(13), None, carry, done)?;
+    check_step(rt, alloc, step, Wanted::Answer("!4"), "")
+}
+
 #[test]
-fn natives_are_held_and_called(rt: HostRuntime) -> Result<(), Fail> {
+fn natives_step_as_their_table_says(rt: HostRuntime) -> Result<(), Fail> {
     let alloc = rt.alloc();
     check_first_steps(&rt, alloc)?;
     check_next_steps(&rt, alloc)?;
-    check_places(&rt, alloc)?;
+    check_places(&rt, alloc)
+}
+
+#[test]
+fn natives_are_held_and_called(rt: HostRuntime) -> Result<(), Fail> {
+    let alloc = rt.alloc();
     let mut natives = Natives::new(alloc);
     let native: Box<dyn PluginFunc> = Box::new(alloc, KitFn::new(2))?;
     let Ok(first) = natives.push(alloc, native) else {
@@ -294,16 +318,5 @@ fn natives_are_held_and_called(rt: HostRuntime) -> Result<(), Fail> {
         return Err(AllocError.into());
     };
     holds(&rt, last == FnId(21), "the last number");
-    holds(&rt, natives.len() == 22, "twenty-two natives");
-    holds(&rt, natives.get(FnId(21)).is_some(), "a native");
-    holds(&rt, natives.get(FnId(22)).is_none(), "no native");
-    let step = natives.start(alloc, FnId(0), None, None, listed(alloc, &[Item::Int(8)])?)?;
-    check_step(&rt, alloc, step, Wanted::Answer("2"), "")?;
-    let first = Some(made(alloc, Item::Int(5))?);
-    let step = natives.start(alloc, FnId(21), None, first, Values::new(alloc))?;
-    check_step(&rt, alloc, step, Wanted::Answer("1"), "!5")?;
-    let carry = carry(alloc, None, None)?;
-    let done = done(alloc, Some(Item::Int(4)))?;
-    let step = natives.resume(alloc, FnId(13), None, carry, done)?;
-    check_step(&rt, alloc, step, Wanted::Answer("!4"), "")
+    check_table(&rt, alloc, &natives)
 }
