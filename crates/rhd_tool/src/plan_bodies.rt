@@ -1,10 +1,8 @@
 //! The bodies of a session text, which run its scripts.
 
-ghost use Rattle.std.specs.Prelude.{◌≡◌, ◌∷◌, ◌<◌, ◌-◌, ◌^◌, IfOk, OnOk, drop, length, unwrap_or, slice_get};
+ghost use Rattle.std.specs.Prelude.{◌≡◌, ◌<◌, IfOk, OnOk, drop, length, slice_get};
 ghost use Rattle.std.specs.Option.{option_copied};
-ghost use Rattle.rhd_value.specs.Tree.{unit};
-ghost use Rattle.rhd_value.specs.Kinds.{plain};
-ghost use Rattle.rhd_tool.specs.PlanBodies.{given_in, value_given, with_given, call_with, ends, step_after, count_in};
+ghost use Rattle.rhd_tool.specs.PlanBodies.{value_given, with_given, call_with, ends, step_after, count_in};
 
 use crate::values::{answer_unit, failed, own_fault, values_in};
 use rhd_func::{
