@@ -120,6 +120,12 @@ impl CallPlans {
         self.items.len()
     }
 
+    pub fn as_slice(&self) -> &[CallPlan]
+        ensures { result.now ≡ self.now }
+    {
+        self.items.as_slice()
+    }
+
     /// The call at a place, counted from 0; none where there is nothing.
     pub fn get(&self, at: usize) -> Option<&CallPlan>
         ensures { option_copied result ≡ slice_get self.now at }

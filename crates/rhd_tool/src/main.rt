@@ -2,6 +2,7 @@
 #![tactic(auto)]
 
 mod kit;
+mod plan_bodies;
 mod reading;
 mod sink;
 mod source;

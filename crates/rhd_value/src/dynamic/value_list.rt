@@ -1,6 +1,6 @@
 //! Lists of values.
 
-ghost use Rattle.std.specs.Prelude.{◌≡◌, ◌++◌, ◌∷◌, [], length, if◌then◌else◌, is_ok, slice_get};
+ghost use Rattle.std.specs.Prelude.{◌≡◌, ◌++◌, ◌∷◌, [], length, if◌then◌else◌, is_ok, slice_get, slice_set};
 ghost use Rattle.std.specs.Option.{option_copied};
 ghost use Rattle.rhd_value.specs.Firsts.{first_and_rest};
 
@@ -23,6 +23,23 @@ impl Values {
     {
         self.items.push(value)?;
         Ok(())
+    }
+
+    /// Puts a value first.
+    pub fn push_first(&mut self, value: Dynamic) -> Result<(), OutOfMemory>
+        ensures { self.new ≡ (if is_ok result then value ∷ self.old else self.old) }
+    {
+        self.items.insert(0, value)?;
+        Ok(())
+    }
+
+    /// Puts a value in the place of another, counted from 0; where there is none, the list stays.
+    pub fn set(&mut self, at: usize, value: Dynamic)
+        ensures { self.new ≡ slice_set self.old at value }
+    {
+        if at < self.items.len() {
+            self.items[at] = value;
+        }
     }
 
     pub fn len(&self) -> usize

@@ -1,27 +1,14 @@
 //! Natives and their table.
 
 use crate::kit::{KitFn, kit};
-use crate::tests::printing::{check_value, marked};
-use crate::tests::{holds, pointer, text_of};
-use rhd_func::{
-    CallDone, CallRequest, CallShape, Carry, NativeCallContext, NativeStep, Natives, PluginFunc,
-};
-use rhd_value::{Dynamic, EvalAltResult, FnId, FnPtrType, Position, Value, Values};
+use crate::tests::calls::items::{Item, NONE, carry, done, given, listed, made};
+use crate::tests::printing::check_value;
+use crate::tests::{holds, text_of};
+use rhd_func::{CallRequest, CallShape, NativeCallContext, NativeStep, Natives, PluginFunc};
+use rhd_value::{Dynamic, EvalAltResult, FnId, Position, Value, Values};
 use std::alloc::{AllocError, Global};
 use std::process::Abort;
 use std::test::Fail;
-
-/// A value of a case, which is to be read-only.
-#[derive(Clone, Copy)]
-enum Item {
-    Unit,
-    Int(i64),
-    Char(char),
-    Text(&'static str),
-    Array,
-    Pointer(&'static str),
-    Custom(u32, i64),
-}
 
 /// What a step is to be: an answer, the text of a fault, or the name that is asked and what is kept.
 #[derive(Clone, Copy)]
@@ -30,9 +17,6 @@ enum Wanted {
     Fault(&'static str),
     Asks(&'static str, &'static str),
 }
-
-/// No values.
-const NONE: &[Item] = &[];
 
 /// Sixteen integers and one more value.
 const MANY: &[Item] = &[
@@ -60,41 +44,6 @@ const COUNT: Wanted = Wanted::Fault("wrong number of arguments");
 const UNBUILT: Wanted = Wanted::Fault("not built");
 
 const BAD: Wanted = Wanted::Fault("bad carry");
-
-/// The value of a case.
-fn made(alloc: Global, item: Item) -> Result<Dynamic, Fail> {
-    let value = match item {
-        Item::Unit => Value::Unit,
-        Item::Int(number) => Value::Int(number),
-        Item::Char(letter) => Value::Char(letter),
-        Item::Text(text) => Value::Text(text_of(alloc, text)?),
-        Item::Array => Value::Array(Values::new(alloc)),
-        Item::Pointer(name) => Value::FnPtr(pointer(
-            text_of(alloc, name)?,
-            Values::new(alloc),
-            FnPtrType::Normal,
-        )),
-        Item::Custom(number, payload) => Value::Custom(number, payload),
-    };
-    Ok(marked(value, true, false, false))
-}
-
-/// The value of a case, where there is one.
-fn given(alloc: Global, first: Option<Item>) -> Result<Option<Dynamic>, Fail> {
-    match first {
-        Some(first) => Ok(Some(made(alloc, first)?)),
-        None => Ok(None),
-    }
-}
-
-/// The values of a case.
-fn listed(alloc: Global, items: &[Item]) -> Result<Values, Fail> {
-    let mut values = Values::new(alloc);
-    for one in items {
-        values.push(made(alloc, *one)?)?;
-    }
-    Ok(values)
-}
 
 /// Compares a request for a call.
 fn check_request(rt: &impl Abort, request: CallRequest, wanted: &str, pos: Position) {
@@ -230,30 +179,6 @@ fn check_first_steps(rt: &impl Abort, alloc: Global) -> Result<(), Fail> {
         check_step(rt, alloc, step, wanted, shown)?;
     }
     Ok(())
-}
-
-/// A carry that keeps an array of these values; where there are none, unit.
-fn carry(alloc: Global, first: Option<Item>, kept: Option<&[Item]>) -> Result<Carry, Fail> {
-    let kept = match kept {
-        Some(kept) => Value::Array(listed(alloc, kept)?),
-        None => Value::Unit,
-    };
-    Ok(Carry {
-        first: given(alloc, first)?,
-        kept: marked(kept, false, true, false),
-    })
-}
-
-/// What came of a call: this value, or else a fault.
-fn done(alloc: Global, answer: Option<Item>) -> Result<CallDone, Fail> {
-    let answer = match answer {
-        Some(answer) => Ok(made(alloc, answer)?),
-        None => Err(EvalAltResult::ErrorRuntime(text_of(alloc, "low")?, Position::NONE)),
-    };
-    Ok(CallDone {
-        answer,
-        first: None,
-    })
 }
 
 /// A next step: the native, its first argument and what it kept, what came of the call, the step that
