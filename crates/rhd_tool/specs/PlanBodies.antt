@@ -1,10 +1,12 @@
 -- What the bodies of a session text do.
-use Rattle.std.specs.Prelude.{ℕ, ◌+◌, ◌&&◌, nat_le, ℤ, pos, List, [], ◌∷◌, length, drop, slice_get, slice_set, Option, None, Some, unwrap_or, Result, Ok, Err, if◌then◌else◌}
+use Rattle.std.specs.Prelude.{◌≡◌, ℕ, ◌+◌, ◌&&◌, nat_le, ℤ, pos, List, [], ◌∷◌, length, drop, slice_get, slice_set, Option, None, Some, unwrap_or, Result, Ok, Err, if◌then◌else◌}
 use Rattle.rhd_value.specs.Tree.{Tree, unit, integer, array, items_of}
 use Rattle.rhd_value.specs.Kinds.{plain, int_in}
 use Rattle.rhd_value.specs.declared.fault.EvalAltResult.{EvalAltResult}
 use Rattle.rhd_func.specs.declared.func.ScriptFuncDef.{ScriptFuncDef}
 use Rattle.rhd_func.specs.declared.request.Carry.{Carry}
+use Rattle.rhd_func.specs.declared.request.CallDone.{CallDone}
+use Rattle.rhd_func.specs.declared.request.NativeCallContext.{NativeCallContext}
 use Rattle.rhd_func.specs.declared.request.CallRequest.{CallRequest}
 use Rattle.rhd_func.specs.declared.request.CallRequest.TheVariants.{Named}
 use Rattle.rhd_func.specs.declared.request.CallShape.TheVariants.{Plain}
@@ -102,3 +104,11 @@ abbrev pub body_next : List BodyPlan → ScriptFuncDef → Carry → Result Tree
 body_next plans def carry answer =
     let kept = values_in carry.kept.kind in
     next_after (plan_of plans def) (count_in (length (plan_of plans def).calls) kept) carry.first (drop 1 kept) answer
+
+-- The relations of bodies: each allows one step, and the bodies stay as they were.
+
+abbrev pub plan_starts : List BodyPlan → ScriptFuncDef → NativeCallContext → Option Tree → List Tree → NativeStep → List BodyPlan → Type 0
+plan_starts plans def ctx object args step after = (step ≡ body_step plans def object args) × (after ≡ plans)
+
+abbrev pub plan_resumes : List BodyPlan → ScriptFuncDef → NativeCallContext → Carry → CallDone → NativeStep → List BodyPlan → Type 0
+plan_resumes plans def ctx carry done step after = (step ≡ body_next plans def carry done.answer) × (after ≡ plans)

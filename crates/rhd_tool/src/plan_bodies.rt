@@ -11,11 +11,25 @@ use rhd_func::{
 use rhd_text::{BodyEnd, BodyPlan, BodyPlans, CallPlan, Given, GivenAt};
 use rhd_value::{Dynamic, OutOfMemory, Value, Values};
 use std::alloc::Global;
+use std::marker::Model;
 
-/// The bodies of a session text, by their numbers.
+/// The bodies of a session text, by their numbers. Contracts see the list of them.
 #[derive(Drop)]
 pub struct PlanBodies {
     plans: BodyPlans,
+}
+
+impl Model for PlanBodies {
+    ghost use Rattle.std.specs.Prelude.{List};
+    ghost use Rattle.std.specs.Coded.{coded_list};
+    ghost use Rattle.rhd_text.specs.declared.body.BodyPlan.{BodyPlan};
+    ghost use Rattle.rhd_text.specs.contracts.body.BodyPlan as body;
+
+    ghost Value = { List BodyPlan };
+
+    ghost coded = { coded_list body.the_row.coded };
+
+    ghost view = { λ a. a.plans };
 }
 
 /// The value that a body is given; unit where there is none.
@@ -160,26 +174,25 @@ fn count_in(calls: usize, kept: &[Dynamic]) -> Option<usize>
 
 impl PlanBodies {
     pub fn new(plans: BodyPlans) -> PlanBodies
-        ensures { result.plans ≡ plans }
+        ensures { result ≡ plans }
     {
         PlanBodies { plans }
     }
 
     /// The body of a definition; none where the text has none of its number.
     fn plan(&self, def: &ScriptFuncDef) -> Option<&BodyPlan>
-        ensures { option_copied result ≡ slice_get self.now.plans def.now.body.0 }
+        ensures { option_copied result ≡ slice_get self.now def.now.body.0 }
     {
         self.plans.get(def.body.0 as usize)
     }
 }
 
 impl Bodies for PlanBodies {
-    ghost use Rattle.std.specs.Prelude.{◌≡◌};
-    ghost use Rattle.rhd_tool.specs.PlanBodies.{body_step, body_next};
+    ghost use Rattle.rhd_tool.specs.PlanBodies.{plan_starts, plan_resumes};
 
-    ghost allows_start = { λ it def ctx object args step after. (step ≡ body_step it.plans def object args) × (after ≡ it) };
+    ghost allows_start = { plan_starts };
 
-    ghost allows_next = { λ it def ctx carry done step after. (step ≡ body_next it.plans def carry done.answer) × (after ≡ it) };
+    ghost allows_next = { plan_resumes };
 
     fn start(
         &mut self,
