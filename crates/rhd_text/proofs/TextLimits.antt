@@ -1,6 +1,6 @@
 -- The limits of a text allow no level above 1,000, and a line adds one command at most.
 use Rattle.std.proofs.Common.{◌≡◌, ℕ, ◌+◌, ◌≤◌, Bool, true, false, cond, List, [], ◌∷◌, ◌++◌, length, Option, Some, None, refl, sym, ap, subst, ◌∙◌, arith}
-use Rattle.std.specs.Prelude.{IfOk, IfSome, nat_le, ◌&&◌, Result, Ok, Err}
+use Rattle.std.specs.Prelude.{IfOk, OnOk, IfSome, nat_le, ◌&&◌, Result, Ok, Err}
 use Rattle.std.specs.Option.{is_none}
 use Rattle.std.proofs.lemmas.Bool.{leb-true}
 use Rattle.std.proofs.lemmas.List.{length_push}
@@ -109,6 +109,6 @@ pub limits_read : (held : ℕ) (ls : List (List ℕ)) (r : Result SessionText Te
 limits_read held ls (Ok t) w = (session_fits held ls t w).0
 limits_read held ls (Err e) w = tt
 
-pub count_read : (held : ℕ) (ls : List (List ℕ)) (r : Result SessionText TextFault) → ReadsText held ls r → IfOk r (λ t. length t.commands ≤ length ls)
-count_read held ls (Ok t) w = (session_fits held ls t w).1
-count_read held ls (Err e) w = tt
+pub count_read : (held : ℕ) (ls : List (List ℕ)) (most : ℕ) (r : Result SessionText TextFault) → ReadsText held ls r → OnOk r (length ls ≤ most) → IfOk r (λ t. length t.commands ≤ most)
+count_read held ls most (Ok t) w few = omega (arith, (session_fits held ls t w).1, few)
+count_read held ls most (Err e) w few = tt

@@ -1,6 +1,6 @@
 //! Reading a text.
 
-ghost use Rattle.std.specs.Prelude.{ℕ, ◌<◌, ◌≤◌, ◌^◌, length, IfOk, IfSome};
+ghost use Rattle.std.specs.Prelude.{ℕ, ◌<◌, ◌≤◌, ◌^◌, length, IfOk, IfSome, OnOk};
 ghost use Rattle.std.specs.Str.Lines.{lines};
 ghost use Rattle.rhd_text.specs.declared.session.SessionText.{SessionText};
 ghost use Rattle.rhd_text.specs.Session.{IsSession, IsFirstBad, ReadsText, ReadsNoOther, NamesNoOther};
@@ -26,7 +26,8 @@ fn read_line(alloc: Global, said: &mut SessionText, line: &[u8], place: Place) -
 
 fn read_lines(alloc: Global, bytes: &[u8], held: usize) -> Result<SessionText, TextFault>
     requires { length bytes.now < 2 ^ 32 }
-    ensures { Reads result (session_of held (lines bytes.now)) }
+    ensures reads { Reads result (session_of held (lines bytes.now)) }
+    ensures few { OnOk result (length (lines bytes.now) ≤ length bytes.now) }
 {
     let mut said = SessionText::new(alloc);
     let mut rest = bytes;
@@ -55,8 +56,8 @@ pub fn read_text(alloc: Global, bytes: &[u8], natives: &Natives) -> Result<Sessi
     ensures bad { (number : ℕ) → IsFirstBad (length natives.now.items.items) number (lines bytes.now) → NamesNoOther result number }
     // The limits that it sets are allowed.
     ensures limits { IfOk result (λ t. IfSome t.limits (λ l. l.level ≤ 1000)) }
-    // A command takes a line.
-    ensures count { IfOk result (λ t. length t.commands ≤ length (lines bytes.now)) }
+    // A command takes a line, and a line takes a byte.
+    ensures count { IfOk result (λ t. length t.commands ≤ length bytes.now) }
 {
     read_lines(alloc, bytes, natives.len())
 }

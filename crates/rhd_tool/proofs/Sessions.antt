@@ -1,7 +1,7 @@
 -- The replies of a new session.
-use Rattle.std.proofs.Common.{◌≡◌, ◌≤◌, ℕ, List, [], IfOk, length, take, refl, sym, ap, subst, ◌∙◌}
+use Rattle.std.proofs.Common.{◌≡◌, ◌≤◌, ℕ, List, [], IfOk, length, take, refl, sym, ap, subst, ◌∙◌, arith}
 use Rattle.std.proofs.Math.Seq.{take-length}
-use Rattle.std.specs.Prelude.{Result, Ok, Err, IfErr}
+use Rattle.std.specs.Prelude.{Option, None, Some, IfSome, unwrap_or, Result, Ok, Err, IfErr}
 use Rattle.std.proofs.lemmas.Result.{IfOk-weaker}
 use Rattle.rhd_func.specs.Natives.{NativeInfo}
 use Rattle.rhd_session.specs.declared.command.Command.{Command}
@@ -12,7 +12,7 @@ use Rattle.rhd_session.specs.World.{World, Objects, Moment}
 use Rattle.rhd_session.specs.Start.{start_world, start_frame, start_moment}
 use Rattle.rhd_session.specs.Answered.{Answered}
 use Rattle.rhd_session.specs.declared.limits.Limits.{Limits}
-use Rattle.rhd_tool.specs.Ends.{Bodies, IsAnswered}
+use Rattle.rhd_tool.specs.Ends.{Bodies, default_limits, IsAnswered}
 
 -- no command is answered by no reply
 pub none_answered : (o : Objects Bodies) (natives : List NativeInfo) (limits : Limits) (bodies : Bodies) (commands : List Command) (replies : List Reply) → replies ≡ [] → IsAnswered o natives limits bodies (take (length replies) commands) replies
@@ -34,3 +34,8 @@ pub front_answered : (o : Objects Bodies) (natives : List NativeInfo) (limits : 
 front_answered o natives limits bodies commands replies now e count a =
     let all : take (length now) commands ≡ commands = ap (λ (n : ℕ). take n commands) (ap length e ∙ count) ∙ take-length commands in
     rw all (subst (IsAnswered o natives limits bodies commands) (sym e) a)
+
+-- the limits of a text that was read
+pub limits_allowed : (o : Option Limits) → IfSome o (λ l. l.level ≤ 1000) → (unwrap_or o default_limits).level ≤ 1000
+limits_allowed None fits = omega arith
+limits_allowed (Some l) fits = fits

@@ -7,20 +7,21 @@ use Rattle.rhd_text.proofs.TextLimits.{limits_read, count_read}
 use Rattle.rhd_text.proofs.reading.read_text.Goals as goal
 
 pub returns-clause-reads : goal.returns-clause-reads
-returns-clause-reads g c = reads (length c.args.natives.now.items.items) (lines c.args.bytes.now) c.read_lines.result (subst (λ (h : ℕ). Reads c.read_lines.result (session_of h (lines c.args.bytes.now))) c.len.ensures c.read_lines.ensures)
+returns-clause-reads g c = reads (length c.args.natives.now.items.items) (lines c.args.bytes.now) c.read_lines.result (subst (λ (h : ℕ). Reads c.read_lines.result (session_of h (lines c.args.bytes.now))) c.len.ensures c.read_lines.ensures.reads)
 
 pub returns-clause-text : goal.returns-clause-text
-returns-clause-text g c = reads_no_other (length c.args.natives.now.items.items) (lines c.args.bytes.now) c.read_lines.result (subst (λ (h : ℕ). Reads c.read_lines.result (session_of h (lines c.args.bytes.now))) c.len.ensures c.read_lines.ensures)
+returns-clause-text g c = reads_no_other (length c.args.natives.now.items.items) (lines c.args.bytes.now) c.read_lines.result (subst (λ (h : ℕ). Reads c.read_lines.result (session_of h (lines c.args.bytes.now))) c.len.ensures c.read_lines.ensures.reads)
 
 pub returns-clause-bad : goal.returns-clause-bad
-returns-clause-bad g c = names_no_other (length c.args.natives.now.items.items) (lines c.args.bytes.now) c.read_lines.result (subst (λ (h : ℕ). Reads c.read_lines.result (session_of h (lines c.args.bytes.now))) c.len.ensures c.read_lines.ensures)
+returns-clause-bad g c = names_no_other (length c.args.natives.now.items.items) (lines c.args.bytes.now) c.read_lines.result (subst (λ (h : ℕ). Reads c.read_lines.result (session_of h (lines c.args.bytes.now))) c.len.ensures c.read_lines.ensures.reads)
 
 pub returns-clause-limits : goal.returns-clause-limits
 returns-clause-limits g c =
     limits_read (length c.args.natives.now.items.items) (lines c.args.bytes.now) c.read_lines.result
-    (reads (length c.args.natives.now.items.items) (lines c.args.bytes.now) c.read_lines.result (subst (λ (h : ℕ). Reads c.read_lines.result (session_of h (lines c.args.bytes.now))) c.len.ensures c.read_lines.ensures))
+    (reads (length c.args.natives.now.items.items) (lines c.args.bytes.now) c.read_lines.result (subst (λ (h : ℕ). Reads c.read_lines.result (session_of h (lines c.args.bytes.now))) c.len.ensures c.read_lines.ensures.reads))
 
 pub returns-clause-count : goal.returns-clause-count
 returns-clause-count g c =
-    count_read (length c.args.natives.now.items.items) (lines c.args.bytes.now) c.read_lines.result
-    (reads (length c.args.natives.now.items.items) (lines c.args.bytes.now) c.read_lines.result (subst (λ (h : ℕ). Reads c.read_lines.result (session_of h (lines c.args.bytes.now))) c.len.ensures c.read_lines.ensures))
+    count_read (length c.args.natives.now.items.items) (lines c.args.bytes.now) (length c.args.bytes.now) c.read_lines.result
+    (reads (length c.args.natives.now.items.items) (lines c.args.bytes.now) c.read_lines.result (subst (λ (h : ℕ). Reads c.read_lines.result (session_of h (lines c.args.bytes.now))) c.len.ensures c.read_lines.ensures.reads))
+    c.read_lines.ensures.few

@@ -1,3 +1,6 @@
+use Rattle.std.proofs.Common.{◌≡◌, length, ap, arith}
+use Rattle.rhd_session.specs.World.{World}
+use Rattle.rhd_session.specs.Of.{world_of}
 use Rattle.rhd_tool.proofs.Sessions.{none_answered, all_answered, some_answered}
 use Rattle.rhd_tool.proofs.tool.answer.Goals as goal
 
@@ -13,3 +16,9 @@ pub returns-clause-some : goal.returns-clause-some
 returns-clause-some g c =
     let run = simp (c.in-Ok.ensures.natives, c.in-Ok.ensures.world, c.in-Ok.ensures.frame, c.in-Ok.ensures.begun) at c.run.ensures.stopped in
     some_answered _ _ _ _ c.args.commands.now c.run.result _ _ _ run
+
+pub run-requires : goal.run-requires
+unfolding world_of
+run-requires g c =
+    let none : length c.in-Ok.session.modules.items ≡ 0 = ap (λ (w : World). length w.modules) c.in-Ok.ensures.world in
+    omega (arith, none, c.requires.1)

@@ -1,4 +1,5 @@
-use Rattle.std.proofs.Common.{inl, ap, ◌∙◌}
+use Rattle.std.proofs.Common.{◌<◌, length, inl, ap, ◌∙◌, arith}
+use Rattle.rhd_tool.proofs.Sessions.{limits_allowed}
 use Rattle.rhd_tool.proofs.tool.run_bytes.Goals as goal
 
 pub returns-in-Err-BadLine-clause-first : goal.returns-in-Err-BadLine-clause-first
@@ -6,3 +7,8 @@ returns-in-Err-BadLine-clause-first g c = λ n first. inl (ap (λ end. end.statu
 
 pub returns-clause-first : goal.returns-clause-first
 returns-clause-first g c = λ n first. absurd (c.in-Ok.ensures.bad n first)
+
+pub answer_and_write-requires : goal.answer_and_write-requires
+answer_and_write-requires g c =
+    let few : length c.in-Ok.text.commands < 4294967296 = omega (arith, c.in-Ok.ensures.count, c.requires) in
+    (limits_allowed c.in-Ok.text.limits c.in-Ok.ensures.limits, few)
