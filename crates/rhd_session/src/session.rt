@@ -1,7 +1,7 @@
 //! A session: a table of natives, modules by number, libraries, and a global module into which
 //! natives are registered.
 
-ghost use Rattle.std.specs.Prelude.{◌≡◌, ◌≤◌, ◌<◌, ◌+◌, ◌^◌, true, IfOk, OnErr, IfErr, length, take};
+ghost use Rattle.std.specs.Prelude.{◌≡◌, ◌≤◌, ◌<◌, ◌+◌, ◌^◌, [], true, IfOk, OnErr, IfErr, length, take};
 ghost use Rattle.rhd_session.specs.World.{Moment};
 ghost use Rattle.rhd_session.specs.Held.{names_held, all_held};
 ghost use Rattle.rhd_session.specs.Objects.{infos_of, objects_of};
@@ -42,6 +42,7 @@ impl Session {
         ensures natives { IfOk result (λ session. natives_of session ≡ natives) }
         ensures world { IfOk result (λ session. world_of info session ≡ start_world (infos_of info natives) limits) }
         ensures frame { IfOk result (λ session. frame_of session ≡ start_frame) }
+        ensures modules { IfOk result (λ session. modules_of session ≡ []) }
         ensures begun { IfOk result (λ session. calls_begun_of session ≡ 0) }
     {
         Ok(Session {
@@ -96,6 +97,7 @@ impl Session {
         ensures answered { IfOk result (λ replies. Answered (objects_of allows_call allows_resume B.allows_start B.allows_next (natives_of self.old)) (world_of info self.old) (frame_of self.old) (moment_of self.old bodies.old) commands.now replies (world_of info self.new) (frame_of self.new) (moment_of self.new bodies.new)) }
         ensures stopped { IfErr result (λ stopped. (after : Moment B) × Answered (objects_of allows_call allows_resume B.allows_start B.allows_next (natives_of self.old)) (world_of info self.old) (frame_of self.old) (moment_of self.old bodies.old) (take (length stopped.replies) commands.now) stopped.replies (world_of info self.new) (frame_of self.new) after × (after.begun ≤ calls_begun_of self.new)) }
         ensures counted { IfOk result (λ replies. length replies ≡ length commands.now) }
+        ensures modules { length (modules_of self.new) ≤ length (modules_of self.old) + length commands.now }
         ensures natives { natives_of self.new ≡ natives_of self.old }
     {
         let mut replies = Vec::new(alloc);

@@ -30,10 +30,11 @@ some_answered o natives limits bodies commands (Ok x) world frame begun a = tt
 some_answered o natives limits bodies commands (Err s) world frame begun a = record { world = world; frame = frame; after = a.0; answered = a.1 }
 
 -- all replies are as many as the commands
-pub front_answered : (o : Objects Bodies) (natives : List NativeInfo) (limits : Limits) (bodies : Bodies) (commands : List Command) (replies now : List Reply) → now ≡ replies → length replies ≡ length commands → IsAnswered o natives limits bodies commands replies → IsAnswered o natives limits bodies (take (length now) commands) now
-front_answered o natives limits bodies commands replies now e count a =
-    let all : take (length now) commands ≡ commands = ap (λ (n : ℕ). take n commands) (ap length e ∙ count) ∙ take-length commands in
-    rw all (subst (IsAnswered o natives limits bodies commands) (sym e) a)
+pub front_answered : (o : Objects Bodies) (natives : List NativeInfo) (limits limits' : Limits) (bodies bodies' : Bodies) (commands told : List Command) (replies now : List Reply) → limits' ≡ limits → bodies' ≡ bodies → told ≡ commands → now ≡ replies → length replies ≡ length told
+    → IsAnswered o natives limits' bodies' told replies → IsAnswered o natives limits bodies (take (length now) commands) now
+front_answered o natives limits limits' bodies bodies' commands told replies now l b same e count a =
+    let all : take (length now) commands ≡ told = ap (λ (n : ℕ). take n commands) (ap length e ∙ count ∙ ap length same) ∙ take-length commands ∙ sym same in
+    rw all (subst (λ (x : Limits). IsAnswered o natives x bodies told now) l (subst (λ (x : Bodies). IsAnswered o natives limits' x told now) b (subst (IsAnswered o natives limits' bodies' told) (sym e) a)))
 
 -- the limits of a text that was read
 pub limits_allowed : (o : Option Limits) → IfSome o (λ l. l.level ≤ 1000) → (unwrap_or o default_limits).level ≤ 1000

@@ -1,6 +1,7 @@
 //! Tests of what no contract says: that calls succeed, and that the contracts say what is meant.
 
 mod calls;
+mod machine;
 mod printing;
 mod runs;
 mod texts;

@@ -3,7 +3,7 @@
 use super::{pointer, same_bytes, text_of};
 use rhd_func::{CallRequest, CallShape, RhaiFunc};
 use rhd_module::DeclFault;
-use rhd_session::{CallNode, Carries, Layer, Nodes, Pick, Replies, Reply, Whose};
+use rhd_session::{CallNode, Carries, Layer, ModuleId, Nodes, Pick, Replies, Reply, Whose};
 use rhd_text::{print_replies, print_value};
 use rhd_value::{Dynamic, Entries, EvalAltResult, FnId, FnPtrType, Marks, Position, Value, Values};
 use std::alloc::Global;
@@ -247,6 +247,7 @@ fn replies_are_printed(rt: HostRuntime) -> Result<(), Fail> {
     let alloc = rt.alloc();
     let mut replies = Replies::new(alloc);
     replies.push(Reply::Done)?;
+    replies.push(Reply::Made(ModuleId(3)))?;
     replies.push(Reply::Refused(DeclFault::UnknownNumber {
         number: 7,
         length: 3,
@@ -265,7 +266,7 @@ fn replies_are_printed(rt: HostRuntime) -> Result<(), Fail> {
     let mut out = vec![in alloc; b'>']?;
     print_replies(alloc, replies.as_slice(), &mut out)?;
     let want =
-        ">ok\nrefused 4 7 3\nf - call ! 1 \"f (i64)\"\nf global0#1 called = -5 & %[]\nf global0#12 called ! 15 \"no \\\"luck\\\"\"\nf - call ! 10\n  f - call ! 9\n    f - call ! 9\n  f - call ! 10\n";
+        ">ok\nmodule 3\nrefused 4 7 3\nf - call ! 1 \"f (i64)\"\nf global0#1 called = -5 & %[]\nf global0#12 called ! 15 \"no \\\"luck\\\"\"\nf - call ! 10\n  f - call ! 9\n    f - call ! 9\n  f - call ! 10\n";
     same_bytes(&rt, &out, want.as_bytes(), "replies");
     Ok(())
 }

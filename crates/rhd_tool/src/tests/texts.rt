@@ -7,8 +7,9 @@ use std::alloc::Global;
 use std::process::Abort;
 use std::test::Fail;
 
-/// Runs a text, and compares the output, the status, the line and the number of replies.
-fn check_text(
+/// Runs a text, and compares the output, the status, the line and the number of replies: each prints
+/// a line of its own, and further ones begin with a space.
+pub fn check_text(
     rt: &impl Abort,
     alloc: Global,
     text: &[u8],
@@ -20,7 +21,7 @@ fn check_text(
     let mut sink = PlainSink::new(alloc);
     let end = run_words(alloc, 1, "run", &mut source, &mut sink)?;
     let shown = String::from_utf8_lossy(alloc, text)?;
-    let replies = output.lines().count();
+    let replies = output.lines().filter(|line| !line.starts_with(" ")).count();
     same_bytes(rt, sink.bytes(), output.as_bytes(), shown.as_str());
     holds(rt, end.status == status, shown.as_str());
     holds(rt, end.line == line, shown.as_str());
@@ -105,7 +106,6 @@ fn the_first_bad_line_is_named(rt: HostRuntime) -> Result<(), Fail> {
     // A second line that is bad.
     let seconds = [
         "bogus",
-        "register f 20",
         "register f -1",
         "register f +1",
         "register f 1 2",
@@ -125,7 +125,6 @@ fn the_first_bad_line_is_named(rt: HostRuntime) -> Result<(), Fail> {
         "register f 1 ; x",
         "register f 000000000000000000001",
         "register f 4294967296",
-        "register f 4294967295",
         "register f 18446744073709551616",
         "register f 0x1",
         "call",
@@ -140,8 +139,6 @@ fn the_first_bad_line_is_named(rt: HostRuntime) -> Result<(), Fail> {
         "call f 1x",
         "call f 1.0",
         "call f 'a'",
-        "call f \"a\"",
-        "call f ()",
         "call f []",
         "call f(1)",
         "call f 1,2",
@@ -163,8 +160,35 @@ fn the_first_bad_line_is_named(rt: HostRuntime) -> Result<(), Fail> {
         "# x",
         "// x",
         "global 5",
-        "lib 0",
         "limits 1 1 1 1 1",
+        "body",
+        "do call f",
+        "ret 1",
+        "fail x",
+        "call f \"\\x\"",
+        "call f \"a",
+        "call f \"a\"b",
+        "call f\"a\"",
+        "call f (",
+        "call f [1]",
+        "call f !1",
+        "call f $this",
+        "call-native",
+        "call-native 1",
+        "module 0",
+        "lib",
+        "lib x",
+        "lib 4294967296",
+        "lib 0 0",
+        "pop-lib 0",
+        "script",
+        "script 0 f (x) 0 this i64",
+        "script 0 f x 0",
+        "script 0 f (x 0",
+        "script 0 f () 0 private private",
+        "script 0 f () 0 public",
+        "script 0 f (\"x\"\"y\") 0",
+        "script 0 f ()",
     ];
     for second in seconds {
         let text = format!(in alloc; "call f\n{second}")?;
@@ -172,11 +196,32 @@ fn the_first_bad_line_is_named(rt: HostRuntime) -> Result<(), Fail> {
     }
     // Whole texts, with the line.
     let texts = [
+        (b"do call f\n".as_slice(), 1),
+        (b"ret 1\n".as_slice(), 1),
+        (b"fail x\n".as_slice(), 1),
+        (b"body\nret 1\ndo call f\n".as_slice(), 3),
+        (b"body\nret 1\nret 2\n".as_slice(), 3),
+        (b"body\nret 1\nfail x\n".as_slice(), 3),
+        (b"body 1\n".as_slice(), 1),
+        (b"body\ndo register f 1\n".as_slice(), 2),
+        (b"body\ndo do call f\n".as_slice(), 2),
+        (b"body\nret $x\n".as_slice(), 2),
+        (b"body\nret $4294967296\n".as_slice(), 2),
+        (b"body\nret\n".as_slice(), 2),
+        (b"body\nret 1 2\n".as_slice(), 2),
+        (b"body\nfail\n".as_slice(), 2),
+        (b"limits 1 1 1 1001 1\n".as_slice(), 1),
+        (b"limits 4294967296 1 1 1 1\n".as_slice(), 1),
+        (b"limits 1 1 1 1 18446744073709551616\n".as_slice(), 1),
+        (b"limits 1 1 1 1\n".as_slice(), 1),
+        (b"limits 1 1 1 1 1 1\n".as_slice(), 1),
+        (b"limits 1 1 1 1 1\nlimits 1 1 1 1 1\n".as_slice(), 2),
+        (b"body\nmodule\nlimits 1 1 1 1 1\n".as_slice(), 3),
         (b"bogus".as_slice(), 1),
         (b"bogus\ncall f\n".as_slice(), 1),
         (b"\n;\n\nbogus".as_slice(), 4),
         (b"call f\r\n\r\n; x\r\nbogus\r\nbogus\r\n".as_slice(), 4),
-        (b"call f\nregister f 20\nbogus\n".as_slice(), 2),
+        (b"call f\nregister f 20\nbogus\n".as_slice(), 3),
         (b"call f 1\r".as_slice(), 1),
         (b"call f 1\r\r\n".as_slice(), 1),
         (b"\r\r\n".as_slice(), 1),

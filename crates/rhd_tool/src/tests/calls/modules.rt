@@ -1,11 +1,17 @@
 //! Requests, keys, modules and sessions.
 
 use crate::kit::{KitFn, kit};
+use crate::plan_bodies::PlanBodies;
 use crate::tests::{holds, same_bytes, text_of};
-use rhd_func::{CallRequest, CallShape, FnAccess, FnNamespace, Natives, PluginFunc, RhaiFunc};
-use rhd_module::{DeclFault, Declaration, Key, Module, native_declaration, native_key};
+use rhd_func::{
+    BodyId, CallRequest, CallShape, FnAccess, FnNamespace, Natives, PluginFunc, RhaiFunc,
+    ScriptFuncDef, SharedDef,
+};
+use rhd_module::{
+    DeclFault, Declaration, Key, Module, SharedModule, native_declaration, native_key,
+};
 use rhd_session::{Command, Commands, Limits, Reply, Session};
-use rhd_text::print_replies;
+use rhd_text::{BodyPlans, print_replies};
 use rhd_value::{Dynamic, FnId, OutOfMemory, Position, Texts, TypeTag, Types, Value, Values};
 use std::alloc::{AllocError, Global};
 use std::process::Abort;
@@ -104,16 +110,52 @@ fn declaration(number: u32) -> Declaration {
     }
 }
 
+/// Whether this is the native of a number.
+fn is_native(func: Option<&RhaiFunc>, number: u32) -> bool {
+    match func {
+        Some(func) => func.get_native_fn() == Some(FnId(number)),
+        None => false,
+    }
+}
+
+/// Declares a script in a module that has another owner, which doesn't see it.
+fn check_shared(rt: &impl Abort, alloc: Global) -> Result<(), Fail> {
+    let def = ScriptFuncDef {
+        name: text_of(alloc, "f")?,
+        params: Texts::new(alloc),
+        this_type: None,
+        access: FnAccess::Public,
+        body: BodyId(5),
+    };
+    let other = SharedModule::new(alloc, Module::new(alloc))?;
+    let mut shared = other.dup(alloc)?;
+    shared.set_script_fn(alloc, SharedDef::new(alloc, def)?)?;
+    let key = Key::Script {
+        path: None,
+        name: text_of(alloc, "f")?,
+        params: 0,
+    };
+    let found = shared.module().get_fn(&key);
+    holds(
+        rt,
+        matches!(found, Some(RhaiFunc::Script { .. })),
+        "a script",
+    );
+    holds(rt, other.module().get_fn(&key).is_none(), "another owner");
+    Ok(())
+}
+
 /// Declares functions in a module, one of them twice.
 fn check_module(rt: &impl Abort, alloc: Global) -> Result<(), Fail> {
     let mut module = Module::new(alloc);
     module.set_fn(int_key(alloc, "f")?, declaration(1))?;
     module.set_fn(int_key(alloc, "g")?, declaration(2))?;
     module.set_fn(int_key(alloc, "f")?, declaration(3))?;
+    let module = module.dup(alloc)?;
     let f = module.get_fn(&int_key(alloc, "f")?);
-    holds(rt, f == Some(by_value(3)), "the later function");
+    holds(rt, is_native(f, 3), "the later function");
     let g = module.get_fn(&int_key(alloc, "g")?);
-    holds(rt, g == Some(by_value(2)), "the other function");
+    holds(rt, is_native(g, 2), "the other function");
     let h = module.get_fn(&int_key(alloc, "h")?);
     holds(rt, h.is_none(), "no function");
     Ok(())
@@ -129,7 +171,7 @@ fn check_declared(
     let key = native_key(alloc, &name, native)?;
     holds(rt, key == int_key(alloc, "f")?, "its key");
     let declared = native_declaration(&name, native, FnId(9));
-    holds(rt, declared.func == by_value(9), "its function");
+    holds(rt, is_native(Some(&declared.func), 9), "its function");
     holds(rt, declared.namespace == FnNamespace::Global, "from where");
     holds(rt, declared.access == FnAccess::Public, "by whom");
     Ok(())
@@ -182,13 +224,15 @@ fn check_third(rt: &impl Abort, alloc: Global, natives: &Natives) -> Result<(), 
 /// Runs the same commands twice in one session.
 fn check_session(rt: &impl Abort, alloc: Global, natives: Natives) -> Result<(), Fail> {
     let mut session = Session::new(alloc, natives, Limits::DEFAULT)?;
+    let mut bodies = PlanBodies::new(BodyPlans::new(alloc));
     let commands = commands(alloc)?;
-    let Ok(replies) = session.run(alloc, commands.as_slice()) else {
+    assert!(rt; commands.len() < 10, "a few commands");
+    let Ok(replies) = session.run(alloc, commands.as_slice(), &mut bodies) else {
         return Err(AllocError.into());
     };
     let want = "f - call ! 1 \"f (i64)\"\nrefused 4 99 20\nok\nf global0#1 called = 1\n";
     check_replies(rt, alloc, replies.as_slice(), want)?;
-    let Ok(replies) = session.run(alloc, commands.as_slice()) else {
+    let Ok(replies) = session.run(alloc, commands.as_slice(), &mut bodies) else {
         return Err(AllocError.into());
     };
     let want = "f global0#1 called = 1\nrefused 4 99 20\nok\nf global0#1 called = 1\n";
@@ -201,6 +245,7 @@ fn modules_and_sessions_answer(rt: HostRuntime) -> Result<(), Fail> {
     check_request(&rt, alloc)?;
     check_keys(&rt, alloc)?;
     check_module(&rt, alloc)?;
+    check_shared(&rt, alloc)?;
     let mut natives = Natives::new(alloc);
     kit!(alloc, natives, return Err(AllocError.into()));
     check_third(&rt, alloc, &natives)?;
