@@ -1,5 +1,5 @@
 -- The limits of a text allow no level above 1,000, and a line adds one command at most.
-use Rattle.std.proofs.Common.{◌≡◌, ℕ, ◌+◌, ◌≤◌, Bool, true, false, cond, List, [], ◌∷◌, ◌++◌, length, Option, Some, None, refl, sym, ap, subst, ◌∙◌, arith}
+use Rattle.std.proofs.Common.{◌≡◌, ℕ, ◌+◌, ◌≤◌, Bool, true, false, cond, List, [], ◌∷◌, ◌++◌, length, Option, Some, None, refl, sym, ap, subst, arith}
 use Rattle.std.specs.Prelude.{IfOk, OnOk, IfSome, nat_le, ◌&&◌, Result, Ok, Err}
 use Rattle.std.specs.Option.{is_none}
 use Rattle.std.proofs.lemmas.Bool.{leb-true}
@@ -17,7 +17,7 @@ use Rattle.rhd_text.specs.declared.line.Line.TheVariants.{Skipped, Says}
 use Rattle.rhd_text.specs.declared.place.Place.{Place}
 use Rattle.rhd_text.specs.declared.keyword.Keyword.{Keyword}
 use Rattle.rhd_text.specs.declared.keyword.Keyword.TheVariants as keywords
-use Rattle.rhd_text.specs.Rows.{row, allowed}
+use Rattle.rhd_text.specs.Rows.{row}
 use Rattle.rhd_text.specs.Grammar.{operands, IsLine}
 use Rattle.rhd_text.specs.Session.{empty_text, takes_headers, stepped, ended, in_latest, with_limits, with_body, with_call, with_end, with_part, with_line, IsText, IsSession, ReadsText}
 use Rattle.rhd_text.specs.Reading.{◌>>=◌}
