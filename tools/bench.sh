@@ -1,6 +1,7 @@
 #!/usr/bin/env bash
 # Times the program on texts of 20,000 and 200,000 lines, half of them `register` and half `call`,
-# over few names, and prints the seconds of both and their ratio, which is near 10 where it is linear.
+# over few names, and on one call whose native asks 10,000 and 100,000 others; prints the seconds of
+# both and their ratio, which is near 10 where it is linear.
 set -eu
 top=$(cd "$(dirname "$0")/.." && pwd)
 work=$(mktemp -d)
@@ -33,9 +34,21 @@ best() {
     echo "$least"
 }
 
+asked() {
+    printf 'register g 0\nregister h 13\ncall h "g" %s\n' "$1"
+}
+
+compare() {
+    local small large
+    small=$(best "$work/small")
+    large=$(best "$work/large")
+    printf '%-32s %8s s\n' "$1, $2" "$small" "$1, $3" "$large"
+    awk -v a="$small" -v b="$large" 'BEGIN { printf "%-32s %8.2f\n", "ratio", b / a }'
+}
+
 text 20000 >"$work/small"
 text 200000 >"$work/large"
-small=$(best "$work/small")
-large=$(best "$work/large")
-printf '%-28s %8s s\n' 'commands, 20,000 lines' "$small" 'commands, 200,000 lines' "$large"
-awk -v a="$small" -v b="$large" 'BEGIN { printf "ratio of 10 times the lines  %8.2f\n", b / a }'
+compare lines 20,000 200,000
+asked 10000 >"$work/small"
+asked 100000 >"$work/large"
+compare 'calls asked by one native' 10,000 100,000
