@@ -7,3 +7,7 @@ pub mod Kinds
 pub mod Entries
 pub mod Remade
 pub mod Firsts
+pub mod Lends
+pub mod Pointers
+pub mod Variant
+pub mod Takes

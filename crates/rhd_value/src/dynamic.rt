@@ -5,6 +5,7 @@ ghost use Rattle.std.specs.Option.{option_copied};
 ghost use Rattle.rhd_value.specs.Kinds.{tag_of, int_in, bool_in, text_in, type_name, plain};
 
 mod copies;
+mod pointer;
 mod value_list;
 mod value_map;
 

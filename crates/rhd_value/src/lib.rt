@@ -7,6 +7,7 @@ mod lists;
 mod memory;
 mod tag;
 mod text;
+mod variant;
 
 pub use dynamic::{Dynamic, Entries, FnPtr, Value, Values};
 pub use fault::EvalAltResult;
@@ -14,3 +15,4 @@ pub use lists::{Texts, Types};
 pub use memory::OutOfMemory;
 pub use tag::{FnId, FnPtrType, Marks, Position, TypeTag, map_type};
 pub use text::Text;
+pub use variant::Variant;

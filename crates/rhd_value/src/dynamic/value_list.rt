@@ -1,14 +1,22 @@
 //! Lists of values.
 
-ghost use Rattle.std.specs.Prelude.{◌≡◌, ◌++◌, ◌∷◌, [], length, if◌then◌else◌, is_ok, slice_get, slice_set};
+ghost use Rattle.std.specs.Prelude.{◌≡◌, ◌++◌, ◌∷◌, [], length, if◌then◌else◌, is_ok, slice_get, slice_set, ◌<◌, Some};
 ghost use Rattle.std.specs.Option.{option_copied};
+ghost use Rattle.std.specs.List.{IsItemAtMut, refill};
+ghost use Rattle.std.specs.Slice.Iter.{iter_mut_rest, iter_mut_steps};
+ghost use Rattle.std.specs.Iterator.Runs.{EveryRun, ItemsMapTo};
+ghost use Rattle.rhd_value.specs.Tree.{Tree};
 ghost use Rattle.rhd_value.specs.Firsts.{first_and_rest};
 
 use super::{Dynamic, Values};
 use crate::memory::OutOfMemory;
 use std::alloc::Global;
+use std::slice::IterMut;
 
 impl Values {
+    ghost use Rattle.std.specs.Borrow.{sem};
+    ghost use Rattle.rhd_value.specs.Lends.{LendsItem, LendsItemIf, LendsItems};
+
     pub fn new(alloc: Global) -> Values
         ensures { result ≡ [] }
     {
@@ -53,6 +61,41 @@ impl Values {
         ensures { option_copied result ≡ slice_get self.now at }
     {
         self.items.get(at)
+    }
+
+    /// The value at a place, counted from 0, for writing; none where there is nothing.
+    pub fn get_mut(&mut self, at: usize) -> Option<&mut Dynamic>
+        ensures* writes_back { sem 𝓛 (LendsItemIf self.entry at result) }
+        ensures value { IsItemAtMut self.old at result }
+    {
+        self.items.get_mut(at)
+    }
+
+    /// The value at a place, counted from 0, for writing.
+    pub(crate) fn at_mut(&mut self, at: usize) -> &mut Dynamic
+        requires { at < length self.old }
+        ensures* writes_back { sem 𝓛 (LendsItem self.entry at result) }
+        ensures value { slice_get self.old at ≡ Some result.now }
+    {
+        &mut self.items[at]
+    }
+
+    /// The values, one after the other, for writing.
+    pub fn iter_mut(&mut self) -> IterMut<'_, Dynamic>
+        ensures* writes_back { sem 𝓛 (LendsItems self.entry result) }
+        ensures items { iter_mut_rest result ≡ self.old }
+        ensures runs { EveryRun (iter_mut_steps {A = Tree}) (λ p. ItemsMapTo p (λ y. y.now) (iter_mut_rest p.from)) }
+    {
+        self.items.as_mut_slice().iter_mut()
+    }
+
+    /// Puts values last, in their order.
+    pub fn append(&mut self, values: Values) -> Result<(), OutOfMemory>
+        ensures { self.new ≡ (if is_ok result then self.old ++ values else self.old) }
+    {
+        let mut others = values.items;
+        self.items.append(&mut others)?;
+        Ok(())
     }
 
     pub fn as_slice(&self) -> &[Dynamic]

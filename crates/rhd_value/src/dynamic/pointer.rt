@@ -1,0 +1,122 @@
+//! Pointers to functions.
+
+ghost use Rattle.std.specs.Prelude.{◌≡◌, ◌↔◌, ◌<◌, ◌++◌, ◌∷◌, [], length, if◌then◌else◌, is_ok, slice_get, Some, IsTrue};
+ghost use Rattle.std.specs.Slice.Iter.{iter_rest, iter_steps, iter_mut_rest, iter_mut_steps};
+ghost use Rattle.std.specs.Iterator.Runs.{EveryRun, ItemsMapTo};
+ghost use Rattle.rhd_value.specs.Tree.{Tree};
+ghost use Rattle.rhd_value.specs.Pointers.{is_anonymous_name, shown_pointer};
+
+use super::{Dynamic, FnPtr, Values};
+use crate::memory::OutOfMemory;
+use crate::text::Text;
+use std::alloc::Global;
+use std::fmt;
+use std::slice::{Iter, IterMut};
+
+impl FnPtr {
+    ghost use Rattle.std.specs.Borrow.{sem};
+    ghost use Rattle.rhd_value.specs.Lends.{LendsCurried, LendsCurry};
+
+    /// The name of the function.
+    pub fn fn_name(&self) -> &Text
+        ensures { result.now ≡ self.now.name }
+    {
+        &self.name
+    }
+
+    /// The values that a call puts before its own arguments.
+    pub fn curry(&self) -> &Values
+        ensures { result.now ≡ self.now.curry }
+    {
+        &self.curry
+    }
+
+    /// The values that a call puts before its own arguments, one after the other.
+    pub fn iter_curry(&self) -> Iter<'_, Dynamic>
+        ensures items { iter_rest result ≡ self.now.curry }
+        ensures runs { EveryRun (iter_steps {A = Tree}) (λ p. ItemsMapTo p (λ y. y.now) (iter_rest p.from)) }
+    {
+        self.curry.as_slice().iter()
+    }
+
+    /// The same values, for writing.
+    pub fn iter_curry_mut(&mut self) -> IterMut<'_, Dynamic>
+        ensures* writes_back { sem 𝓛 (LendsCurry self.entry result) }
+        ensures items { iter_mut_rest result ≡ self.old.curry }
+        ensures runs { EveryRun (iter_mut_steps {A = Tree}) (λ p. ItemsMapTo p (λ y. y.now) (iter_mut_rest p.from)) }
+    {
+        self.curry.iter_mut()
+    }
+
+    /// Whether a call puts values before its own arguments.
+    pub fn is_curried(&self) -> bool
+        ensures { IsTrue result ↔ (0 < length self.now.curry) }
+    {
+        self.curry.len() != 0
+    }
+
+    /// Whether the function has no name of its own: its name begins with `anon$`.
+    pub fn is_anonymous(&self) -> bool
+        ensures { result ≡ is_anonymous_name self.now.name }
+    {
+        self.name.as_str().as_bytes().starts_with(b"anon$")
+    }
+
+    /// Puts a value last.
+    pub fn add_curry(&mut self, _alloc: Global, value: Dynamic) -> Result<(), OutOfMemory>
+        ensures { self.new ≡ (if is_ok result then record self.old { curry = self.old.curry ++ value ∷ [] } else self.old) }
+    {
+        self.curry.push(value)
+    }
+
+    /// Puts values last, in their order.
+    pub fn extend(&mut self, _alloc: Global, values: Values) -> Result<(), OutOfMemory>
+        ensures { self.new ≡ (if is_ok result then record self.old { curry = self.old.curry ++ values } else self.old) }
+    {
+        self.curry.append(values)
+    }
+
+    /// Puts these values in the place of all others.
+    pub fn set_curry(&mut self, values: Values)
+        ensures { self.new ≡ record self.old { curry = values } }
+    {
+        self.curry = values;
+    }
+
+    /// The value at a place, counted from 0.
+    pub fn at(&self, index: usize) -> &Dynamic
+        requires { index < length self.now.curry }
+        ensures { slice_get self.now.curry index ≡ Some result.now }
+    {
+        &self.curry.as_slice()[index]
+    }
+
+    /// The value at a place, counted from 0, for writing.
+    pub fn at_mut(&mut self, index: usize) -> &mut Dynamic
+        requires { index < length self.old.curry }
+        ensures* writes_back { sem 𝓛 (LendsCurried self.entry index result) }
+        ensures value { slice_get self.old.curry index ≡ Some result.now }
+    {
+        self.curry.at_mut(index)
+    }
+}
+
+/// A pointer shows as `Fn(name)`.
+impl fmt::Display for FnPtr {
+    ghost output = { λ ptr. Some (shown_pointer ptr.name) };
+
+    fn fmt<W: fmt::Write>(&self, f: &mut fmt::Formatter<W>) -> fmt::Result {
+        f.write_str("Fn(")?;
+        f.write_str(self.name.as_str())?;
+        f.write_str(")")
+    }
+}
+
+/// The same text as `Display` gives.
+impl fmt::Debug for FnPtr {
+    ghost debug_output = { λ ptr. Some (shown_pointer ptr.name) };
+
+    fn fmt<W: fmt::Write>(&self, f: &mut fmt::Formatter<W>) -> fmt::Result {
+        fmt::Display::fmt(self, f)
+    }
+}
