@@ -8,30 +8,42 @@ use crate::dynamic::{Dynamic, Entries, FnPtr, Value, Values};
 use crate::tag::TypeTag;
 use crate::text::Text;
 
+/// A Rust type whose values are values of one kind, or of all.
 pub trait Variant {
     ghost use Rattle.rhd_value.specs.declared.tag.TypeTag.{TypeTag};
 
     ghost TAG: { TypeTag };
 
-    /// The tree of a value.
+    // The tree of a value.
     ghost tree_of: { Self → Tree };
 
-    /// The value of a tree.
+    // The value that a tree holds, if it is of the type's kind.
     ghost value_of: { Tree → Option Self };
 
+    /// The kind of the type's values; `Dynamic` where they are of all kinds.
     const TAG: TypeTag;
 
+    /// The value as one of its kind, without marks; a `Dynamic` stays as it is.
     fn into_dynamic(self) -> Dynamic
         ensures { result ≡ tree_of self };
 
+    /// The value back; none exactly for another kind, and so never where the type takes all kinds.
     fn from_dynamic(value: Dynamic) -> Option<Self>
     where
         Self: Sized,
-        ensures { result ≡ value_of value };
+        ensures value { result ≡ value_of value }
+        ensures kind { IsSome result ↔ IsTaken TAG value };
 
     ghost round_trip: { (x : Self) → value_of (tree_of x) ≡ Some x };
 
     ghost takes_its_kind: { (t : Tree) → IsSome (value_of t) ↔ IsTaken TAG t };
+}
+
+/// Law: a value that was made a `Dynamic` comes back.
+pub fn a_value_comes_back<T: Variant>(value: T) -> Option<T>
+    ensures { result ≡ Some value }
+{
+    T::from_dynamic(value.into_dynamic())
 }
 
 impl Variant for i64 {

@@ -4,10 +4,11 @@ ghost use Rattle.std.specs.Prelude.{◌≡◌, ◌↔◌, ◌<◌, ◌++◌, ◌
 ghost use Rattle.std.specs.Slice.Iter.{iter_rest, iter_steps, iter_mut_rest, iter_mut_steps};
 ghost use Rattle.std.specs.Iterator.Runs.{EveryRun, ItemsMapTo};
 ghost use Rattle.rhd_value.specs.Tree.{Tree};
-ghost use Rattle.rhd_value.specs.Pointers.{is_anonymous_name, shown_pointer};
+ghost use Rattle.rhd_value.specs.Pointers.{is_anonymous_name, shown_pointer, shown_type};
 
 use super::{Dynamic, FnPtr, Values};
 use crate::memory::OutOfMemory;
+use crate::tag::FnPtrType;
 use crate::text::Text;
 use std::alloc::Global;
 use std::fmt;
@@ -118,5 +119,29 @@ impl fmt::Debug for FnPtr {
 
     fn fmt<W: fmt::Write>(&self, f: &mut fmt::Formatter<W>) -> fmt::Result {
         fmt::Display::fmt(self, f)
+    }
+}
+
+/// The type of a pointer shows as `Fn`, `Fn*` (a script) or `Fn#` (a native).
+impl fmt::Display for FnPtrType {
+    ghost output = { λ typ. Some (shown_type typ) };
+
+    fn fmt<W: fmt::Write>(&self, f: &mut fmt::Formatter<W>) -> fmt::Result {
+        match self {
+            FnPtrType::Normal => f.write_str("Fn"),
+            FnPtrType::Script { .. } => f.write_str("Fn*"),
+            FnPtrType::Native(_) => f.write_str("Fn#"),
+        }
+    }
+}
+
+/// A pointer is one to whatever its name means, where nothing else is said.
+impl Default for FnPtrType {
+    ghost use Rattle.rhd_value.specs.declared.tag.FnPtrType.TheVariants.{Normal};
+
+    ghost is_default = { λ typ. typ ≡ Normal };
+
+    fn default() -> FnPtrType {
+        FnPtrType::Normal
     }
 }
