@@ -1,11 +1,10 @@
 -- Each type takes its own kind, and no other.
-use Rattle.std.specs.Prelude.{◌≡◌, ◌↔◌, ◌⊎◌, Option, Some, None, IsSome, true, false, List, [], ◌∷◌}
+use Rattle.std.specs.Prelude.{◌≡◌, ◌↔◌, ◌⊎◌, Some, IsSome, List, [], ◌∷◌}
 use Rattle.std.proofs.Common.{refl, ap, rules}
-use Rattle.rhd_value.specs.declared.tag.TypeTag.{TypeTag}
 use Rattle.rhd_value.specs.declared.tag.TypeTag.TheVariants as tags
 use Rattle.rhd_value.specs.declared.dynamic.FnPtr.{FnPtr}
-use Rattle.rhd_value.specs.Tree.{Tree, Kind, unit, boolean, integer, character, text, array, object, pointer, custom, items_of, members_of, list_of, entries_of, Bytes}
-use Rattle.rhd_value.specs.Kinds.{tag_of, tag_of_kind, int_in, bool_in, text_in, plain}
+use Rattle.rhd_value.specs.Tree.{Tree, Kind, unit, boolean, integer, character, text, array, object, pointer, items_of, members_of, list_of, entries_of, Bytes}
+use Rattle.rhd_value.specs.Kinds.{tag_of_kind, int_in, bool_in, text_in, plain}
 use Rattle.rhd_value.specs.Variant.{IsTaken, list_in, entries_in, char_in, unit_in, pointer_in}
 
 pub takes_int : (t : Tree) → IsSome (int_in t.kind) ↔ IsTaken tags.Int t

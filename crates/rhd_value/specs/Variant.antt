@@ -1,9 +1,9 @@
 -- A Rust value of one type as a tree, and back.
-use Rattle.std.specs.Prelude.{◌≡◌, ℤ, ℕ, Bool, true, false, Option, None, Some, List, IsNone, ◌↔◌, ◌⊎◌}
+use Rattle.std.specs.Prelude.{◌≡◌, ℕ, Option, None, Some, List, ◌⊎◌}
 use Rattle.rhd_value.specs.declared.tag.TypeTag.{TypeTag}
 use Rattle.rhd_value.specs.declared.tag.TypeTag.TheVariants as tags
 use Rattle.rhd_value.specs.declared.dynamic.FnPtr.{FnPtr}
-use Rattle.rhd_value.specs.Tree.{Bytes, Tree, Kind, unit, boolean, integer, character, text, array, object, pointer, custom, list_of, entries_of}
+use Rattle.rhd_value.specs.Tree.{Bytes, Tree, Kind, unit, character, array, object, pointer, list_of, entries_of}
 use Rattle.rhd_value.specs.Kinds.{tag_of}
 
 abbrev pub list_in : Kind → Option (List Tree)

@@ -15,4 +15,4 @@ pub use lists::{Texts, Types};
 pub use memory::OutOfMemory;
 pub use tag::{FnId, FnPtrType, Marks, Position, TypeTag, map_type};
 pub use text::Text;
-pub use variant::Variant;
+pub use variant::{Variant, a_value_comes_back};

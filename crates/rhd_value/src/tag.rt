@@ -107,9 +107,10 @@ impl Marks {
 pub struct FnId(pub u32);
 
 /// Which function a pointer means.
-#[derive(Clone, Copy, PartialEq, Eq, Debug)]
+#[derive(Clone, Copy, PartialEq, Eq, Debug, Default)]
 pub enum FnPtrType {
     /// Whatever the name means where it is called.
+    #[default]
     Normal,
     /// The script of that name and number of parameters in the oldest library.
     Script { num_params: u64 },

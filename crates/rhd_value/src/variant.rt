@@ -48,7 +48,6 @@ pub fn a_value_comes_back<T: Variant>(value: T) -> Option<T>
 
 impl Variant for i64 {
     ghost use Rattle.rhd_value.specs.declared.tag.TypeTag.TheVariants as tags;
-
     ghost use Rattle.rhd_value.specs.Takes.{takes_int};
 
     ghost TAG = { tags.Int };
@@ -74,7 +73,6 @@ impl Variant for i64 {
 
 impl Variant for () {
     ghost use Rattle.rhd_value.specs.declared.tag.TypeTag.TheVariants as tags;
-
     ghost use Rattle.rhd_value.specs.Takes.{takes_unit};
 
     ghost TAG = { tags.Unit };
@@ -103,7 +101,6 @@ impl Variant for () {
 
 impl Variant for bool {
     ghost use Rattle.rhd_value.specs.declared.tag.TypeTag.TheVariants as tags;
-
     ghost use Rattle.rhd_value.specs.Takes.{takes_bool};
 
     ghost TAG = { tags.Bool };
@@ -129,7 +126,6 @@ impl Variant for bool {
 
 impl Variant for char {
     ghost use Rattle.rhd_value.specs.declared.tag.TypeTag.TheVariants as tags;
-
     ghost use Rattle.rhd_value.specs.Takes.{takes_char};
 
     ghost TAG = { tags.Char };
@@ -158,7 +154,6 @@ impl Variant for char {
 
 impl Variant for Text {
     ghost use Rattle.rhd_value.specs.declared.tag.TypeTag.TheVariants as tags;
-
     ghost use Rattle.rhd_value.specs.Takes.{takes_text};
 
     ghost TAG = { tags.Text };
@@ -187,7 +182,6 @@ impl Variant for Text {
 
 impl Variant for Values {
     ghost use Rattle.rhd_value.specs.declared.tag.TypeTag.TheVariants as tags;
-
     ghost use Rattle.rhd_value.specs.Takes.{takes_list, list_returns};
 
     ghost TAG = { tags.Array };
@@ -217,7 +211,6 @@ impl Variant for Values {
 
 impl Variant for Entries {
     ghost use Rattle.rhd_value.specs.declared.tag.TypeTag.TheVariants as tags;
-
     ghost use Rattle.rhd_value.specs.Takes.{takes_entries, entries_return};
 
     ghost TAG = { tags.Map };
@@ -247,7 +240,6 @@ impl Variant for Entries {
 
 impl Variant for Dynamic {
     ghost use Rattle.rhd_value.specs.declared.tag.TypeTag.TheVariants as tags;
-
     ghost use Rattle.rhd_value.specs.Takes.{takes_all};
 
     ghost TAG = { tags.Dynamic };
@@ -273,7 +265,6 @@ impl Variant for Dynamic {
 
 impl Variant for FnPtr {
     ghost use Rattle.rhd_value.specs.declared.tag.TypeTag.TheVariants as tags;
-
     ghost use Rattle.rhd_value.specs.Takes.{takes_pointer, pointer_returns};
 
     ghost TAG = { tags.FnPtr };

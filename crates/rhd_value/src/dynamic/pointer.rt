@@ -134,14 +134,3 @@ impl fmt::Display for FnPtrType {
         }
     }
 }
-
-/// A pointer is one to whatever its name means, where nothing else is said.
-impl Default for FnPtrType {
-    ghost use Rattle.rhd_value.specs.declared.tag.FnPtrType.TheVariants.{Normal};
-
-    ghost is_default = { λ typ. typ ≡ Normal };
-
-    fn default() -> FnPtrType {
-        FnPtrType::Normal
-    }
-}
