@@ -1,22 +1,27 @@
 -- The arguments of a call.
-use Rattle.std.specs.Prelude.{List, Option, None}
+use Rattle.std.specs.Prelude.{List, ◌∷◌, Option, None, Some}
 use Rattle.rhd_value.specs.Tree.{Tree}
 use Rattle.rhd_value.specs.declared.tag.Position.{Position}
 use Rattle.rhd_func.specs.declared.request.CallShape.{CallShape}
-use Rattle.rhd_func.specs.declared.request.CallShape.TheVariants.{Plain}
+use Rattle.rhd_func.specs.declared.request.CallShape.TheVariants.{Plain, ByRef, Method}
 use Rattle.rhd_func.specs.declared.request.CallRequest.{CallRequest}
 use Rattle.rhd_func.specs.declared.request.CallRequest.TheVariants.{Named}
 
--- all arguments in order
+-- all arguments in order, a first one by reference or an object included
 abbrev pub all_args : CallShape → List Tree
 all_args (Plain args) = args
+all_args (ByRef first args) = first ∷ args
+all_args (Method object args) = object ∷ args
 
--- the first argument by reference, as given
+-- the first argument by reference, or the object, as given
 abbrev pub first_given : CallShape → Option Tree
 first_given (Plain args) = None
+first_given (ByRef first args) = Some first
+first_given (Method object args) = Some object
 
+-- the same of a request
 abbrev pub given : CallRequest → Option Tree
-given (Named name native_only shape pos) = first_given shape
+given (Named name native_only shape want pos) = first_given shape
 
 abbrev pub pos_of : CallRequest → Position
-pos_of (Named name native_only shape pos) = pos
+pos_of (Named name native_only shape want pos) = pos

@@ -2,7 +2,7 @@
 
 ghost use Rattle.std.specs.Prelude.{IfOk, ◌≡◌};
 
-use rhd_value::{Dynamic, EvalAltResult, OutOfMemory, Position, Text, Values};
+use rhd_value::{Dynamic, EvalAltResult, OutOfMemory, Position, Text, TypeTag, Values};
 use std::alloc::Global;
 
 /// The arguments of a call.
@@ -10,6 +10,10 @@ use std::alloc::Global;
 pub enum CallShape {
     /// All by value.
     Plain(Values),
+    /// The first by reference, and the others.
+    ByRef(Dynamic, Values),
+    /// An object, whose method is called, and the arguments.
+    Method(Dynamic, Values),
 }
 
 /// A call that is asked for.
@@ -21,6 +25,8 @@ pub enum CallRequest {
         /// Whether only natives may answer.
         native_only: bool,
         shape: CallShape,
+        /// The type that the answer has to have; any, where there is none.
+        want: Option<TypeTag>,
         pos: Position,
     },
 }
@@ -32,6 +38,12 @@ impl CallShape {
     {
         match self {
             CallShape::Plain(args) => Ok(CallShape::Plain(args.dup(alloc)?)),
+            CallShape::ByRef(first, args) => {
+                Ok(CallShape::ByRef(first.dup(alloc)?, args.dup(alloc)?))
+            }
+            CallShape::Method(object, args) => {
+                Ok(CallShape::Method(object.dup(alloc)?, args.dup(alloc)?))
+            }
         }
     }
 }
@@ -46,11 +58,13 @@ impl CallRequest {
                 name,
                 native_only,
                 shape,
+                want,
                 pos,
             } => Ok(CallRequest::Named {
                 name: name.dup(alloc)?,
                 native_only: *native_only,
                 shape: shape.dup(alloc)?,
+                want: *want,
                 pos: *pos,
             }),
         }

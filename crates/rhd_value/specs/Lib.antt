@@ -4,6 +4,7 @@ pub mod Codes
 pub mod Views
 pub mod Falls
 pub mod Kinds
+pub mod Sums
 pub mod Entries
 pub mod Remade
 pub mod Firsts

@@ -6,6 +6,7 @@ ghost use Rattle.rhd_value.specs.Kinds.{tag_of, int_in, bool_in, text_in, type_n
 
 mod copies;
 mod pointer;
+mod sums;
 mod value_list;
 mod value_map;
 
@@ -182,20 +183,27 @@ impl Dynamic {
     pub fn type_name(&self, alloc: Global) -> Result<Text, OutOfMemory>
         ensures { IfOk result (λ name. name ≡ type_name (tag_of self.now)) }
     {
-        let mut name = Text::new(alloc);
-        match &self.value {
-            Value::Unit => name.push("()")?,
-            Value::Bool(_) => name.push("bool")?,
-            Value::Int(_) => name.push("i64")?,
-            Value::Char(_) => name.push("char")?,
-            Value::Text(_) => name.push("string")?,
-            Value::Array(_) => name.push("array")?,
-            Value::Map(_) => name.push("map")?,
-            Value::FnPtr(_) => name.push("Fn")?,
-            Value::Custom(number, _) => {
-                return Ok(Text::from_string(format!(in alloc; "custom{number}")?));
-            }
-        }
-        Ok(name)
+        self.kind().type_name(alloc)
+    }
+
+    /// Whether the value is a constant.
+    pub fn is_read_only(&self) -> bool
+        ensures { result ≡ self.now.marks.read_only }
+    {
+        self.marks.read_only
+    }
+
+    /// Whether the value is shared with other places.
+    pub fn is_shared(&self) -> bool
+        ensures { result ≡ self.now.marks.shared }
+    {
+        self.marks.shared
+    }
+
+    /// Whether the value is being used elsewhere.
+    pub fn is_locked(&self) -> bool
+        ensures { result ≡ self.now.marks.locked }
+    {
+        self.marks.locked
     }
 }

@@ -12,10 +12,19 @@ use std::alloc::Global;
 pub enum EvalAltResult {
     /// Fault 1: no function has this signature.
     ErrorFunctionNotFound(Text, Position),
+    /// Fault 6: an argument is being used elsewhere.
+    ErrorDataRace(Text, Position),
+    /// Fault 7: a call answered a value of another type than is wanted: the type wanted, and the
+    /// type got.
+    ErrorMismatchOutputType(Text, Text, Position),
+    /// Fault 8: an argument is of another type than is wanted: the type wanted, and the type got.
+    ErrorMismatchDataType(Text, Text, Position),
     /// Fault 9: the calls of the budget are spent.
     ErrorTooManyOperations(Position),
     /// Fault 10: more calls would be open than the limit allows.
     ErrorStackOverflow(Position),
+    /// Fault 11: a value holds more than the limits allow; the text says of what.
+    ErrorDataTooLarge(Text, Position),
     /// Fault 15: a function failed with this text.
     ErrorRuntime(Text, Position),
 }
@@ -29,10 +38,22 @@ impl EvalAltResult {
             EvalAltResult::ErrorFunctionNotFound(signature, pos) => Ok(
                 EvalAltResult::ErrorFunctionNotFound(signature.dup(alloc)?, *pos),
             ),
+            EvalAltResult::ErrorDataRace(text, pos) => {
+                Ok(EvalAltResult::ErrorDataRace(text.dup(alloc)?, *pos))
+            }
+            EvalAltResult::ErrorMismatchOutputType(wanted, got, pos) => Ok(
+                EvalAltResult::ErrorMismatchOutputType(wanted.dup(alloc)?, got.dup(alloc)?, *pos),
+            ),
+            EvalAltResult::ErrorMismatchDataType(wanted, got, pos) => Ok(
+                EvalAltResult::ErrorMismatchDataType(wanted.dup(alloc)?, got.dup(alloc)?, *pos),
+            ),
             EvalAltResult::ErrorTooManyOperations(pos) => {
                 Ok(EvalAltResult::ErrorTooManyOperations(*pos))
             }
             EvalAltResult::ErrorStackOverflow(pos) => Ok(EvalAltResult::ErrorStackOverflow(*pos)),
+            EvalAltResult::ErrorDataTooLarge(text, pos) => {
+                Ok(EvalAltResult::ErrorDataTooLarge(text.dup(alloc)?, *pos))
+            }
             EvalAltResult::ErrorRuntime(text, pos) => {
                 Ok(EvalAltResult::ErrorRuntime(text.dup(alloc)?, *pos))
             }

@@ -13,6 +13,6 @@ pub use dynamic::{Dynamic, Entries, FnPtr, Value, Values};
 pub use fault::EvalAltResult;
 pub use lists::{Texts, Types};
 pub use memory::OutOfMemory;
-pub use tag::{FnId, FnPtrType, Marks, Position, TypeTag, map_type};
+pub use tag::{FnId, FnPtrType, Marks, Position, Sizes, TypeTag, map_type};
 pub use text::Text;
 pub use variant::{Variant, a_value_comes_back};

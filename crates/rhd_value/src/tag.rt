@@ -1,9 +1,14 @@
 //! Plain data beside the values.
 
-ghost use Rattle.std.specs.Prelude.{◌≡◌};
+ghost use Rattle.std.specs.Prelude.{◌≡◌, IfOk};
 ghost use Rattle.std.specs.Cmp.{partial_equiv_from_equiv};
-ghost use Rattle.rhd_value.specs.Kinds.{map_type};
+ghost use Rattle.rhd_value.specs.Kinds.{map_type, type_name};
+ghost use Rattle.rhd_value.specs.Sums.{plus_held};
 ghost use Rattle.rhd_value.specs.Same.{tag_number, tag_argument, tag_eq, tag_eq_equiv};
+
+use crate::memory::OutOfMemory;
+use crate::text::Text;
+use std::alloc::Global;
 
 /// The type of a value, or of a parameter.
 ///
@@ -55,6 +60,30 @@ impl TypeTag {
             _ => 0,
         }
     }
+
+    /// The name of the type.
+    pub fn type_name(self, alloc: Global) -> Result<Text, OutOfMemory>
+        ensures { IfOk result (λ name. name ≡ type_name self) }
+    {
+        let mut name = Text::new(alloc);
+        match self {
+            TypeTag::Unit => name.push("()")?,
+            TypeTag::Bool => name.push("bool")?,
+            TypeTag::Int => name.push("i64")?,
+            TypeTag::Char => name.push("char")?,
+            TypeTag::Text => name.push("string")?,
+            TypeTag::Array => name.push("array")?,
+            TypeTag::Map => name.push("map")?,
+            TypeTag::FnPtr => name.push("Fn")?,
+            TypeTag::Custom(number) => {
+                return Ok(Text::from_string(format!(in alloc; "custom{number}")?));
+            }
+            TypeTag::Dynamic => name.push("Dynamic")?,
+            TypeTag::Str => name.push("&str")?,
+            TypeTag::StdString => name.push("String")?,
+        }
+        Ok(name)
+    }
 }
 
 impl PartialEq for TypeTag {
@@ -100,6 +129,35 @@ impl Marks {
         shared: false,
         locked: false,
     };
+}
+
+/// How much a value holds in all: elements of arrays, entries of maps, bytes of texts. Each count
+/// stays at the largest number of 64 bits.
+#[derive(Clone, Copy, PartialEq, Eq, Debug)]
+pub struct Sizes {
+    pub array: u64,
+    pub map: u64,
+    pub text: u64,
+}
+
+impl Sizes {
+    /// The sizes of a value that holds nothing.
+    pub const NONE: Sizes = Sizes {
+        array: 0,
+        map: 0,
+        text: 0,
+    };
+
+    /// The sizes of two values together.
+    pub(crate) fn plus(self, other: Sizes) -> Sizes
+        ensures { result ≡ plus_held self other }
+    {
+        Sizes {
+            array: self.array.saturating_add(other.array),
+            map: self.map.saturating_add(other.map),
+            text: self.text.saturating_add(other.text),
+        }
+    }
 }
 
 /// The number of a native, counted from 0.
