@@ -106,6 +106,8 @@ impl FnPtr {
 impl fmt::Display for FnPtr {
     ghost output = { λ ptr. Some (shown_pointer ptr.name) };
 
+    ghost styled_output = { λ ptr _. Some (shown_pointer ptr.name) };
+
     fn fmt<W: fmt::Write>(&self, f: &mut fmt::Formatter<W>) -> fmt::Result {
         f.write_str("Fn(")?;
         f.write_str(self.name.as_str())?;
@@ -125,6 +127,8 @@ impl fmt::Debug for FnPtr {
 /// The type of a pointer shows as `Fn`, `Fn*` (a script) or `Fn#` (a native).
 impl fmt::Display for FnPtrType {
     ghost output = { λ typ. Some (shown_type typ) };
+
+    ghost styled_output = { λ typ _. Some (shown_type typ) };
 
     fn fmt<W: fmt::Write>(&self, f: &mut fmt::Formatter<W>) -> fmt::Result {
         match self {
