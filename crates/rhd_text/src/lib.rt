@@ -6,6 +6,7 @@ mod body;
 mod brackets;
 mod fault;
 mod forms;
+mod heads;
 mod keyword;
 mod laws;
 mod line;
