@@ -7,6 +7,8 @@ pub mod ListLaws
 pub mod ByteLaws
 pub mod QuoteLaws
 pub mod FlagLaws
+pub mod HeadLaws
+pub mod MapLaws
 pub mod ValueLaws
 pub mod ArgumentLaws
 pub mod OperandLaws

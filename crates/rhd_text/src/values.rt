@@ -50,9 +50,10 @@ fn only_character(text: &str) -> Option<char>
     ensures { result ≡ only_character (chars text.now) }
 {
     let mut chars = text.chars();
-    match (chars.next(), chars.next()) {
-        (Some(c), None) => Some(c),
-        _ => None,
+    let first = chars.next()?;
+    match chars.next() {
+        Some(_) => None,
+        None => Some(first),
     }
 }
 
