@@ -52,7 +52,7 @@ opens_more p q bytes le o = record { first = o.first; more = o.more; are = o.are
 
 -- ---- what begins a value, after its marks
 
-pub starts : ℕ → Bool
+unfoldable pub starts : ℕ → Bool
 starts b = is_ascii_digit b || eqb b 45 || eqb b 116 || eqb b 102 || eqb b 99 || eqb b 34 || eqb b 39 || eqb b 40 || eqb b 91 || eqb b 123
 
 digit_starts : (b : ℕ) → is_ascii_digit b ≡ true → starts b ≡ true
@@ -160,7 +160,7 @@ head_begins (heads.Int z) w e = int_starts w z e
 
 -- ---- numbers
 
-num_agrees : (bits : ℕ) → Agrees ℕ (num_at bits) (number bits)
+pub num_agrees : (bits : ℕ) → Agrees ℕ (num_at bits) (number bits)
 unfolding num_at
 num_agrees bits = meaning_agrees ℕ (num_of bits) word_at bare bare_agrees
 

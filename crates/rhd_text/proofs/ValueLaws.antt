@@ -53,7 +53,7 @@ unfolding marks_at
 marks_sound bytes =
     let a = mark_at 33 bytes in
     let b = mark_at 37 a.1 in
-    (a.1, mark_sound (begins 33 bytes) 33 bytes (omega arith) refl, b.1, mark_sound (begins 37 a.1) 37 a.1 (omega arith) refl, mark_sound (begins 126 b.1) 126 b.1 (omega arith) refl)
+    (a.1, mark_sound (begins 33 bytes) 33 bytes (omega arith) refl, (b.1, mark_sound (begins 37 a.1) 37 a.1 (omega arith) refl, mark_sound (begins 126 b.1) 126 b.1 (omega arith) refl))
 
 mark_complete : (x : Bool) (c : ℕ) (bytes rest : List ℕ) → mark c x bytes rest → begins c rest ≡ false → mark_at c bytes ≡ (x, rest)
 mark_complete true c bytes rest m h = rw (begins_same c bytes rest m, drops_to c bytes rest m) refl
@@ -66,7 +66,7 @@ through false c d bytes rest m other h = ap (begins d) m ∙ h
 
 marks_complete : (m : Marks) (bytes rest : List ℕ) → marks m bytes rest → Opens starts rest → marks_at bytes ≡ (m, rest)
 unfolding marks_at starts
-marks_complete m bytes rest (one, first, two, second, third) o =
+marks_complete m bytes rest (one, first, (two, second, third)) o =
     let no = opens_not starts rest o in
     let a = mark_complete m.read_only 33 bytes one first (through m.shared 37 33 one two second refl (through m.locked 126 33 two rest third refl (no 33 refl))) in
     let b = mark_complete m.shared 37 one two second (through m.locked 126 37 two rest third refl (no 37 refl)) in
@@ -78,7 +78,7 @@ mark_shrinks true c bytes rest m = omega (arith, byte_shrinks c bytes rest m)
 mark_shrinks false c bytes rest m = omega (arith, ap length m)
 
 marks_shrink : (m : Marks) (bytes rest : List ℕ) → marks m bytes rest → length rest ≤ length bytes
-marks_shrink m bytes rest w = omega (arith, mark_shrinks m.read_only 33 bytes w.0 w.1, mark_shrinks m.shared 37 w.0 w.2 w.3, mark_shrinks m.locked 126 w.2 rest w.4)
+marks_shrink m bytes rest w = omega (arith, mark_shrinks m.read_only 33 bytes w.0 w.1, mark_shrinks m.shared 37 w.0 w.2.0 w.2.1, mark_shrinks m.locked 126 w.2.0 rest w.2.2)
 
 -- what begins a value with its marks
 pub opens_value : ℕ → Bool
@@ -95,7 +95,7 @@ mark_opens false c bytes rest m h o = subst (λ (b : List ℕ). Opens opens_valu
 marks_open : (m : Marks) (bytes rest : List ℕ) → marks m bytes rest → Opens starts rest → Opens opens_value bytes
 unfolding opens_value starts
 marks_open m bytes rest w o =
-    mark_opens m.read_only 33 bytes w.0 w.1 refl (mark_opens m.shared 37 w.0 w.2 w.3 refl (mark_opens m.locked 126 w.2 rest w.4 refl (opens_more starts opens_value rest start_opens o)))
+    mark_opens m.read_only 33 bytes w.0 w.1 refl (mark_opens m.shared 37 w.0 w.2.0 w.2.1 refl (mark_opens m.locked 126 w.2.0 rest w.2.2 refl (opens_more starts opens_value rest start_opens o)))
 
 -- ---- how a value is read whose inner values are read so
 
@@ -273,12 +273,12 @@ headed_complete one h k w bytes middle rest begun r e =
 
 pointer_complete : (one : Parse Tree) (element : Tree → Span) (inner : Inner one element) (f : Bytes) (ts : Items) (p : FnPtrType) (bytes rest : List ℕ) → PointerTail element f (list_of ts) p bytes rest → pointer_at one (sort_of p) bytes ≡ Some (pointer f ts p, rest)
 unfolding pointer_at
-pointer_complete one element inner f ts p bytes rest (a, name, b, sort, curry) =
+pointer_complete one element inner f ts p bytes rest (a, name, (b, sort, curry)) =
     rw (word_agrees.complete f bytes a name, type_complete p a b sort, (curry_agrees one element inner).complete (list_of ts) b rest curry, items_list ts) refl
 
 custom_complete : (n : ℕ) (z : ℤ) (bytes rest : List ℕ) → CustomTail n z bytes rest → custom_at bytes ≡ Some (custom n z, rest)
 unfolding custom_at
-custom_complete n z bytes rest (a, number, b, payload, close) =
+custom_complete n z bytes rest (a, number, (b, payload, close)) =
     let d = bracket_complete 41 b rest refl close in
     rw ((num_agrees 32).complete n bytes a number, integer_agrees.complete z a b payload, d.0, d.1) refl
 
@@ -319,9 +319,9 @@ kind_complete one element inner (array ts) bytes rest w =
     rw (begins_other 91 40 bytes w.0 refl w.1, begins_other 91 34 bytes w.0 refl w.1, begins_other 91 39 bytes w.0 refl w.1, begins_same 91 bytes w.0 w.1, drops_to 91 bytes w.0 w.1, (array_agrees one element inner).complete (list_of ts) w.0 rest w.2, items_list ts) refl
 kind_complete one element inner (object es) bytes rest w =
     rw (begins_other 123 40 bytes w.0 refl w.1, begins_other 123 34 bytes w.0 refl w.1, begins_other 123 39 bytes w.0 refl w.1, begins_other 123 91 bytes w.0 refl w.1, begins_same 123 bytes w.0 w.1, drops_to 123 bytes w.0 w.1, (members_agree one element inner.reads).complete (entries_of es) w.0 rest w.2, members_entries es) refl
-kind_complete one element inner (pointer f ts p) bytes rest (middle, r, after, e, w) =
+kind_complete one element inner (pointer f ts p) bytes rest (middle, r, (after, e, w)) =
     headed_complete one (heads.Pointer (sort_of p)) (pointer f ts p) (pointer_word p) bytes middle rest (sym (sorts_word p)) r (headed_pointer one element inner f ts p middle after rest e w)
-kind_complete one element inner (custom n z) bytes rest (middle, r, after, e, w) =
+kind_complete one element inner (custom n z) bytes rest (middle, r, (after, e, w)) =
     headed_complete one heads.Custom (custom n z) (codes "custom") bytes middle rest refl r (headed_custom one n z middle after rest e w)
 
 pub kind_agrees : (one : Parse Tree) (element : Tree → Span) (inner : Inner one element) → Agrees Kind (kind_at one) (kind element)
@@ -386,9 +386,9 @@ kind_shrinks element less (character c) bytes rest w = omega (arith, byte_shrink
 kind_shrinks element less (text s) bytes rest w = omega (arith, byte_shrinks 34 bytes w.1.0 w.1.1, letters_shrink 34 s w.1.0 rest w.1.2)
 kind_shrinks element less (array ts) bytes rest w = omega (arith, byte_shrinks 91 bytes w.0 w.1, each_shrinks Tree element less (list_of ts) w.0 w.2.0 w.2.1, bracket_shrinks 93 w.2.0 rest w.2.2)
 kind_shrinks element less (object es) bytes rest w = omega (arith, byte_shrinks 123 bytes w.0 w.1, each_shrinks (Bytes × Tree) (pair element) (pair_shrinks element less) w.2.1.0 w.0 w.2.0 w.2.1.2, bracket_shrinks 125 w.2.0 rest w.2.2)
-kind_shrinks element less (pointer f ts p) bytes rest (a, r, b, e, c, name, d, sort, g, curry, close) =
+kind_shrinks element less (pointer f ts p) bytes rest (a, r, (b, e, (c, name, (d, sort, (g, curry, close))))) =
     omega (arith, run_shrinks (pointer_word p) bytes a r, byte_shrinks 40 a b e, word_shrinks f b c name, pointer_shrinks p c d sort, each_shrinks Tree element less (list_of ts) d g curry, bracket_shrinks 41 g rest close)
-kind_shrinks element less (custom n z) bytes rest (a, r, b, e, c, number, d, payload, close) =
+kind_shrinks element less (custom n z) bytes rest (a, r, (b, e, (c, number, (d, payload, close)))) =
     omega (arith, run_shrinks (codes "custom") bytes a r, byte_shrinks 40 a b e, number_shrinks 32 n b c number, blanks_shrink c payload.0 payload.1, run_shrinks payload.2.0 payload.0 d payload.2.2, bracket_shrinks 41 d rest close)
 
 -- ---- values, by how deep they may be
@@ -428,7 +428,7 @@ value_dark bytes o = opens_dark opens_value bytes o refl refl
 
 tree_complete : (deep : ℕ) (d : Deep deep) (t : Tree) (bytes rest : List ℕ) → value_within (suc deep) t bytes rest → tree_at (suc deep) bytes ≡ Some (t, rest)
 unfolding tree_at value_within
-tree_complete deep d t bytes rest (here, gap, after, m, w) =
+tree_complete deep d t bytes rest (here, gap, (after, m, w)) =
     let o = tree_begins deep t here after rest m w in
     let k : marks_at (skip_blanks bytes) ≡ (t.marks, after) = ap marks_at (skips_to bytes here gap (value_dark here o)) ∙ marks_complete t.marks here after m (kind_opens (value_within deep) t.kind after rest w) in
     rw (k, (kind_agrees (tree_at deep) (value_within deep) d.inner).complete t.kind after rest w) refl
@@ -439,7 +439,7 @@ tree_shrinks deep d = λ t bytes rest w. omega (arith, blanks_shrink bytes w.0 w
 
 tree_opens : (deep : ℕ) (d : Deep deep) (t : Tree) (bytes rest : List ℕ) → value_within (suc deep) t bytes rest → Opens opens_value (skip_blanks bytes)
 unfolding value_within
-tree_opens deep d t bytes rest (here, gap, after, m, w) =
+tree_opens deep d t bytes rest (here, gap, (after, m, w)) =
     let o = tree_begins deep t here after rest m w in
     subst (λ (b : List ℕ). Opens opens_value b) (sym (skips_to bytes here gap (value_dark here o))) o
 
