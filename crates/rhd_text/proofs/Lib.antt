@@ -10,6 +10,7 @@ pub mod FlagLaws
 pub mod HeadLaws
 pub mod MapLaws
 pub mod ValueLaws
+pub mod WholeLaws
 pub mod ArgumentLaws
 pub mod OperandLaws
 pub mod RowLaws

@@ -1,5 +1,5 @@
 -- How operands are read, from the left.
-use Rattle.std.specs.Prelude.{ℕ, zero, suc, ℤ, ◌&&◌, Bool, true, false, List, [], ◌∷◌, ◌++◌, length, take, drop, Option, Some, None, nat_lt, ◌==◌, if◌then◌else◌, option_and_then, codes}
+use Rattle.std.specs.Prelude.{ℕ, zero, suc, ℤ, ◌&&◌, not, Bool, true, false, List, [], ◌∷◌, ◌++◌, length, take, drop, Option, Some, None, nat_lt, ◌==◌, if◌then◌else◌, option_and_then, codes}
 use Rattle.std.specs.List.{prefix_len}
 use Rattle.std.specs.Option.{option_map}
 use Rattle.std.specs.Str.{is_utf8, bytes_eq, chars}
@@ -274,6 +274,12 @@ tree_at (suc deep) bytes =
 -- the next value
 abbrev pub value_at : Parse Tree
 value_at bytes = tree_at 64 bytes
+
+-- the value that all of the bytes are
+unfoldable pub whole_value_at : List ℕ → Option Tree
+whole_value_at bytes = if not (is_utf8 bytes) then None else (do
+  t ← value_at bytes
+  if is_end t.1 then Some t.0 else None)
 
 -- ---- arguments
 
