@@ -1,5 +1,5 @@
 -- Words that begin values: what is read is what is written.
-use Rattle.std.proofs.Common.{◌≡◌, ℕ, ◌<◌, Bool, true, false, cond, eqb, ltb, ◌&&◌, ◌||◌, List, [], ◌∷◌, ◌++◌, length, drop, Option, Some, None, refl, sym, ap, subst, ◌∙◌, arith, ℤ, inl, inr}
+use Rattle.std.proofs.Common.{◌≡◌, ℕ, ◌<◌, Bool, true, false, cond, eqb, ltb, ◌||◌, List, [], ◌∷◌, ◌++◌, length, Option, Some, None, refl, sym, ap, subst, ◌∙◌, arith, ℤ, inl, inr}
 use Rattle.std.specs.Prelude.{codes}
 use Rattle.std.specs.List.{list_all}
 use Rattle.std.specs.Char.{is_ascii_digit}
@@ -15,8 +15,8 @@ use Rattle.rhd_text.specs.declared.heads.Head.TheVariants as heads
 use Rattle.rhd_text.specs.declared.heads.Sort.{Sort}
 use Rattle.rhd_text.specs.declared.heads.Sort.TheVariants as sorts
 use Rattle.rhd_text.specs.Bytes.{is_blank, begins, is_digits, is_signed_digits, fitting_int, num_of, int_of}
-use Rattle.rhd_text.specs.Spans.{Span, ◌▸◌, blanks, bare, run, number, number_run, truth, pointer_word, pointer_number}
-use Rattle.rhd_text.specs.Reading.{◌>>=◌, Parse, run_at, word_at, num_at, made, head_of, head_at, integer_at, type_at}
+use Rattle.rhd_text.specs.Spans.{◌▸◌, blanks, bare, run, number, number_run, truth, pointer_word, pointer_number}
+use Rattle.rhd_text.specs.Reading.{◌>>=◌, Parse, run_at, word_at, num_at, head_of, head_at, integer_at, type_at}
 use Rattle.rhd_text.proofs.Agrees.{Agrees, bind_some, same_some, some_pair, and_parts}
 use Rattle.rhd_text.proofs.WordLaws.{Stops, run_agrees, run_stops, bare_agrees, meaning_agrees, head_stop}
 use Rattle.rhd_text.proofs.ByteLaws.{not_both, spaced}

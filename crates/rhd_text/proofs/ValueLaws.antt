@@ -11,9 +11,9 @@ use Rattle.rhd_text.specs.declared.heads.Head.{Head}
 use Rattle.rhd_text.specs.declared.heads.Head.TheVariants as heads
 use Rattle.rhd_text.specs.declared.heads.Sort.{Sort}
 use Rattle.rhd_text.specs.Bytes.{is_blank, begins, int_of}
-use Rattle.rhd_text.specs.Spans.{Span, ◌▸◌, blanks, byte, bracket, run, word, number, number_run, quotation, quoted_character, each, mark, marks, pair, pairs, truth, pointer_word, pointer_number, kind, value_within, value}
+use Rattle.rhd_text.specs.Spans.{Span, ◌▸◌, blanks, bracket, run, word, number, number_run, each, mark, marks, pair, pairs, truth, pointer_word, pointer_number, kind, value_within, value}
 use Rattle.rhd_text.specs.Reading.{◌>>=◌, Parse, skip_blanks, is_end, many, comes, after_bracket, quoted_at, wording_at, num_at, made, inside, mark_at, marks_at, only_character, character_at, head_at, integer_at, type_at, members_at, items_at, unit_at, pointer_at, custom_at, headed_at, kind_at, tree_at, value_at}
-use Rattle.rhd_text.proofs.Agrees.{Agrees, bind_some, same_some, some_pair, cond_some}
+use Rattle.rhd_text.proofs.Agrees.{Agrees, bind_some, same_some, some_pair}
 use Rattle.rhd_text.proofs.WordLaws.{Stops, skipped, skips_to, blanks_shrink, run_shrinks, bare_shrinks}
 use Rattle.rhd_text.proofs.ByteLaws.{begins_is, begins_same, begins_other, drops_to, run_begins, byte_shrinks, bracket_sound, bracket_complete, bracket_shrinks}
 use Rattle.rhd_text.proofs.QuoteLaws.{tails_agree, letters_shrink, word_agrees, words_go}

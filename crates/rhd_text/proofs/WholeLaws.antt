@@ -1,5 +1,5 @@
 -- One value by itself: what is read is what is written.
-use Rattle.std.proofs.Common.{◌≡◌, ℕ, Bool, true, false, cond, not, List, [], Option, Some, None, refl, sym, ap, subst, ◌∙◌}
+use Rattle.std.proofs.Common.{◌≡◌, ℕ, Bool, true, false, cond, not, List, Option, Some, None, refl, sym, subst, ◌∙◌}
 use Rattle.std.specs.Str.{is_utf8}
 use Rattle.rhd_value.specs.Tree.{Tree}
 use Rattle.rhd_text.specs.Spans.{value, IsValue}
