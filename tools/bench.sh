@@ -1,7 +1,8 @@
 #!/usr/bin/env bash
 # Times the program on texts of 20,000 and 200,000 lines, half of them `register` and half `call`,
-# over few names, and on one call whose native asks 10,000 and 100,000 others; prints the seconds of
-# both and their ratio, which is near 10 where it is linear.
+# over few names; on one call whose native asks 10,000 and 100,000 others; and on texts of wide and
+# deep values of 0.3 and 3 MB, which are read, passed to natives, and printed. Prints the seconds of
+# both sizes and their ratio, which is near 10 where it is linear.
 set -eu
 top=$(cd "$(dirname "$0")/.." && pwd)
 work=$(mktemp -d)
@@ -38,6 +39,21 @@ asked() {
     printf 'register g 0\nregister h 13\ncall h "g" %s\n' "$1"
 }
 
+values() {
+    awk -v lines="$1" 'BEGIN {
+        for (i = 0; i < 100; i++) wide = wide " " i " \"t\\n" i "\" {b [true ()] a !%" i "}"
+        for (i = 0; i < 40; i++) deep = deep (i % 2 ? "{a " : "[")
+        deep = deep "1"
+        for (i = 39; i >= 0; i--) deep = deep (i % 2 ? "}" : "]")
+        print "register s 9"
+        print "register p 8"
+        for (i = 0; i < lines / 2; i++) {
+            print "ref s [" wide "]"
+            print "method p [" deep " [" wide "]]"
+        }
+    }'
+}
+
 compare() {
     local small large
     small=$(best "$work/small")
@@ -52,3 +68,6 @@ compare lines 20,000 200,000
 asked 10000 >"$work/small"
 asked 100000 >"$work/large"
 compare 'calls asked by one native' 10,000 100,000
+values 100 >"$work/small"
+values 1000 >"$work/large"
+compare 'lines of values' 100 1,000

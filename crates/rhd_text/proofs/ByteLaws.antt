@@ -19,7 +19,7 @@ pub begins_is : (c : ℕ) (bytes : List ℕ) → 0 < c → begins c bytes ≡ tr
 begins_is c [] some e = let f : eqb 0 c ≡ false = ne_eqb _ _ (λ q. omega (arith, q, some)) in absurd cc
 begins_is c (b ∷ bytes) some e = ap (λ (x : ℕ). x ∷ bytes) (eqb-true b c e)
 
-eqb_self : (c : ℕ) → eqb c c ≡ true
+pub eqb_self : (c : ℕ) → eqb c c ≡ true
 eqb_self c = elim (eqb_tells c c) [
   | inl q ↦ q.0
   | inr q ↦ absurd (q.1 refl)

@@ -7,7 +7,10 @@ pub mod ListLaws
 pub mod ByteLaws
 pub mod QuoteLaws
 pub mod FlagLaws
+pub mod HeadLaws
+pub mod MapLaws
 pub mod ValueLaws
+pub mod WholeLaws
 pub mod ArgumentLaws
 pub mod OperandLaws
 pub mod RowLaws

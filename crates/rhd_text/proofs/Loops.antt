@@ -1,7 +1,9 @@
 -- Reading one after the other, as a loop does.
 use Rattle.std.proofs.Common.{◌≡◌, ℕ, zero, suc, ◌-◌, ◌<◌, Bool, false, List, [], ◌∷◌, ◌++◌, Option, Some, refl, arith}
 use Rattle.std.specs.Option.{option_map}
-use Rattle.rhd_text.specs.Reading.{Parse, many}
+use Rattle.rhd_value.specs.Tree.{Bytes, Tree}
+use Rattle.rhd_text.specs.Maps.{put_new}
+use Rattle.rhd_text.specs.Reading.{Parse, many, comes, wording_at, entries_at}
 
 -- what was read before, and what is still read
 abbrev pub with_text : List ℕ → Option (List ℕ × List ℕ) → Option (List ℕ × List ℕ)
@@ -11,3 +13,8 @@ pub turn : {A : Type 0} (stop : List ℕ → Bool) (one : Parse A) (found : List
 unfolding many
 turn stop one found zero bytes x after some more h = absurd (omega arith)
 turn stop one found (suc n) bytes x after some more h = let k : suc n - 1 ≡ n = omega arith in rw (k, more, h) refl
+
+pub entry_turn : (one : Parse Tree) (es more : List (Bytes × Tree)) (most : ℕ) (bytes name middle after : List ℕ) (t : Tree) → 0 < most → comes 125 bytes ≡ false → wording_at bytes ≡ Some (name, middle) → one middle ≡ Some (t, after) → put_new (name, t) es ≡ Some more → entries_at one es most bytes ≡ entries_at one more (most - 1) after
+unfolding entries_at
+entry_turn one es more zero bytes name middle after t some open_still n v p = absurd (omega arith)
+entry_turn one es more (suc k) bytes name middle after t some open_still n v p = let e : suc k - 1 ≡ k = omega arith in rw (e, open_still, n, v, p) refl

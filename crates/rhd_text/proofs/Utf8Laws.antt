@@ -7,7 +7,7 @@ use Rattle.std.proofs.lemmas.Bool.{eqb-true}
 use Rattle.std.proofs.lemmas.Bool.Decides.{nat_tests}
 use Rattle.std.proofs.lemmas.Str.{IsUtf8-append, IsUtf8-take, IsUtf8-drop, IsUtf8-from_ascii, IsUtf8-from_is_utf8, IsCharBoundary-before_ascii, IsCharBoundary-after_ascii}
 use Rattle.rhd_text.specs.Bytes.{is_blank, is_bracket, may_end, unescaped}
-use Rattle.rhd_text.specs.Spans.{◌▸◌, byte, letters, run}
+use Rattle.rhd_text.specs.Spans.{◌▸◌, byte, letters_to, letters, run}
 use Rattle.rhd_text.proofs.Agrees.{same_some}
 use Rattle.rhd_text.proofs.NumberLaws.{ascii-cons, is_text}
 
@@ -58,21 +58,21 @@ escape_small e c h =
 
 -- ---- quoted texts
 
-letters_utf8 : (s p m rest : List ℕ) → letters s m rest → IsUtf8 (p ++ m) → IsUtf8 (p ++ s)
-letters_utf8 [] p m rest l u = subst (λ (x : List ℕ). IsUtf8 x) (sym (append-nil p)) (front p 34 rest (subst (λ (x : List ℕ). IsUtf8 (p ++ x)) l u) (omega arith))
-letters_utf8 (c ∷ s) p m rest (middle, inl l, more) u =
+letters_utf8 : (k : ℕ) (small : k < 128) (s p m rest : List ℕ) → letters_to k s m rest → IsUtf8 (p ++ m) → IsUtf8 (p ++ s)
+letters_utf8 k small [] p m rest l u = subst (λ (x : List ℕ). IsUtf8 x) (sym (append-nil p)) (front p k rest (subst (λ (x : List ℕ). IsUtf8 (p ++ x)) l u) small)
+letters_utf8 k small (c ∷ s) p m rest (middle, inl l, more) u =
     let v : IsUtf8 ((p ++ c ∷ []) ++ middle) = subst (λ (x : List ℕ). IsUtf8 x) (sym (append_assoc p (c ∷ []) middle)) (subst (λ (x : List ℕ). IsUtf8 (p ++ x)) l.2 u) in
-    subst (λ (x : List ℕ). IsUtf8 x) (append_assoc p (c ∷ []) s) (letters_utf8 s (p ++ c ∷ []) middle rest more v)
-letters_utf8 (c ∷ s) p m rest (middle, inr l, more) u =
+    subst (λ (x : List ℕ). IsUtf8 x) (append_assoc p (c ∷ []) s) (letters_utf8 k small s (p ++ c ∷ []) middle rest more v)
+letters_utf8 k small (c ∷ s) p m rest (middle, inr l, more) u =
     let v : IsUtf8 (p ++ 92 ∷ (l.0 ∷ middle)) = subst (λ (x : List ℕ). IsUtf8 (p ++ x)) l.2 u in
-    let small = escape_small l.0 c l.1 in
-    let after : IsUtf8 middle = tail l.0 middle (back p 92 (l.0 ∷ middle) v (omega arith)) small.0 in
-    IsUtf8-append p (c ∷ s) (front p 92 (l.0 ∷ middle) v (omega arith)) (one_more c s small.1 (letters_utf8 s [] middle rest more after))
+    let tiny = escape_small l.0 c l.1 in
+    let after : IsUtf8 middle = tail l.0 middle (back p 92 (l.0 ∷ middle) v (omega arith)) tiny.0 in
+    IsUtf8-append p (c ∷ s) (front p 92 (l.0 ∷ middle) v (omega arith)) (one_more c s tiny.1 (letters_utf8 k small s [] middle rest more after))
 
 pub quoted_utf8 : (line before bytes rest s : List ℕ) → is_utf8 line ≡ true → line ≡ before ++ bytes → (byte 34 ▸ letters s) bytes rest → is_utf8 s ≡ true
 quoted_utf8 line before bytes rest s h e w =
     let u : IsUtf8 (before ++ 34 ∷ w.0) = subst (λ (x : List ℕ). IsUtf8 (before ++ x)) w.1 (subst (λ (x : List ℕ). IsUtf8 x) e (IsUtf8-from_is_utf8 line h)) in
-    is_text s (letters_utf8 s [] w.0 rest w.2 (back before 34 w.0 u (omega arith)))
+    is_text s (letters_utf8 34 (omega arith) s [] w.0 rest w.2 (back before 34 w.0 u (omega arith)))
 
 -- ---- unquoted texts
 

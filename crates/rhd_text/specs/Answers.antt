@@ -1,10 +1,12 @@
 -- What the readers answer.
-use Rattle.std.specs.Prelude.{◌≡◌, ℕ, Option, Some, None, Result, Ok, Err}
+use Rattle.std.specs.Prelude.{◌≡◌, ℕ, List, Option, Some, None, Result, Ok, Err}
 use Rattle.rhd_text.specs.declared.fault.TextFault.{TextFault}
 use Rattle.rhd_text.specs.declared.fault.TextFault.TheVariants.{BadLine, OutOfMemory}
 use Rattle.rhd_text.specs.declared.fault.Stop.{Stop}
 use Rattle.rhd_text.specs.declared.fault.Stop.TheVariants as stops
 use Rattle.rhd_text.specs.declared.session.SessionText.{SessionText}
+use Rattle.rhd_value.specs.Tree.{Tree}
+use Rattle.rhd_text.specs.Spans.{IsValue}
 
 -- a reader stopped where its definition gives nothing, unless memory ran out
 abbrev pub Stops : {Y : Type 0} → Stop → Option Y → Type 0
@@ -26,3 +28,9 @@ abbrev pub Reads : Result SessionText TextFault → Result SessionText ℕ → T
 Reads (Ok t) said = said ≡ Ok t
 Reads (Err (BadLine n)) said = said ≡ Err n
 Reads (Err OutOfMemory) said = Unit {0}
+
+-- the value that the bytes are, and none exactly where they are none, unless memory ran out
+abbrev pub ReadsValue : {E : Type 0} → List ℕ → Result (Option Tree) E → Type 0
+ReadsValue bytes (Ok (Some t)) = IsValue t bytes
+ReadsValue bytes (Ok None) = (t : Tree) → IsValue t bytes → ⊥
+ReadsValue bytes (Err e) = Unit {0}

@@ -1,9 +1,17 @@
 -- How operands are read, from the left.
-use Rattle.std.specs.Prelude.{ℕ, zero, suc, ◌&&◌, Bool, true, false, List, [], ◌∷◌, ◌++◌, length, take, drop, Option, Some, None, nat_lt, ◌==◌, if◌then◌else◌, option_and_then}
+use Rattle.std.specs.Prelude.{ℕ, zero, suc, ℤ, ◌&&◌, not, Bool, true, false, List, [], ◌∷◌, ◌++◌, length, take, drop, Option, Some, None, nat_lt, ◌==◌, if◌then◌else◌, option_and_then, codes}
 use Rattle.std.specs.List.{prefix_len}
-use Rattle.std.specs.Str.{is_utf8, bytes_eq}
-use Rattle.rhd_value.specs.Tree.{Tree, unit, integer, text}
-use Rattle.rhd_value.specs.Kinds.{plain}
+use Rattle.std.specs.Option.{option_map}
+use Rattle.std.specs.Str.{is_utf8, bytes_eq, chars}
+use Rattle.rhd_value.specs.declared.tag.Marks.{Marks}
+use Rattle.rhd_value.specs.declared.tag.FnPtrType.{FnPtrType}
+use Rattle.rhd_value.specs.declared.tag.FnPtrType.TheVariants as types
+use Rattle.rhd_value.specs.Tree.{Bytes, Tree, Kind, unit, boolean, integer, character, text, array, object, pointer, custom, items_of, members_of}
+use Rattle.rhd_text.specs.declared.heads.Head.{Head}
+use Rattle.rhd_text.specs.declared.heads.Head.TheVariants as heads
+use Rattle.rhd_text.specs.declared.heads.Sort.{Sort}
+use Rattle.rhd_text.specs.declared.heads.Sort.TheVariants as sorts
+use Rattle.rhd_text.specs.Maps.{put_new}
 use Rattle.rhd_text.specs.Bytes.{is_blank, is_word_byte, may_end, begins, unescaped, is_name, num_of, int_of, given_of}
 use Rattle.rhd_text.specs.declared.arguments.Argument.{Argument}
 use Rattle.rhd_text.specs.declared.arguments.Argument.TheVariants as argument
@@ -72,23 +80,23 @@ put b read = do
   r ← read
   Some (c ∷ r.0, r.1)
 
-abbrev pub plain_byte : ℕ → List ℕ → Option (List ℕ × List ℕ) → Option (List ℕ × List ℕ)
-plain_byte b bytes read = if b == 34 then Some ([], bytes) else (if b == 92 then read else put (Some b) read)
+abbrev pub plain_byte : ℕ → ℕ → List ℕ → Option (List ℕ × List ℕ) → Option (List ℕ × List ℕ)
+plain_byte quote b bytes read = if b == quote then Some ([], bytes) else (if b == 92 then read else put (Some b) read)
 
 -- a text up to the quotation mark that ends it; escaped says whether a backslash stands before the bytes
-abbrev pub text_at : Bool → Parse (List ℕ)
-text_at escaped [] = None
-text_at true (b ∷ bytes) = put (unescaped b) (text_at false bytes)
-text_at false (b ∷ bytes) = plain_byte b bytes (text_at (b == 92) bytes)
+abbrev pub text_at : ℕ → Bool → Parse (List ℕ)
+text_at quote escaped [] = None
+text_at quote true (b ∷ bytes) = put (unescaped b) (text_at quote false bytes)
+text_at quote false (b ∷ bytes) = plain_byte quote b bytes (text_at quote (b == 92) bytes)
 
 -- these bytes, where they are UTF-8
 abbrev pub text_of : List ℕ → Option (List ℕ)
 text_of w = if is_utf8 w then Some w else None
 
--- the rest of a quoted text, after the quotation mark that begins it
-unfoldable pub quoted_at : Parse (List ℕ)
-quoted_at bytes = do
-  t ← text_at false bytes
+-- the rest of a text between two of these quotation marks, after the first
+unfoldable pub quoted_at : ℕ → Parse (List ℕ)
+quoted_at quote bytes = do
+  t ← text_at quote false bytes
   if may_end t.1 then (do
     s ← text_of t.0
     Some (s, t.1)) else None
@@ -102,41 +110,13 @@ plain_text_at bytes = do
 
 -- a text, quoted or not, before which no blank is left
 unfoldable pub text_here : Parse (List ℕ)
-text_here bytes = if begins 34 bytes then quoted_at (drop 1 bytes) else plain_text_at bytes
+text_here bytes = if begins 34 bytes then quoted_at 34 (drop 1 bytes) else plain_text_at bytes
 
 -- the next text, quoted or not
 unfoldable pub wording_at : Parse (List ℕ)
 wording_at bytes = text_here (skip_blanks bytes)
 
--- ---- values
-
--- the rest of `()`, after its first byte
-abbrev pub unit_at : Parse Tree
-unit_at bytes = if comes 41 bytes then Some (plain unit, after_bracket bytes) else None
-
--- a run as an integer
-abbrev pub int_at : Parse Tree
-int_at bytes = do
-  w ← run_at bytes
-  z ← int_of w.0
-  Some (plain (integer z), w.1)
-
--- the rest of a quoted text as a value
-abbrev pub text_value_at : Parse Tree
-text_value_at bytes = do
-  s ← quoted_at bytes
-  Some (plain (text s.0), s.1)
-
--- a value before which no blank is left
-unfoldable pub value_here : Parse Tree
-value_here bytes =
-    if begins 40 bytes then unit_at (drop 1 bytes)
-    else (if begins 34 bytes then text_value_at (drop 1 bytes)
-    else int_at bytes)
-
--- the next value
-unfoldable pub value_at : Parse Tree
-value_at bytes = value_here (skip_blanks bytes)
+-- ---- lists
 
 -- Elements until the bytes stop them. The number bounds the turns: the count of the bytes is always enough.
 unfoldable pub many : {A : Type 0} → (List ℕ → Bool) → Parse A → List A → ℕ → Parse (List A)
@@ -150,6 +130,156 @@ unfoldable pub texts_at : Parse (List (List ℕ))
 texts_at bytes = if comes 40 bytes then (do
   x ← many (comes 41) wording_at [] (length (after_bracket bytes)) (after_bracket bytes)
   Some (x.0, after_bracket x.1)) else None
+
+-- ---- values
+
+-- one thing, and then another
+abbrev pub both : {A B : Type 0} → Parse A → Parse B → Parse (A × B)
+both p q bytes = do
+  x ← p bytes
+  y ← q x.1
+  Some ((x.0, y.0), y.1)
+
+-- what is made of a thing that is read
+abbrev pub made : {A B : Type 0} → (A → B) → Parse A → Parse B
+made f p bytes = do
+  x ← p bytes
+  Some (f x.0, x.1)
+
+-- what stands in a round bracket that comes next, before which no blank stands
+abbrev pub inside : {A : Type 0} → Parse A → Parse A
+inside p bytes = if begins 40 bytes then p (drop 1 bytes) else None
+
+-- whether a mark comes next, and the bytes after it
+abbrev pub mark_at : ℕ → List ℕ → Bool × List ℕ
+mark_at b bytes = if begins b bytes then (true, drop 1 bytes) else (false, bytes)
+
+unfoldable pub marks_at : List ℕ → Marks × List ℕ
+marks_at bytes =
+    let a = mark_at 33 bytes in
+    let b = mark_at 37 a.1 in
+    let c = mark_at 126 b.1 in
+    (record { read_only = a.0; shared = b.0; locked = c.0 }, c.1)
+
+-- the only character of a text
+abbrev pub only_character : List ℕ → Option ℕ
+only_character [] = None
+only_character (c ∷ []) = Some c
+only_character (c ∷ (d ∷ cs)) = None
+
+-- the rest of a quoted character
+unfoldable pub character_at : Parse ℕ
+character_at bytes = do
+  s ← quoted_at 39 bytes
+  c ← only_character (chars s.0)
+  Some (c, s.1)
+
+-- what a word begins: a truth value, an integer, or what stands in brackets after it
+unfoldable pub head_of : List ℕ → Option Head
+head_of w =
+    if bytes_eq w (codes "true") then Some (heads.Truth true)
+    else (if bytes_eq w (codes "false") then Some (heads.Truth false)
+    else (if bytes_eq w (codes "fn") then Some (heads.Pointer sorts.Normal)
+    else (if bytes_eq w (codes "fn*") then Some (heads.Pointer sorts.Script)
+    else (if bytes_eq w (codes "fn#") then Some (heads.Pointer sorts.Native)
+    else (if bytes_eq w (codes "custom") then Some heads.Custom
+    else option_map (λ z. heads.Int z) (int_of w))))))
+
+-- a word that begins a value
+unfoldable pub head_at : Parse Head
+head_at bytes = do
+  w ← run_at bytes
+  h ← head_of w.0
+  Some (h, w.1)
+
+-- the next integer
+unfoldable pub integer_at : Parse ℤ
+integer_at bytes = do
+  w ← word_at bytes
+  z ← int_of w.0
+  Some (z, w.1)
+
+-- the type of a pointer of this sort
+unfoldable pub type_at : Sort → Parse FnPtrType
+type_at sorts.Normal bytes = Some (types.Normal, bytes)
+type_at sorts.Script bytes = made (λ n. types.Script n) (num_at 64) bytes
+type_at sorts.Native bytes = made (λ n. types.Native (record { 0 = n })) (num_at 32) bytes
+
+-- entries that are put into a map, until the bracket that ends it; the number bounds the turns
+unfoldable pub entries_at : Parse Tree → List (Bytes × Tree) → ℕ → Parse (List (Bytes × Tree))
+entries_at one es zero bytes = if comes 125 bytes then Some (es, bytes) else None
+entries_at one es (suc most) bytes = if comes 125 bytes then Some (es, bytes) else (do
+  e ← both wording_at one bytes
+  more ← put_new e.0 es
+  entries_at one more most e.1)
+
+-- the rest of a map, after its first bracket
+unfoldable pub members_at : Parse Tree → Parse (List (Bytes × Tree))
+members_at one bytes = do
+  es ← entries_at one [] (length bytes) bytes
+  Some (es.0, after_bracket es.1)
+
+-- values, and the bracket that ends them
+unfoldable pub items_at : ℕ → Parse Tree → Parse (List Tree)
+items_at close one bytes = do
+  ts ← many (comes close) one [] (length bytes) bytes
+  Some (ts.0, after_bracket ts.1)
+
+-- the rest of `()`
+abbrev pub unit_at : Parse Kind
+unit_at bytes = if comes 41 bytes then Some (unit, after_bracket bytes) else None
+
+-- the rest of a pointer, after its first bracket
+unfoldable pub pointer_at : Parse Tree → Sort → Parse Kind
+pointer_at one sort bytes = do
+  f ← wording_at bytes
+  p ← type_at sort f.1
+  ts ← items_at 41 one p.1
+  Some (pointer f.0 (items_of ts.0) p.0, ts.1)
+
+-- the rest of a custom value, after its first bracket
+unfoldable pub custom_at : Parse Kind
+custom_at bytes = do
+  n ← num_at 32 bytes
+  z ← integer_at n.1
+  if comes 41 z.1 then Some (custom n.0 z.0, after_bracket z.1) else None
+
+-- the rest of a value that begins with a word
+unfoldable pub headed_at : Parse Tree → Head → Parse Kind
+headed_at one (heads.Truth b) bytes = Some (boolean b, bytes)
+headed_at one (heads.Int z) bytes = Some (integer z, bytes)
+headed_at one (heads.Pointer sort) bytes = inside (pointer_at one sort) bytes
+headed_at one heads.Custom bytes = inside custom_at bytes
+
+-- a value whose marks are read, given how the values inside it are read
+unfoldable pub kind_at : Parse Tree → Parse Kind
+kind_at one bytes =
+    if begins 40 bytes then unit_at (drop 1 bytes)
+    else (if begins 34 bytes then made (λ s. text s) (quoted_at 34) (drop 1 bytes)
+    else (if begins 39 bytes then made (λ c. character c) character_at (drop 1 bytes)
+    else (if begins 91 bytes then made (λ ts. array (items_of ts)) (items_at 93 one) (drop 1 bytes)
+    else (if begins 123 bytes then made (λ es. object (members_of es)) (members_at one) (drop 1 bytes)
+    else (do
+      h ← head_at bytes
+      headed_at one h.0 h.1)))))
+
+-- the next value, so deep at most
+unfoldable pub tree_at : ℕ → Parse Tree
+tree_at zero bytes = None
+tree_at (suc deep) bytes =
+    let m = marks_at (skip_blanks bytes) in (do
+      k ← kind_at (tree_at deep) m.1
+      Some (record { kind = k.0; marks = m.0 }, k.1))
+
+-- the next value
+abbrev pub value_at : Parse Tree
+value_at bytes = tree_at 64 bytes
+
+-- the value that all of the bytes are
+unfoldable pub whole_value_at : List ℕ → Option Tree
+whole_value_at bytes = if not (is_utf8 bytes) then None else (do
+  t ← value_at bytes
+  if is_end t.1 then Some t.0 else None)
 
 -- ---- arguments
 

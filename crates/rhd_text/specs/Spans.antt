@@ -1,9 +1,12 @@
 -- HOW THINGS ARE WRITTEN. A span says of some bytes, and of the bytes that are left, what is written between them.
-use Rattle.std.specs.Prelude.{◌≡◌, ◌≢◌, ◌⊎◌, ◌<◌, ℕ, ℤ, Bool, true, false, List, [], ◌∷◌, ◌++◌, length, Option, Some}
+use Rattle.std.specs.Prelude.{◌≡◌, ◌≢◌, ◌⊎◌, ◌<◌, ℕ, zero, suc, ℤ, Bool, true, false, List, [], ◌∷◌, ◌++◌, length, Option, Some, codes}
 use Rattle.std.specs.List.{list_all}
-use Rattle.std.specs.Str.{is_utf8}
-use Rattle.rhd_value.specs.Tree.{Kind, unit, integer, text, Tree}
-use Rattle.rhd_value.specs.Kinds.{no_marks}
+use Rattle.std.specs.Str.{is_utf8, chars}
+use Rattle.rhd_value.specs.declared.tag.Marks.{Marks}
+use Rattle.rhd_value.specs.declared.tag.FnPtrType.{FnPtrType}
+use Rattle.rhd_value.specs.declared.tag.FnPtrType.TheVariants.{Normal, Script, Native}
+use Rattle.rhd_value.specs.Tree.{Bytes, Kind, unit, boolean, integer, character, text, array, object, pointer, custom, Tree, list_of, entries_of}
+use Rattle.rhd_text.specs.Maps.{put_each}
 use Rattle.rhd_text.specs.Bytes.{is_blank, is_word_byte, may_end, unescaped, is_name, num_of, int_of, given_of}
 use Rattle.rhd_text.specs.declared.arguments.Argument.{Argument}
 use Rattle.rhd_text.specs.declared.arguments.Argument.TheVariants as one
@@ -68,18 +71,29 @@ number bits = meant (num_of bits)
 
 -- ---- quoted texts
 
--- a byte of a quoted text, by itself or after a backslash
-abbrev pub letter : ℕ → Span
-letter c bytes rest = ((c ≢ 34) × (c ≢ 92) × (bytes ≡ c ∷ rest)) ⊎ ((e : ℕ) × (unescaped e ≡ Some c) × (bytes ≡ 92 ∷ (e ∷ rest)))
+-- a byte of a text between two of these quotation marks, by itself or after a backslash
+abbrev pub letter : ℕ → ℕ → Span
+letter quote c bytes rest = ((c ≢ quote) × (c ≢ 92) × (bytes ≡ c ∷ rest)) ⊎ ((e : ℕ) × (unescaped e ≡ Some c) × (bytes ≡ 92 ∷ (e ∷ rest)))
 
 -- these bytes, and then the quotation mark that ends them
-abbrev pub letters : List ℕ → Span
-letters [] = byte 34
-letters (c ∷ cs) = letter c ▸ letters cs
+abbrev pub letters_to : ℕ → List ℕ → Span
+letters_to quote [] = byte quote
+letters_to quote (c ∷ cs) = letter quote c ▸ letters_to quote cs
 
--- a text in UTF-8 between quotation marks, after which stands the end of the line, a blank or a bracket
+abbrev pub letters : List ℕ → Span
+letters = letters_to 34
+
+-- a text in UTF-8 between two of these quotation marks, after which stands the end of the line, a blank or a bracket
+abbrev pub quoted_in : ℕ → List ℕ → Span
+quoted_in quote s bytes rest = (is_utf8 s ≡ true) × (byte quote ▸ letters_to quote s) bytes rest × (may_end rest ≡ true)
+
+-- a text between "
 abbrev pub quotation : List ℕ → Span
-quotation s bytes rest = (is_utf8 s ≡ true) × (byte 34 ▸ letters s) bytes rest × (may_end rest ≡ true)
+quotation = quoted_in 34
+
+-- a character: a text of this one between '
+abbrev pub quoted_character : ℕ → Span
+quoted_character c bytes rest = (s : List ℕ) × (chars s ≡ c ∷ []) × quoted_in 39 s bytes rest
 
 -- an unquoted text in UTF-8
 abbrev pub unquoted : List ℕ → Span
@@ -88,23 +102,6 @@ unquoted s bytes rest = (is_utf8 s ≡ true) × run s bytes rest
 -- a text, quoted or not
 abbrev pub word : List ℕ → Span
 word s = blanks ▸ either (unquoted s) (quotation s)
-
--- ---- values
-
--- the run of an integer
-abbrev pub number_run : ℤ → Span
-number_run z bytes rest = (w : List ℕ) × (int_of w ≡ Some z) × run w bytes rest
-
--- each kind of value: `()`, an integer, a quoted text; no other is written yet
-abbrev pub kind : Kind → Span
-kind unit = byte 40 ▸ bracket 41
-kind (integer z) = number_run z
-kind (text s) = quotation s
-kind _ = λ bytes rest. ⊥
-
--- a value, without marks
-abbrev pub value : Tree → Span
-value t = blanks ▸ (λ bytes rest. (t.marks ≡ no_marks) × kind t.kind bytes rest)
 
 -- ---- lists
 
@@ -116,6 +113,71 @@ each span (x ∷ xs) = span x ▸ each span xs
 -- texts between round brackets
 abbrev pub words : List (List ℕ) → Span
 words ws = bracket 40 ▸ (each word ws ▸ bracket 41)
+
+-- ---- values
+
+-- a mark, or none
+abbrev pub mark : ℕ → Bool → Span
+mark b true = byte b
+mark b false = nothing
+
+-- the marks: `!` read-only, `%` shared, `~` locked, in this order
+abbrev pub marks : Marks → Span
+marks m = mark 33 m.read_only ▸ (mark 37 m.shared ▸ mark 126 m.locked)
+
+abbrev pub truth : Bool → List ℕ
+truth true = codes "true"
+truth false = codes "false"
+
+-- the run of an integer
+abbrev pub number_run : ℤ → Span
+number_run z bytes rest = (w : List ℕ) × (int_of w ≡ Some z) × run w bytes rest
+
+-- a name and its value
+abbrev pub pair : (Tree → Span) → Bytes × Tree → Span
+pair element e = word e.0 ▸ element e.1
+
+-- the names and values of a map, in any order, and no name twice
+abbrev pub pairs : (Tree → Span) → List (Bytes × Tree) → Span
+pairs element es bytes rest = (ps : List (Bytes × Tree)) × (put_each [] ps ≡ Some es) × each (pair element) ps bytes rest
+
+-- how a pointer of each sort begins
+abbrev pub pointer_word : FnPtrType → List ℕ
+pointer_word Normal = codes "fn"
+pointer_word (Script n) = codes "fn*"
+pointer_word (Native id) = codes "fn#"
+
+-- what stands after the pointer's name: the number of parameters, or that of the native
+abbrev pub pointer_number : FnPtrType → Span
+pointer_number Normal = nothing
+pointer_number (Script n) = number 64 n
+pointer_number (Native id) = number 32 id.0
+
+-- each kind of value, given how the values inside it are written
+abbrev pub kind : (Tree → Span) → Kind → Span
+kind element unit = byte 40 ▸ bracket 41
+kind element (boolean b) = run (truth b)
+kind element (integer z) = number_run z
+kind element (character c) = quoted_character c
+kind element (text s) = quotation s
+kind element (array ts) = byte 91 ▸ (each element (list_of ts) ▸ bracket 93)
+kind element (object es) = byte 123 ▸ (pairs element (entries_of es) ▸ bracket 125)
+kind element (pointer f ts typ) = run (pointer_word typ) ▸ (byte 40 ▸ (word f ▸ (pointer_number typ ▸ (each element (list_of ts) ▸ bracket 41))))
+kind element (custom n z) = run (codes "custom") ▸ (byte 40 ▸ (number 32 n ▸ ((blanks ▸ number_run z) ▸ bracket 41)))
+
+-- a value that is so deep at most, where one that has no value inside it is 1 deep
+unfoldable pub value_within : ℕ → Tree → Span
+value_within zero t = λ bytes rest. ⊥
+value_within (suc deep) t = blanks ▸ (marks t.marks ▸ kind (value_within deep) t.kind)
+
+-- a value, at most 64 deep
+abbrev pub value : Tree → Span
+value t = value_within 64 t
+
+-- bytes that are one value, in UTF-8
+pub record IsValue (t : Tree) (bytes : List ℕ) : Type 0 where
+  pub utf8 : is_utf8 bytes ≡ true
+  pub written : (value t ▸ blanks) bytes []
 
 -- ---- arguments
 

@@ -5,7 +5,8 @@ ghost use Rattle.rhd_text.specs.declared.line.Line.{Line};
 ghost use Rattle.rhd_text.specs.declared.session.SessionText.{SessionText};
 ghost use Rattle.std.specs.Str.{is_utf8};
 ghost use Rattle.rhd_text.specs.Bytes.{is_blank};
-ghost use Rattle.rhd_text.specs.Spans.{◌▸◌, byte, letters, run};
+ghost use Rattle.rhd_text.specs.Spans.{◌▸◌, byte, letters, run, IsValue};
+ghost use Rattle.rhd_value.specs.Tree.{Tree};
 ghost use Rattle.rhd_text.specs.Grammar.{IsLine};
 ghost use Rattle.rhd_text.specs.Session.{IsSession, IsFirstBad};
 ghost use Rattle.rhd_text.specs.ReadRows.{line_of};
@@ -19,6 +20,11 @@ pub fn lines_are_read_as_they_are_written()
 pub fn texts_say_one_thing()
     ensures one { (held : ℕ) (lines : List (List ℕ)) (t u : SessionText) → IsSession held lines t → IsSession held lines u → t ≡ u }
     ensures not_bad { (held : ℕ) (lines : List (List ℕ)) (t : SessionText) (n : ℕ) → IsSession held lines t → IsFirstBad held n lines → ⊥ }
+{}
+
+/// Bytes are one value at most.
+pub fn values_say_one_thing()
+    ensures { (bytes : List ℕ) (t u : Tree) → IsValue t bytes → IsValue u bytes → t ≡ u }
 {}
 
 /// In a line in UTF-8 every text is UTF-8, between quotation marks or after a blank: no line is

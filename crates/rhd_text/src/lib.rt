@@ -6,11 +6,13 @@ mod body;
 mod brackets;
 mod fault;
 mod forms;
+mod heads;
 mod keyword;
 mod laws;
 mod line;
 mod lines;
 mod numbers;
+mod operand;
 mod operands;
 mod part;
 mod place;
@@ -23,7 +25,11 @@ mod words;
 
 pub use body::{BodyEnd, BodyPlan, BodyPlans, CallPlan, CallPlans, Given, GivenAt, Places};
 pub use fault::TextFault;
-pub use laws::{lines_are_read_as_they_are_written, texts_of_lines_are_utf8, texts_say_one_thing};
+pub use laws::{
+    lines_are_read_as_they_are_written, texts_of_lines_are_utf8, texts_say_one_thing,
+    values_say_one_thing,
+};
+pub use operand::read_value;
 pub use printing::{print_replies, print_reply, print_value};
 pub use reading::read_text;
 pub use session::SessionText;

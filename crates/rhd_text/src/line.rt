@@ -30,7 +30,8 @@ fn is_skipped(line: &[u8]) -> bool
     }
 }
 
-fn is_text(line: &[u8]) -> bool
+/// Whether bytes are UTF-8.
+pub fn is_text(line: &[u8]) -> bool
     ensures { result ≡ is_utf8 line.now }
 {
     str::from_utf8(line).is_ok()

@@ -37,8 +37,8 @@ fn unescaped(b: u8) -> Option<u8>
 }
 
 /// The bytes of a text up to the quotation mark that ends it, and the bytes after that.
-fn text_at(alloc: Global, bytes: &[u8]) -> Result<(Vec<u8>, &[u8]), Stop>
-    ensures { Gives (λ x. (x.0.items, x.1.now)) result (text_at false bytes.now) }
+fn text_at(alloc: Global, bytes: &[u8], quote: u8) -> Result<(Vec<u8>, &[u8]), Stop>
+    ensures { Gives (λ x. (x.0.items, x.1.now)) result (text_at quote false bytes.now) }
 {
     let mut out = Vec::new(alloc);
     let mut escaped = false;
@@ -50,7 +50,7 @@ fn text_at(alloc: Global, bytes: &[u8]) -> Result<(Vec<u8>, &[u8]), Stop>
             };
             out.push(c)?;
             escaped = false;
-        } else if *b == b'"' {
+        } else if *b == quote {
             return Ok((out, after));
         } else if *b == b'\\' {
             escaped = true;
@@ -62,12 +62,12 @@ fn text_at(alloc: Global, bytes: &[u8]) -> Result<(Vec<u8>, &[u8]), Stop>
     Err(Stop::Bad)
 }
 
-/// The rest of a quoted text, after the quotation mark that begins it, and the bytes after it.
+/// The rest of a text between two of these quotation marks, after the first, and the bytes after it.
 #[tactic(auto, unfolding(crate::specs::Reading::quoted_at))]
-pub fn quoted_at(alloc: Global, bytes: &[u8]) -> Result<(Text, &[u8]), Stop>
-    ensures { Gives (λ x. (x.0, x.1.now)) result (quoted_at bytes.now) }
+pub fn quoted_at(alloc: Global, bytes: &[u8], quote: u8) -> Result<(Text, &[u8]), Stop>
+    ensures { Gives (λ x. (x.0, x.1.now)) result (quoted_at quote bytes.now) }
 {
-    let (text, rest) = text_at(alloc, bytes)?;
+    let (text, rest) = text_at(alloc, bytes, quote)?;
     if !may_end(rest) {
         return Err(Stop::Bad);
     }
@@ -90,7 +90,7 @@ fn text_here(alloc: Global, bytes: &[u8]) -> Result<(Text, &[u8]), Stop>
     ensures { Gives (λ x. (x.0, x.1.now)) result (text_here bytes.now) }
 {
     if begins(bytes, b'"') {
-        return quoted_at(alloc, after_first(bytes));
+        return quoted_at(alloc, after_first(bytes), b'"');
     }
     plain_text_at(alloc, bytes)
 }
