@@ -1,11 +1,13 @@
 //! What is read is what is written.
 
-ghost use Rattle.std.specs.Prelude.{◌≡◌, ◌↔◌, List, ◌∷◌, ◌++◌, ℕ, Some, true};
+ghost use Rattle.std.specs.Prelude.{◌≡◌, ◌≤◌, ◌↔◌, List, ◌∷◌, ◌++◌, ℕ, Some, true};
 ghost use Rattle.rhd_text.specs.declared.line.Line.{Line};
 ghost use Rattle.rhd_text.specs.declared.session.SessionText.{SessionText};
 ghost use Rattle.std.specs.Str.{is_utf8};
-ghost use Rattle.rhd_text.specs.Bytes.{is_blank};
-ghost use Rattle.rhd_text.specs.Spans.{◌▸◌, byte, letters, run, IsValue};
+ghost use Rattle.rhd_text.specs.Bytes.{is_blank, may_end};
+ghost use Rattle.rhd_text.specs.Spans.{◌▸◌, byte, letters, run, value, IsValue};
+ghost use Rattle.rhd_text.specs.Proper.{IsProper, depth};
+ghost use Rattle.rhd_text.specs.PrintedValues.{spelled};
 ghost use Rattle.rhd_value.specs.Tree.{Tree};
 ghost use Rattle.rhd_text.specs.Grammar.{IsLine};
 ghost use Rattle.rhd_text.specs.Session.{IsSession, IsFirstBad};
@@ -25,6 +27,13 @@ pub fn texts_say_one_thing()
 /// Bytes are one value at most.
 pub fn values_say_one_thing()
     ensures { (bytes : List ℕ) (t u : Tree) → IsValue t bytes → IsValue u bytes → t ≡ u }
+{}
+
+/// A value that is at most 64 deep is written as it is printed, by itself and before other
+/// operands, so that it is read again as it was.
+pub fn printed_values_are_read_again()
+    ensures whole { (t : Tree) → IsProper t.kind → depth t ≤ 64 → IsValue t (spelled t) }
+    ensures inside { (t : Tree) (rest : List ℕ) → IsProper t.kind → depth t ≤ 64 → may_end rest ≡ true → value t (spelled t ++ rest) rest }
 {}
 
 /// In a line in UTF-8 every text is UTF-8, between quotation marks or after a blank: no line is
