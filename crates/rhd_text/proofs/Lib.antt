@@ -15,6 +15,8 @@ pub mod AgainWords
 pub mod AgainMaps
 pub mod AgainValues
 pub mod AgainUtf8
+pub mod WrittenMaps
+pub mod WrittenValues
 pub mod ArgumentLaws
 pub mod OperandLaws
 pub mod RowLaws

@@ -29,6 +29,12 @@ pub fn values_say_one_thing()
     ensures { (bytes : List ℕ) (t u : Tree) → IsValue t bytes → IsValue u bytes → t ≡ u }
 {}
 
+/// What can be written as a value is what a value may be, and at most 64 deep: its numbers,
+/// characters and texts are those of their types, and the names of a map ascend.
+pub fn values_are_what_can_be_written()
+    ensures { (t : Tree) → (IsProper t.kind × (depth t ≤ 64)) ↔ ((bytes : List ℕ) × IsValue t bytes) }
+{}
+
 /// A value that is at most 64 deep is written as it is printed, by itself and before other
 /// operands, so that it is read again as it was.
 pub fn printed_values_are_read_again()
