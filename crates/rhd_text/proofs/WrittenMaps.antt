@@ -1,6 +1,6 @@
 -- A map that is read stands in ascending order of names.
-use Rattle.std.proofs.Common.{◌≡◌, ℕ, List, [], ◌∷◌, Option, Some, None, Ordering, Less, Equal, Greater, refl, sym, ap, subst, ◌∙◌}
-use Rattle.std.specs.Ordering.{ordering_reverse, nat_cmp, is_eq, match_ordering}
+use Rattle.std.proofs.Common.{◌≡◌, ℕ, List, [], ◌∷◌, Option, Some, None, Ordering, Less, Equal, Greater, refl, ap, subst, ◌∙◌}
+use Rattle.std.specs.Ordering.{ordering_reverse, nat_cmp, match_ordering}
 use Rattle.std.specs.Cmp.Lexicographic.{slice_cmp}
 use Rattle.std.specs.List.{AllByRecursion}
 use Rattle.std.specs.List.Sorted.{IsStrictlySortedBy}
@@ -9,7 +9,7 @@ use Rattle.std.proofs.lemmas.Cmp.{nat_list_cmp_total}
 use Rattle.rhd_value.specs.Tree.{Bytes, Tree}
 use Rattle.rhd_value.specs.Entries.{found, put}
 use Rattle.rhd_text.specs.Maps.{put_or_none, put_new, put_each}
-use Rattle.rhd_text.specs.Spans.{Span, ◌▸◌, each, pair}
+use Rattle.rhd_text.specs.Spans.{Span, each, pair}
 use Rattle.rhd_text.proofs.Agrees.{bind_some, same_some}
 
 -- what holds of each entry

@@ -1,5 +1,5 @@
 -- What is written as a value is a value, and no deeper than it may be.
-use Rattle.std.proofs.Common.{◌≡◌, ℕ, zero, suc, ◌+◌, ◌^◌, ◌<◌, ◌≤◌, max, Bool, true, false, cond, eqb, ltb, leb, ◌&&◌, List, [], ◌∷◌, length, drop, Option, Some, None, ℤ, pos, neg_ℤ, refl, sym, ap, subst, ◌∙◌, arith, inl, inr}
+use Rattle.std.proofs.Common.{◌≡◌, ℕ, zero, suc, ◌^◌, ◌<◌, ◌≤◌, Bool, true, false, cond, ltb, leb, ◌&&◌, List, [], ◌∷◌, length, drop, Some, None, ℤ, pos, neg_ℤ, sym, ap, subst, ◌∙◌, arith, inl, inr}
 use Rattle.std.specs.Char.{IsScalar}
 use Rattle.std.specs.Str.{is_utf8, chars}
 use Rattle.std.specs.Str.Parse.{digits_value}
@@ -11,8 +11,8 @@ use Rattle.rhd_value.specs.declared.tag.FnPtrType.TheVariants as types
 use Rattle.rhd_value.specs.Tree.{Bytes, Kind, unit, boolean, integer, character, text, array, object, pointer, custom, Items, no_items, item, Members, no_members, member, Tree, list_of, entries_of}
 use Rattle.rhd_text.specs.Bytes.{begins, is_digits, is_signed_digits, fitting_int, num_of, int_of}
 use Rattle.rhd_text.specs.Proper.{IsInt, IsType, IsProper, AreProper, HasProper, depth_kind, depth_items, depth_members, depth}
-use Rattle.rhd_text.specs.Spans.{Span, ◌▸◌, blanks, each, word, number, number_run, pair, pointer_number, kind, value_within, value, IsValue}
-use Rattle.rhd_text.proofs.Agrees.{cond_some, and_parts, same_some}
+use Rattle.rhd_text.specs.Spans.{Span, each, word, number, pair, pointer_number, kind, value_within, IsValue}
+use Rattle.rhd_text.proofs.Agrees.{cond_some, and_parts}
 use Rattle.rhd_text.proofs.WrittenMaps.{AllHold, no_entries_hold, first_holds, each_ascending, each_holds, nothing_ascends, pairs_hold}
 
 -- ---- numbers

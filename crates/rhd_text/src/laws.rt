@@ -4,8 +4,8 @@ ghost use Rattle.std.specs.Prelude.{◌≡◌, ◌≤◌, ◌↔◌, List, ◌�
 ghost use Rattle.rhd_text.specs.declared.line.Line.{Line};
 ghost use Rattle.rhd_text.specs.declared.session.SessionText.{SessionText};
 ghost use Rattle.std.specs.Str.{is_utf8};
-ghost use Rattle.rhd_text.specs.Bytes.{is_blank, may_end};
-ghost use Rattle.rhd_text.specs.Spans.{◌▸◌, byte, letters, run, value, IsValue};
+ghost use Rattle.rhd_text.specs.Bytes.{is_blank, is_bracket, may_end};
+ghost use Rattle.rhd_text.specs.Spans.{◌▸◌, byte, letters, letters_to, run, value, IsValue};
 ghost use Rattle.rhd_text.specs.Proper.{IsProper, depth};
 ghost use Rattle.rhd_text.specs.PrintedValues.{spelled};
 ghost use Rattle.rhd_value.specs.Tree.{Tree};
@@ -42,9 +42,11 @@ pub fn printed_values_are_read_again()
     ensures inside { (t : Tree) (rest : List ℕ) → IsProper t.kind → depth t ≤ 64 → may_end rest ≡ true → value t (spelled t ++ rest) rest }
 {}
 
-/// In a line in UTF-8 every text is UTF-8, between quotation marks or after a blank: no line is
-/// bad for a text that is not.
+/// In a line in UTF-8 every text is UTF-8, between quotation marks or after a blank or a bracket,
+/// and so is every character: no line is bad for one that is not.
 pub fn texts_of_lines_are_utf8()
     ensures quoted { (line front bytes rest s : List ℕ) → is_utf8 line ≡ true → line ≡ front ++ bytes → (byte 34 ▸ letters s) bytes rest → is_utf8 s ≡ true }
+    ensures character { (line front bytes rest s : List ℕ) → is_utf8 line ≡ true → line ≡ front ++ bytes → (byte 39 ▸ letters_to 39 s) bytes rest → is_utf8 s ≡ true }
     ensures unquoted { (line front bytes rest w : List ℕ) (b : ℕ) → is_utf8 line ≡ true → is_blank b ≡ true → line ≡ front ++ b ∷ bytes → run w bytes rest → is_utf8 w ≡ true }
+    ensures bracketed { (line front bytes rest w : List ℕ) (b : ℕ) → is_utf8 line ≡ true → is_bracket b ≡ true → line ≡ front ++ b ∷ bytes → run w bytes rest → is_utf8 w ≡ true }
 {}
