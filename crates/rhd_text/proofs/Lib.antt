@@ -11,6 +11,12 @@ pub mod HeadLaws
 pub mod MapLaws
 pub mod ValueLaws
 pub mod WholeLaws
+pub mod AgainWords
+pub mod AgainMaps
+pub mod AgainValues
+pub mod AgainUtf8
+pub mod WrittenMaps
+pub mod WrittenValues
 pub mod ArgumentLaws
 pub mod OperandLaws
 pub mod RowLaws

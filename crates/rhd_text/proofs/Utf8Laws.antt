@@ -69,15 +69,24 @@ letters_utf8 k small (c ∷ s) p m rest (middle, inr l, more) u =
     let after : IsUtf8 middle = tail l.0 middle (back p 92 (l.0 ∷ middle) v (omega arith)) tiny.0 in
     IsUtf8-append p (c ∷ s) (front p 92 (l.0 ∷ middle) v (omega arith)) (one_more c s tiny.1 (letters_utf8 k small s [] middle rest more after))
 
+between_utf8 : (k : ℕ) → k < 128 → (line before bytes rest s : List ℕ) → is_utf8 line ≡ true → line ≡ before ++ bytes → (byte k ▸ letters_to k s) bytes rest → is_utf8 s ≡ true
+between_utf8 k small line before bytes rest s h e w =
+    let u : IsUtf8 (before ++ k ∷ w.0) = subst (λ (x : List ℕ). IsUtf8 (before ++ x)) w.1 (subst (λ (x : List ℕ). IsUtf8 x) e (IsUtf8-from_is_utf8 line h)) in
+    is_text s (letters_utf8 k small s [] w.0 rest w.2 (back before k w.0 u small))
+
 pub quoted_utf8 : (line before bytes rest s : List ℕ) → is_utf8 line ≡ true → line ≡ before ++ bytes → (byte 34 ▸ letters s) bytes rest → is_utf8 s ≡ true
-quoted_utf8 line before bytes rest s h e w =
-    let u : IsUtf8 (before ++ 34 ∷ w.0) = subst (λ (x : List ℕ). IsUtf8 (before ++ x)) w.1 (subst (λ (x : List ℕ). IsUtf8 x) e (IsUtf8-from_is_utf8 line h)) in
-    is_text s (letters_utf8 34 (omega arith) s [] w.0 rest w.2 (back before 34 w.0 u (omega arith)))
+quoted_utf8 = between_utf8 34 (omega arith)
+
+pub character_utf8 : (line before bytes rest s : List ℕ) → is_utf8 line ≡ true → line ≡ before ++ bytes → (byte 39 ▸ letters_to 39 s) bytes rest → is_utf8 s ≡ true
+character_utf8 = between_utf8 39 (omega arith)
 
 -- ---- unquoted texts
 
 blank_small : (b : ℕ) → is_blank b ≡ true → b < 128
 blank_small b h = grind (arith, nat_tests)
+
+bracket_small : (b : ℕ) → is_bracket b ≡ true → b < 128
+bracket_small b h = grind (arith, nat_tests)
 
 end_small : (b : ℕ) → (is_blank b || is_bracket b) ≡ true → b < 128
 end_small b h = grind (arith, nat_tests)
@@ -86,7 +95,13 @@ cut_end : (w rest : List ℕ) → may_end rest ≡ true → IsUtf8 (w ++ rest) �
 cut_end w [] h u = subst (λ (x : List ℕ). IsUtf8 x) (append-nil w) u
 cut_end w (b ∷ rest) h u = front w b rest u (end_small b h)
 
-pub unquoted_utf8 : (line before bytes rest w : List ℕ) (b : ℕ) → is_utf8 line ≡ true → is_blank b ≡ true → line ≡ before ++ b ∷ bytes → run w bytes rest → is_utf8 w ≡ true
-unquoted_utf8 line before bytes rest w b h blank e r =
-    let u : IsUtf8 bytes = back before b bytes (subst (λ (x : List ℕ). IsUtf8 x) e (IsUtf8-from_is_utf8 line h)) (blank_small b blank) in
+after_utf8 : (line before bytes rest w : List ℕ) (b : ℕ) → is_utf8 line ≡ true → b < 128 → line ≡ before ++ b ∷ bytes → run w bytes rest → is_utf8 w ≡ true
+after_utf8 line before bytes rest w b h small e r =
+    let u : IsUtf8 bytes = back before b bytes (subst (λ (x : List ℕ). IsUtf8 x) e (IsUtf8-from_is_utf8 line h)) small in
     is_text w (cut_end w rest r.3 (subst (λ (x : List ℕ). IsUtf8 x) r.2 u))
+
+pub unquoted_utf8 : (line before bytes rest w : List ℕ) (b : ℕ) → is_utf8 line ≡ true → is_blank b ≡ true → line ≡ before ++ b ∷ bytes → run w bytes rest → is_utf8 w ≡ true
+unquoted_utf8 line before bytes rest w b h blank e r = after_utf8 line before bytes rest w b h (blank_small b blank) e r
+
+pub bracketed_utf8 : (line before bytes rest w : List ℕ) (b : ℕ) → is_utf8 line ≡ true → is_bracket b ≡ true → line ≡ before ++ b ∷ bytes → run w bytes rest → is_utf8 w ≡ true
+bracketed_utf8 line before bytes rest w b h bracket e r = after_utf8 line before bytes rest w b h (bracket_small b bracket) e r

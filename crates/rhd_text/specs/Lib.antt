@@ -12,3 +12,4 @@ pub mod Answers
 pub mod PrintedTexts
 pub mod PrintedValues
 pub mod PrintedReplies
+pub mod Proper
