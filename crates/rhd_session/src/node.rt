@@ -7,7 +7,8 @@ ghost use Rattle.rhd_session.specs.Nodes.{nodes_in};
 ghost use Rattle.rhd_session.specs.Seen.{seen, begun_node, unbegun_node, done_of};
 
 use crate::pick::Pick;
-use crate::plan::position_of;
+use crate::plan::{position_of, shape_of};
+use crate::received::first_given;
 use rhd_func::{CallDone, CallRequest, Carry};
 use rhd_value::{Dynamic, EvalAltResult, OutOfMemory};
 use std::alloc::Global;
@@ -81,8 +82,10 @@ pub struct CallNode {
     pub children: Nodes,
     pub answer: Result<Dynamic, EvalAltResult>,
     pub whose: Whose,
-    /// The first argument by reference, as it is after the call.
+    /// The first argument by reference, or the object, as it is after the call.
     pub first_after: Option<Dynamic>,
+    /// The value that the call refused, where it did.
+    pub refused: Option<Dynamic>,
 }
 
 /// Nodes in the order in which they were asked for.
@@ -112,11 +115,12 @@ impl Nodes {
 
 impl CallNode {
     /// A call that isn't begun, as the budget is spent.
-    pub fn unbegun(alloc: Global, call: CallRequest, level: u32) -> CallNode
-        ensures { seen result ≡ unbegun_node call level }
+    pub fn unbegun(alloc: Global, call: CallRequest, level: u32) -> Result<CallNode, OutOfMemory>
+        ensures { IfOk result (λ node. seen node ≡ unbegun_node call level) }
     {
+        let first_after = first_given(alloc, shape_of(&call))?;
         let pos = position_of(&call);
-        CallNode {
+        Ok(CallNode {
             call,
             level,
             begun: false,
@@ -125,15 +129,22 @@ impl CallNode {
             children: Nodes::new(alloc),
             answer: Err(EvalAltResult::ErrorTooManyOperations(pos)),
             whose: Whose::Call,
-            first_after: None,
-        }
+            first_after,
+            refused: None,
+        })
     }
 
     /// A call for which nothing runs.
-    pub fn failed(alloc: Global, call: CallRequest, level: u32, fault: EvalAltResult) -> CallNode
-        ensures { seen result ≡ begun_node call level None [] [] (failed (given call) fault) }
+    pub fn failed(
+        alloc: Global,
+        call: CallRequest,
+        level: u32,
+        fault: EvalAltResult,
+    ) -> Result<CallNode, OutOfMemory>
+        ensures { IfOk result (λ node. seen node ≡ begun_node call level None [] [] (failed (given call) fault)) }
     {
-        CallNode {
+        let first_after = first_given(alloc, shape_of(&call))?;
+        Ok(CallNode {
             call,
             level,
             begun: true,
@@ -142,8 +153,9 @@ impl CallNode {
             children: Nodes::new(alloc),
             answer: Err(fault),
             whose: Whose::Call,
-            first_after: None,
-        }
+            first_after,
+            refused: None,
+        })
     }
 
     /// What the function that asked for the call is told.
