@@ -61,7 +61,7 @@ fn params_of(shape: &CallShape) -> u64
 {
     match shape {
         CallShape::Plain(args) => args.len() as u64,
-        CallShape::ByRef(_, args) => args.len() as u64 + 1,
+        CallShape::ByRef(_, args) => args.as_slice().len() as u64 + 1,
         CallShape::Method(_, args) => args.len() as u64,
     }
 }
