@@ -27,6 +27,18 @@ pub struct End {
     pub refused: Option<Dynamic>,
 }
 
+/// A fault of the call itself, where no value was refused.
+pub fn failed(first: Option<Dynamic>, fault: EvalAltResult) -> End
+    ensures { result ≡ ends.failed first fault }
+{
+    End {
+        answer: Err(fault),
+        whose: Whose::Call,
+        first_after: first,
+        refused: None,
+    }
+}
+
 /// A fault of the call itself, which refuses a value.
 fn refusing(first: Option<Dynamic>, value: Dynamic, fault: EvalAltResult) -> End
     ensures { result ≡ ends.refusing first value fault }

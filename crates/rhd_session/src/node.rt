@@ -6,9 +6,10 @@ ghost use Rattle.rhd_func.specs.Shapes.{given};
 ghost use Rattle.rhd_session.specs.Nodes.{nodes_in};
 ghost use Rattle.rhd_session.specs.Seen.{seen, begun_node, unbegun_node, done_of};
 
+use crate::ends::{End, failed};
 use crate::pick::Pick;
-use crate::plan::{position_of, shape_of};
-use crate::received::first_given;
+use crate::plan::position_of;
+use crate::received::given;
 use rhd_func::{CallDone, CallRequest, Carry};
 use rhd_value::{Dynamic, EvalAltResult, OutOfMemory};
 use std::alloc::Global;
@@ -118,7 +119,7 @@ impl CallNode {
     pub fn unbegun(alloc: Global, call: CallRequest, level: u32) -> Result<CallNode, OutOfMemory>
         ensures { IfOk result (λ node. seen node ≡ unbegun_node call level) }
     {
-        let first_after = first_given(alloc, shape_of(&call))?;
+        let first_after = given(alloc, &call)?;
         let pos = position_of(&call);
         Ok(CallNode {
             call,
@@ -134,7 +135,25 @@ impl CallNode {
         })
     }
 
-    /// A call for which nothing runs.
+    /// A call that is begun, and for which nothing runs.
+    fn alone(alloc: Global, call: CallRequest, level: u32, end: End) -> CallNode
+        ensures { seen result ≡ begun_node call level None [] [] end }
+    {
+        CallNode {
+            call,
+            level,
+            begun: true,
+            pick: None,
+            carries: Carries::new(alloc),
+            children: Nodes::new(alloc),
+            answer: end.answer,
+            whose: end.whose,
+            first_after: end.first_after,
+            refused: end.refused,
+        }
+    }
+
+    /// A call that ends with a fault of its own, and for which nothing runs.
     pub fn failed(
         alloc: Global,
         call: CallRequest,
@@ -143,19 +162,8 @@ impl CallNode {
     ) -> Result<CallNode, OutOfMemory>
         ensures { IfOk result (λ node. seen node ≡ begun_node call level None [] [] (failed (given call) fault)) }
     {
-        let first_after = first_given(alloc, shape_of(&call))?;
-        Ok(CallNode {
-            call,
-            level,
-            begun: true,
-            pick: None,
-            carries: Carries::new(alloc),
-            children: Nodes::new(alloc),
-            answer: Err(fault),
-            whose: Whose::Call,
-            first_after,
-            refused: None,
-        })
+        let first = given(alloc, &call)?;
+        Ok(CallNode::alone(alloc, call, level, failed(first, fault)))
     }
 
     /// What the function that asked for the call is told.

@@ -4,13 +4,13 @@ ghost use Rattle.std.specs.Prelude.{◌≡◌, ◌∷◌, if◌then◌else◌, I
 ghost use Rattle.std.specs.Option.{option_copied};
 ghost use Rattle.rhd_value.specs.Tree.{copied};
 ghost use Rattle.rhd_value.specs.Firsts.{first_and_rest};
-ghost use Rattle.rhd_func.specs.Shapes.{first_given};
+ghost use Rattle.rhd_func.specs.Shapes.{first_given, given};
 ghost use Rattle.rhd_session.specs.Received.{received, manner_of, has_the_given, first_after};
 ghost use Rattle.rhd_session.specs.Entered.{context, context_if};
 ghost use Rattle.rhd_session.specs.Plans.{Plan};
 ghost use Rattle.rhd_session.specs.Start.{start_frame};
 
-use rhd_func::{CallShape, NativeCallContext, RhaiFunc};
+use rhd_func::{CallRequest, CallShape, NativeCallContext, RhaiFunc};
 use rhd_value::{Dynamic, OutOfMemory, Position, Text, Value, Values};
 use std::alloc::Global;
 
@@ -80,13 +80,22 @@ pub fn receive(alloc: Global, func: &RhaiFunc, shape: &CallShape) -> Result<Rece
 }
 
 /// The first argument by reference, or the object, as it is given.
-pub fn first_given(alloc: Global, shape: &CallShape) -> Result<Option<Dynamic>, OutOfMemory>
+fn first_given(alloc: Global, shape: &CallShape) -> Result<Option<Dynamic>, OutOfMemory>
     ensures { IfOk result (λ first. first ≡ first_given shape.now) }
 {
     match shape {
         CallShape::Plain(_) => Ok(None),
         CallShape::ByRef(first, _) => Ok(Some(first.dup(alloc)?)),
         CallShape::Method(object, _) => Ok(Some(object.dup(alloc)?)),
+    }
+}
+
+/// The same of a request.
+pub fn given(alloc: Global, request: &CallRequest) -> Result<Option<Dynamic>, OutOfMemory>
+    ensures { IfOk result (λ first. first ≡ given request.now) }
+{
+    match request {
+        CallRequest::Named { shape, .. } => first_given(alloc, shape),
     }
 }
 
