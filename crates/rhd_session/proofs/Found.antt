@@ -146,21 +146,21 @@ decided_deep e f level call h = decided_refused e f level call (deep_end call) (
 pub decided_by_fault : (e : EngineLists) (f : Frame) (level : ℕ) (call : CallRequest) (test : Option EvalAltResult) (fault : EvalAltResult) → option_map (failed (given call)) test ≡ refusal e level call → test ≡ Some fault → decision e f level call ≡ ends None (failed (given call) fault)
 decided_by_fault e f level call test fault is some = decided_refused e f level call (failed (given call) fault) (sym is ∙ ap (option_map (failed (given call))) some)
 
-not_refused : (e : EngineLists) (level : ℕ) (call : CallRequest) (test : Option EvalAltResult) → option_map (failed (given call)) test ≡ refusal e level call → test ≡ None → refusal e level call ≡ None
+pub not_refused : (e : EngineLists) (level : ℕ) (call : CallRequest) (test : Option EvalAltResult) → option_map (failed (given call)) test ≡ refusal e level call → test ≡ None → refusal e level call ≡ None
 not_refused e level call test is none = sym is ∙ ap (option_map (failed (given call))) none
 
 -- unrefused, with a pick its function runs
-pub decided_runs : (e : EngineLists) (f : Frame) (level : ℕ) (call : CallRequest) (test : Option EvalAltResult) (pick : Pick) → option_map (failed (given call)) test ≡ refusal e level call → test ≡ None → Some pick ≡ pick_of e f (plan_of call) → decision e f level call ≡ runs (plan_of call) pick
+pub decided_runs : (e : EngineLists) (f : Frame) (level : ℕ) (call : CallRequest) (pick : Pick) → refusal e level call ≡ None → Some pick ≡ pick_of e f (plan_of call) → decision e f level call ≡ runs (plan_of call) pick
 unfolding decision
-decided_runs e f level call test pick is none found =
-    ap (λ (o : Option End). unless_refused o (decided (plan_of call) (pick_of e f (plan_of call)))) (not_refused e level call test is none) ∙ ap (decided (plan_of call)) (sym found)
+decided_runs e f level call pick unrefused found =
+    ap (λ (o : Option End). unless_refused o (decided (plan_of call) (pick_of e f (plan_of call)))) unrefused ∙ ap (decided (plan_of call)) (sym found)
 
 -- without one it isn't found
-pub decided_ends : (e : EngineLists) (f : Frame) (level : ℕ) (call : CallRequest) (test : Option EvalAltResult) → option_map (failed (given call)) test ≡ refusal e level call → test ≡ None → None ≡ pick_of e f (plan_of call)
+pub decided_ends : (e : EngineLists) (f : Frame) (level : ℕ) (call : CallRequest) → refusal e level call ≡ None → None ≡ pick_of e f (plan_of call)
     → decision e f level call ≡ ends None (failed (plan_of call).given (not_found (plan_of call).pos (plan_of call).name (all_args (plan_of call).shape)))
 unfolding decision
-decided_ends e f level call test is none found =
-    ap (λ (o : Option End). unless_refused o (decided (plan_of call) (pick_of e f (plan_of call)))) (not_refused e level call test is none) ∙ ap (decided (plan_of call)) (sym found)
+decided_ends e f level call unrefused found =
+    ap (λ (o : Option End). unless_refused o (decided (plan_of call) (pick_of e f (plan_of call)))) unrefused ∙ ap (decided (plan_of call)) (sym found)
 
 -- a function that runs is within the limit, with the plan of its call and the pick
 runs_only : (o : Option End) (p : Plan) (q : Option Pick) (plan : Plan) (pick : Pick) → unless_refused o (decided p q) ≡ runs plan pick → (o ≡ None) × (plan ≡ p) × (q ≡ Some pick)

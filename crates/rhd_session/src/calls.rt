@@ -14,7 +14,7 @@ ghost use Rattle.rhd_session.specs.Searched.{found};
 ghost use Rattle.rhd_session.specs.Plans.{plan_of};
 ghost use Rattle.rhd_session.specs.NotFound.{not_found};
 ghost use Rattle.rhd_session.specs.Ends.{failed};
-ghost use Rattle.rhd_session.specs.Decisions.{decision, runs, pick_of};
+ghost use Rattle.rhd_session.specs.Decisions.{refusal, decision, runs, pick_of};
 ghost use Rattle.rhd_session.specs.Seen.{seen, begun_node, done_of};
 ghost use Rattle.rhd_session.specs.Entered.{context, entered};
 ghost use Rattle.rhd_session.specs.Steps.{Starts, Resumes};
@@ -134,10 +134,25 @@ impl Session {
     ) -> Result<Outcome, OutOfMemory>
         ensures { (n begun : ℕ) → begun < self.now.limits.budget → IfOk result (λ outcome. Comes_to (objects_of allows_call allows_resume B.allows_start B.allows_next (natives_of self.now)) (world_of info self.now) (entered (frame_of self.now) n) level call outcome (moment begun bodies.old) (moment (begun + 1) bodies.new)) }
     {
-        if let Some(fault) = refusal(alloc, self.limits, level, &call)? {
-            let node = CallNode::failed(alloc, call, level, fault)?;
-            return Ok(Outcome::Finished(node));
+        match refusal(alloc, self.limits, level, &call)? {
+            Some(fault) => {
+                let node = CallNode::failed(alloc, call, level, fault)?;
+                Ok(Outcome::Finished(node))
+            }
+            None => self.begin_unrefused(alloc, call, level, bodies),
         }
+    }
+
+    /// Begins a call that nothing refuses: it isn't found, or its function takes its first step.
+    fn begin_unrefused<B: Bodies>(
+        &self,
+        alloc: Global,
+        call: CallRequest,
+        level: u32,
+        bodies: &mut B,
+    ) -> Result<Outcome, OutOfMemory>
+        ensures { (n begun : ℕ) → begun < self.now.limits.budget → refusal (world_of info self.now).engine level call ≡ None → IfOk result (λ outcome. Comes_to (objects_of allows_call allows_resume B.allows_start B.allows_next (natives_of self.now)) (world_of info self.now) (entered (frame_of self.now) n) level call outcome (moment begun bodies.old) (moment (begun + 1) bodies.new)) }
+    {
         match self.pick(alloc, &call)? {
             Some(pick) => self.begin_picked(alloc, call, level, pick, bodies),
             None => Ok(Outcome::Finished(missing(alloc, call, level)?)),
@@ -173,7 +188,10 @@ impl Session {
         }
         match self.pick_typed(alloc, name, shape)? {
             Some(pick) => Ok(Some(pick)),
-            None => self.found(alloc, &script_key_of(alloc, name, shape)?),
+            None => {
+                let key = script_key_of(alloc, name, shape)?;
+                self.found(alloc, &key)
+            }
         }
     }
 
@@ -201,7 +219,8 @@ impl Session {
     ) -> Result<Option<Pick>, OutOfMemory>
         ensures { IfOk result (λ pick. pick ≡ looked (world_of info self.now).engine (frame_of self.now) (native_ask name.now shape.now)) }
     {
-        self.found(alloc, &native_key_of(alloc, name, shape)?)
+        let key = native_key_of(alloc, name, shape)?;
+        self.found(alloc, &key)
     }
 
     /// What is found under a key.
