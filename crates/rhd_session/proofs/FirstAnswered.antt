@@ -12,7 +12,8 @@ use Rattle.rhd_session.specs.World.{World, Objects, Moment}
 use Rattle.rhd_session.specs.Asks.{looked}
 use Rattle.rhd_session.specs.NotFound.{not_found}
 use Rattle.rhd_session.specs.Plans.{Plan, plan_of}
-use Rattle.rhd_session.specs.Ends.{End, failed}
+use Rattle.rhd_session.specs.declared.ends.End.{End}
+use Rattle.rhd_session.specs.Ends.{failed}
 use Rattle.rhd_session.specs.Decisions.{ends, runs, pick_of, decided, refusal, unless_refused, decision}
 use Rattle.rhd_session.specs.Seen.{seen, unbegun_node}
 use Rattle.rhd_session.specs.Runs.{Runs, not_begun, ended, finished, cut_short}

@@ -9,3 +9,4 @@ pub mod TreeLaws
 pub mod TreeFaults
 pub mod TreePlants
 pub mod Places
+pub mod Locked

@@ -47,6 +47,11 @@ module _ {B : Type 0} (o : Objects B) where
       (subst (λ (x : World). Answered o w f s (take i commands) replies x f2 s1) (sym n)
       (subst (λ (x : Frame). Answered o w f s (take i commands) replies w1 x s1) (sym m) a)))
 
+  -- and before all are answered
+  pub stopped_before : (w : World) (f : Frame) (s : Moment B) (commands : List Command) (i : ℕ) (replies now : List Reply) (w1 : World) (f1 : Frame) (s1 : Moment B) →
+      i < length commands → now ≡ replies → Answered o w f s (take i commands) replies w1 f1 s1 → length now < length commands
+  stopped_before w f s commands i replies now w1 f1 s1 h e a = omega (arith, answered_length w f s (take i commands) replies w1 f1 s1 a, length-take i commands, ap length e)
+
   -- one turn of the loop
   pub turn : (w : World) (f : Frame) (s : Moment B) (commands : List Command) (i : ℕ) (command : Command) (replies roomy now : List Reply) (reply : Reply) (w1 w2 : World) (f1 f2 : Frame) (s1 s2 : Moment B) →
       i < length commands → command ≡ get_or commands i command → roomy ≡ replies → now ≡ roomy ++ reply ∷ [] →

@@ -1,6 +1,6 @@
 -- What each step of the machine makes of a call, and of the stack.
 use Rattle.std.proofs.Common.{◌≡◌, ℕ, ◌+◌, ◌<◌, ◌≤◌, Bool, true, false, List, [], ◌∷◌, ◌++◌, refl, sym, subst, ap, ◌∙◌, arith, length}
-use Rattle.std.specs.Prelude.{Option, Some, Ok, Err}
+use Rattle.std.specs.Prelude.{Option, Some}
 use Rattle.rhd_value.specs.Tree.{Tree}
 use Rattle.rhd_value.specs.declared.fault.EvalAltResult.{EvalAltResult}
 use Rattle.std.proofs.lemmas.List.{same_from_push, length_push}
@@ -8,7 +8,7 @@ use Rattle.rhd_func.specs.declared.request.CallRequest.{CallRequest}
 use Rattle.rhd_func.specs.declared.request.Carry.{Carry}
 use Rattle.rhd_func.specs.declared.request.NativeStep.{NativeStep}
 use Rattle.rhd_func.specs.declared.request.NativeStep.TheVariants.{Done, Failed, Ask}
-use Rattle.rhd_session.specs.Engine.{Frame}
+use Rattle.rhd_session.specs.Engine.{EngineLists, Frame}
 use Rattle.rhd_session.specs.World.{World, Objects, Moment, one_begun}
 use Rattle.rhd_session.specs.declared.pick.Pick.{Pick}
 use Rattle.rhd_session.specs.declared.node.CallNode.{CallNode}
@@ -21,7 +21,9 @@ use Rattle.rhd_session.specs.declared.machine.Hand.TheVariants.{Asked, Answered}
 use Rattle.rhd_session.specs.Held.{func_held, all_held}
 use Rattle.rhd_session.specs.Nodes.{nodes_in}
 use Rattle.rhd_session.specs.Plans.{Plan, plan_of}
-use Rattle.rhd_session.specs.Ends.{called, end_of}
+use Rattle.rhd_session.specs.declared.ends.End.{End}
+use Rattle.rhd_session.specs.declared.limits.Limits.{Limits}
+use Rattle.rhd_session.specs.Ends.{done, handed_on, end_of}
 use Rattle.rhd_session.specs.Seen.{seen, begun_node, unbegun_node, cut_end, done_of}
 use Rattle.rhd_session.specs.Decisions.{runs, decision}
 use Rattle.rhd_session.specs.Entered.{context, entered}
@@ -31,18 +33,25 @@ use Rattle.rhd_session.specs.Waits.{Kept, kept, keeping, Open, function_waits, S
 use Rattle.rhd_session.proofs.Found.{runs_within, runs_plan, runs_is_held}
 
 -- what each step makes of a call under way
-pub settled_done : (work : Work) (step : NativeStep) (answer : Tree) (back : Option Tree) (node : CallNode) → step ≡ Done answer back →
-    seen node ≡ begun_node work.call work.level (Some work.pick) work.carries (nodes_in work.children) (called (plan_of work.call) (Ok answer)) → Settled work step (Finished node)
+pub settled_done : (e : EngineLists) (limits : Limits) (work : Work) (step : NativeStep) (answer : Tree) (back : Option Tree) (end : End) (node : CallNode) → e.limits ≡ limits → step ≡ Done answer back →
+    end ≡ done limits (plan_of work.call) work.pick back answer →
+    seen node ≡ begun_node work.call work.level (Some work.pick) work.carries (nodes_in work.children) end → Settled e work step (Finished node)
 unfolding end_of
-settled_done work step answer back node is h = ends_with (ap (end_of (plan_of work.call)) is) h
+settled_done e limits work step answer back end node l is h s =
+    ends_with (ap (end_of e (plan_of work.call) work.pick) is ∙ ap Some (ap (λ (x : Limits). done x (plan_of work.call) work.pick back answer) l ∙ sym h)) s
 
-pub settled_failed : (work : Work) (step : NativeStep) (fault : EvalAltResult) (back : Option Tree) (node : CallNode) → step ≡ Failed fault back →
-    seen node ≡ begun_node work.call work.level (Some work.pick) work.carries (nodes_in work.children) (called (plan_of work.call) (Err fault)) → Settled work step (Finished node)
+pub settled_failed : (e : EngineLists) (work : Work) (step : NativeStep) (fault : EvalAltResult) (back : Option Tree) (end : End) (node : CallNode) → step ≡ Failed fault back →
+    end ≡ handed_on (plan_of work.call) work.pick back fault →
+    seen node ≡ begun_node work.call work.level (Some work.pick) work.carries (nodes_in work.children) end → Settled e work step (Finished node)
 unfolding end_of
-settled_failed work step fault back node is h = ends_with (ap (end_of (plan_of work.call)) is) h
+settled_failed e work step fault back end node is h s = ends_with (ap (end_of e (plan_of work.call) work.pick) is ∙ ap Some (sym h)) s
 
-pub settled_ask : (work : Work) (step : NativeStep) (request : CallRequest) (carry : Carry) (frame : Suspended) → step ≡ Ask request carry → frame.work ≡ work → frame.carry ≡ carry → Settled work step (Waiting frame request)
-settled_ask work step request carry frame is w k = subst (λ (x : NativeStep). Settled work x (Waiting frame request)) (sym is) (asks w k)
+pub settled_ask : (e : EngineLists) (work : Work) (step : NativeStep) (request : CallRequest) (carry : Carry) (frame : Suspended) → step ≡ Ask request carry → frame.work ≡ work → frame.carry ≡ carry → Settled e work step (Waiting frame request)
+settled_ask e work step request carry frame is w k = subst (λ (x : NativeStep). Settled e work x (Waiting frame request)) (sym is) (asks w k)
+
+-- a step ends equal plans with equal picks in the same way
+ends_same : (e : EngineLists) (plan same : Plan) (pick equal : Pick) (step : NativeStep) → plan ≡ same → pick ≡ equal → end_of e plan pick step ≡ end_of e same equal step
+ends_same e plan same pick equal step p q = λ i. end_of e (p i) (q i) step
 
 -- how the stack takes an outcome
 pub puts_frame : (old new : List Suspended) (outcome : Outcome) (frame : Suspended) (asked : CallRequest) → outcome ≡ Waiting frame asked → new ≡ old ++ frame ∷ [] → Put old outcome (Asked asked) new
@@ -59,13 +68,13 @@ module _ {B : Type 0} (o : Objects B) (w : World) where
       decision w.engine f level call ≡ runs plan pick →
       Starts o (context f level plan) pick.func (received_by plan pick) (one_begun before) first started →
       Steps o w f level plan pick first carries children step started after →
-      Settled work step outcome →
+      Settled w.engine work step outcome →
       Comes_to o w f level call outcome before after
   settled {f} {level} {call} {before} {started} {after} {plan} {pick} {first} {step} {carries} {children} k b d s steps (asks {request = request} {carry = carry} {frame = frame} is carry_is) =
       it_waits (function_waits {frame = frame} (ap kept is ∙ k) b d s (subst (λ (c : Carry). Steps o w f level plan pick first carries children (Ask request c) started after) (sym carry_is) steps))
-  settled {f} {level} {call} {plan = plan} {pick = pick} {step = step} k b d s steps (ends_with {end = end} e h) =
+  settled {f} {level} {call} {plan = plan} {pick = pick} {step = step} {work = work} k b d s steps (ends_with {end = end} e h) =
       it_is_answered (finished b d s steps
-      (ap (λ (p : Plan). end_of p step) (runs_plan w.engine f level call plan pick d ∙ ap plan_of (sym (ap (λ (x : Kept). x.call) k))) ∙ e)
+      (ends_same w.engine plan (plan_of work.call) pick work.pick step (runs_plan w.engine f level call plan pick d ∙ ap plan_of (sym (ap (λ (x : Kept). x.call) k))) (sym (ap (λ (x : Kept). x.pick) k)) ∙ e)
       (h ∙ ap (λ (x : Kept). begun_node x.call x.level (Some x.pick) x.carries x.children end) k))
 
   -- the next step of a call, after the answer to its request
@@ -74,7 +83,7 @@ module _ {B : Type 0} (o : Objects B) (w : World) where
       Runs o w inner (level + 1) waited child mid answered false →
       Resumes o (context base frame.work.level (plan_of frame.work.call)) frame.work.pick.func frame.carry (done_of child) answered step after →
       kept work ≡ keeping frame.work.call frame.work.level frame.work.pick (frame.work.carries ++ frame.carry ∷ []) (nodes_in frame.work.children ++ child ∷ []) →
-      Settled work step outcome →
+      Settled w.engine work step outcome →
       Comes_to o w (entered base n) level call outcome before after
   resumes_with base inner n level call waited before mid answered after frame child work step outcome opened r next works q = goes_on base (entered base n) refl opened r next works q
     where
@@ -83,7 +92,7 @@ module _ {B : Type 0} (o : Objects B) (w : World) where
           Runs o w inner (level + 1) waited child mid answered false →
           Resumes o (context base frame.work.level (plan_of frame.work.call)) frame.work.pick.func frame.carry (done_of child) answered step after →
           kept work ≡ keeping frame.work.call frame.work.level frame.work.pick (frame.work.carries ++ frame.carry ∷ []) (nodes_in frame.work.children ++ child ∷ []) →
-          Settled work step outcome →
+          Settled w.engine work step outcome →
           Comes_to o w f level call outcome before after
       goes_on base f is {level = level} {call = call} {answered = answered} {after = after} {frame = frame} {child = child} {step = step} (function_waits {plan = plan} {pick = pick} {carries = carries} {children = children} k b d s steps) r next works q =
           let same : keeping frame.work.call frame.work.level frame.work.pick (frame.work.carries ++ frame.carry ∷ []) (nodes_in frame.work.children ++ child ∷ []) ≡ keeping call level pick (carries ++ frame.carry ∷ []) (children ++ child ∷ []) =

@@ -17,7 +17,7 @@ use Rattle.rhd_session.specs.Nodes.{nodes_in, nodes_in_row}
 use Rattle.rhd_session.specs.Engine.{Frame}
 use Rattle.rhd_session.specs.World.{World, Objects, Moment}
 use Rattle.rhd_session.specs.Plans.{Plan, plan_of}
-use Rattle.rhd_session.specs.Ends.{End}
+use Rattle.rhd_session.specs.declared.ends.End.{End}
 use Rattle.rhd_session.specs.Entered.{context, entered}
 use Rattle.rhd_session.specs.Seen.{Seen, seen, begun_node, unbegun_node, cut_end}
 use Rattle.rhd_session.specs.Steps.{Starts}
@@ -37,11 +37,11 @@ nodes_count : (nodes : Nodes) → begun_in_nodes nodes ≡ sum_by begun_in (node
 nodes_count (Nodes' shape row) = row_count _ row ∙ ap (sum_by begun_in) (sym (nodes_in_row shape row))
 
 pub parts_count : (node : CallNode) → begun_in node ≡ (if (seen node).begun then 1 else 0) + sum_by begun_in (seen node).children
-parts_count (CallNode' call level begun pick carries children answer whose after) =
-    let b : (seen (CallNode' call level begun pick carries children answer whose after)).begun ≡ begun = search (rules, the_lemmas) in
-    let ns : (out-CallNode (CallNode' call level begun pick carries children answer whose after)).children ≡ children = search (rules, the_lemmas) in
+parts_count (CallNode' call level begun pick carries children answer whose after refused) =
+    let b : (seen (CallNode' call level begun pick carries children answer whose after refused)).begun ≡ begun = search (rules, the_lemmas) in
+    let ns : (out-CallNode (CallNode' call level begun pick carries children answer whose after refused)).children ≡ children = search (rules, the_lemmas) in
     ap (λ k. (if begun then 1 else 0) + k) (nodes_count children) ∙ ap (λ (x : Bool). (if x then 1 else 0) + sum_by begun_in (nodes_in children)) (sym b)
-    ∙ ap (λ (x : Nodes). (if (seen (CallNode' call level begun pick carries children answer whose after)).begun then 1 else 0) + sum_by begun_in (nodes_in x)) (sym ns)
+    ∙ ap (λ (x : Nodes). (if (seen (CallNode' call level begun pick carries children answer whose after refused)).begun then 1 else 0) + sum_by begun_in (nodes_in x)) (sym ns)
 
 begun_count : (node : CallNode) {call : CallRequest} {level : ℕ} {pick : Option Pick} {carries : List Carry} {children : List CallNode} {end : End} → seen node ≡ begun_node call level pick carries children end → begun_in node ≡ 1 + sum_by begun_in children
 begun_count node s = parts_count node ∙ ap (λ (x : Seen). (if x.begun then 1 else 0) + sum_by begun_in x.children) s
@@ -140,38 +140,38 @@ module _ {B : Type 0} (o : Objects B) (w : World) where
   -- the requests, from the front
   pub steps_requests : {f : Frame} {level : ℕ} {call : CallRequest} {plan : Plan} {pick : Pick} {first last : NativeStep} {carries rest_carries : List Carry} {children rest : List CallNode} {before after : Moment B} {end : End} {cut : Bool} →
       Steps o w f level plan pick first carries children last before after →
-      Requests o f level call plan pick last rest_carries rest end cut →
-      Requests o f level call plan pick first (carries ++ rest_carries) (children ++ rest) end cut
+      Requests o w f level call plan pick last rest_carries rest end cut →
+      Requests o w f level call plan pick first (carries ++ rest_carries) (children ++ rest) end cut
   steps_requests none_yet requests = requests
   steps_requests {f} {level} {call} {plan} {pick} {first} {carries = more_carries} {rest_carries = rest_carries} {children = more} {rest = rest} {end = end} {cut = cut}
       (one_more {carry = carry} {child = child} {carries = carries} {children = children} steps r next p q) requests =
       let p2 : carries ++ carry ∷ rest_carries ≡ more_carries ++ rest_carries = sym (ap (λ (ks : List Carry). ks ++ rest_carries) p ∙ append_assoc carries (carry ∷ []) rest_carries) in
       let q2 : children ++ child ∷ rest ≡ more ++ rest = sym (ap (λ (ns : List CallNode). ns ++ rest) q ∙ append_assoc children (child ∷ []) rest) in
-      subst (λ (ks : List Carry). Requests o f level call plan pick first ks (more ++ rest) end cut) p2
-      (subst (λ (ns : List CallNode). Requests o f level call plan pick first (carries ++ carry ∷ rest_carries) ns end cut) q2
+      subst (λ (ks : List Carry). Requests o w f level call plan pick first ks (more ++ rest) end cut) p2
+      (subst (λ (ns : List CallNode). Requests o w f level call plan pick first (carries ++ carry ∷ rest_carries) ns end cut) q2
       (steps_requests steps (one_then (ap (λ (c : CallRequest). Ask c carry) (sym (runs_shows r).0)) next requests)))
 
   shows_by : (f : Frame) (level : ℕ) (call : CallRequest) (node : CallNode) (plan : Plan) (p pick : Pick) (first : NativeStep) (carries : List Carry) (children : List CallNode) (end : End) (cut : Bool) (from to : Moment B) →
       plan ≡ plan_of call → seen node ≡ begun_node call level (Some p) carries children end → (seen node).pick ≡ Some pick →
       Starts o (context f level plan) p.func (received_by plan p) from first to →
-      Requests o f level call plan p first carries children end cut →
-      ShowsRequests o f (seen node) pick cut
+      Requests o w f level call plan p first carries children end cut →
+      ShowsRequests o w f (seen node) pick cut
   shows_by f level call node plan p pick first carries children end cut from to is s h starts requests =
       let q : Some p ≡ Some pick = sym (ap (λ (x : Seen). x.pick) s) ∙ h in
       let same : p ≡ pick = cc in
-      subst (λ (x : Pick). ShowsRequests o f (seen node) x cut) same
-      (subst (λ (x : Seen). ShowsRequests o f x p cut) (sym s)
-      (subst (λ (x : Plan). (before : Moment B) × (step : NativeStep) × (after : Moment B) × Starts o (context f level x) p.func (received_by x p) before step after × Requests o f level call x p step carries children end cut) is (from, first, to, starts, requests)))
+      subst (λ (x : Pick). ShowsRequests o w f (seen node) x cut) same
+      (subst (λ (x : Seen). ShowsRequests o w f x p cut) (sym s)
+      (subst (λ (x : Plan). (before : Moment B) × (step : NativeStep) × (after : Moment B) × Starts o (context f level x) p.func (received_by x p) before step after × Requests o w f level call x p step carries children end cut) is (from, first, to, starts, requests)))
 
   -- the children of a node with a pick are its requests
-  pub runs_requests : {f : Frame} {level : ℕ} {call : CallRequest} {node : CallNode} {before after : Moment B} {cut : Bool} (pick : Pick) → Runs o w f level call node before after cut → (seen node).pick ≡ Some pick → ShowsRequests o f (seen node) pick cut
+  pub runs_requests : {f : Frame} {level : ℕ} {call : CallRequest} {node : CallNode} {before after : Moment B} {cut : Bool} (pick : Pick) → Runs o w f level call node before after cut → (seen node).pick ≡ Some pick → ShowsRequests o w f (seen node) pick cut
   runs_requests pick (not_begun b s) h = let q : None ≡ Some pick = sym (ap (λ (x : Seen). x.pick) s) ∙ h in absurd cc
   runs_requests pick (ended {f = f} {level = level} {call = call} {pick = p} {end = end} b d s) h =
       let q : None ≡ Some pick = sym (ends_missing w.engine f level call p end d).0 ∙ sym (ap (λ (x : Seen). x.pick) s) ∙ h in absurd cc
   runs_requests pick (finished {f = f} {level = level} {call = call} {node = node} {plan = plan} {pick = p} {first = first} {carries = carries} {children = children} {end = end} b d starts steps e s) h =
       shows_by f level call node plan p pick first carries children end false _ _ (runs_plan w.engine f level call plan p d) s h starts
-      (subst (λ (ks : List Carry). Requests o f level call plan p first ks children end false) (append-nil carries)
-      (subst (λ (ns : List CallNode). Requests o f level call plan p first (carries ++ []) ns end false) (append-nil children)
+      (subst (λ (ks : List Carry). Requests o w f level call plan p first ks children end false) (append-nil carries)
+      (subst (λ (ns : List CallNode). Requests o w f level call plan p first (carries ++ []) ns end false) (append-nil children)
       (steps_requests steps (no_more e))))
   runs_requests pick (cut_short {f = f} {level = level} {call = call} {node = node} {child = child} {plan = plan} {pick = p} {first = first} {carries = carries} {carry = carry} {children = children} b d starts steps r s) h =
       shows_by f level call node plan p pick first (carries ++ carry ∷ []) (children ++ child ∷ []) (cut_end call) true _ _ (runs_plan w.engine f level call plan p d) s h starts

@@ -10,7 +10,8 @@ use Rattle.rhd_session.specs.Searched.{searched, pick_at}
 use Rattle.rhd_session.specs.Asks.{Asked, asks, looked}
 use Rattle.rhd_session.specs.NotFound.{not_found}
 use Rattle.rhd_session.specs.Plans.{Search, by_name, Plan, plan_of}
-use Rattle.rhd_session.specs.Ends.{End, failed}
+use Rattle.rhd_session.specs.declared.ends.End.{End}
+use Rattle.rhd_session.specs.Ends.{failed}
 use Rattle.rhd_session.specs.Decisions.{refusal}
 
 abbrev pub asks_by : Plan → Search → List Asked

@@ -23,3 +23,4 @@ pub mod Of
 pub mod FirstAsks
 pub mod Trees
 pub mod Requests
+pub mod Causes

@@ -4,14 +4,14 @@ use Rattle.rhd_func.specs.declared.request.CallRequest.{CallRequest}
 use Rattle.rhd_func.specs.declared.request.Carry.{Carry}
 use Rattle.rhd_func.specs.declared.request.NativeStep.{NativeStep}
 use Rattle.rhd_func.specs.declared.request.NativeStep.TheVariants.{Ask}
-use Rattle.rhd_func.specs.Funcs.{is_method}
 use Rattle.rhd_session.specs.Engine.{Frame}
 use Rattle.rhd_session.specs.World.{World, Objects, Moment, one_begun}
 use Rattle.rhd_session.specs.declared.node.CallNode.{CallNode}
 use Rattle.rhd_session.specs.declared.pick.Pick.{Pick}
 use Rattle.rhd_session.specs.Plans.{Plan}
-use Rattle.rhd_session.specs.Received.{Received, received}
-use Rattle.rhd_session.specs.Ends.{End, end_of}
+use Rattle.rhd_session.specs.Received.{Received, received, manner_of}
+use Rattle.rhd_session.specs.declared.ends.End.{End}
+use Rattle.rhd_session.specs.Ends.{end_of}
 use Rattle.rhd_session.specs.Decisions.{ends, runs, decision}
 use Rattle.rhd_session.specs.Entered.{context, entered}
 use Rattle.rhd_session.specs.Seen.{seen, begun_node, unbegun_node, cut_end, done_of}
@@ -19,7 +19,7 @@ use Rattle.rhd_session.specs.Steps.{Starts, Resumes}
 
 -- what is received by the function of a plan
 abbrev pub received_by : Plan → Pick → Received
-received_by plan pick = received (is_method pick.func) plan.shape
+received_by plan pick = received (manner_of pick.func) plan.shape
 
 -- Below, a call is asked for in a frame and at a level. The moments are those before and after it, and the
 -- truth value at the end says whether the budget was spent in it.
@@ -43,7 +43,7 @@ mutual
         decision w.engine f level call ≡ runs plan pick →
         Starts o (context f level plan) pick.func (received_by plan pick) (one_begun before) first started →
         Steps o w f level plan pick first carries children last started after →
-        end_of plan last ≡ Some end →
+        end_of w.engine plan pick last ≡ Some end →
         seen node ≡ begun_node call level (Some pick) carries children end →
         Runs o w f level call node before after false
     -- the budget is spent within the child of its latest request

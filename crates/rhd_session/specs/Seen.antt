@@ -8,7 +8,8 @@ use Rattle.rhd_func.specs.Shapes.{given, pos_of}
 use Rattle.rhd_session.specs.declared.pick.Pick.{Pick}
 use Rattle.rhd_session.specs.declared.node.CallNode.{CallNode, out-CallNode}
 use Rattle.rhd_session.specs.Nodes.{nodes_in}
-use Rattle.rhd_session.specs.Ends.{End, failed}
+use Rattle.rhd_session.specs.declared.ends.End.{End}
+use Rattle.rhd_session.specs.Ends.{failed}
 
 -- the parts of a node
 pub record Seen : Type 0 where
@@ -30,7 +31,7 @@ seen node =
       pick = n.pick;
       carries = n.carries;
       children = nodes_in n.children;
-      end = record { answer = n.answer; whose = n.whose; first_after = n.first_after };
+      end = record { answer = n.answer; whose = n.whose; first_after = n.first_after; refused = n.refused };
     }
 
 -- a node that was begun

@@ -4,7 +4,7 @@ use Rattle.rhd_func.specs.declared.request.CallRequest.{CallRequest}
 use Rattle.rhd_func.specs.declared.request.Carry.{Carry}
 use Rattle.rhd_func.specs.declared.request.NativeStep.{NativeStep}
 use Rattle.rhd_func.specs.declared.request.NativeStep.TheVariants.{Ask}
-use Rattle.rhd_session.specs.Engine.{Frame}
+use Rattle.rhd_session.specs.Engine.{EngineLists, Frame}
 use Rattle.rhd_session.specs.World.{World, Objects, Moment, one_begun}
 use Rattle.rhd_session.specs.declared.pick.Pick.{Pick}
 use Rattle.rhd_session.specs.declared.node.CallNode.{CallNode}
@@ -16,7 +16,8 @@ use Rattle.rhd_session.specs.declared.machine.Hand.{Hand}
 use Rattle.rhd_session.specs.declared.machine.Hand.TheVariants.{Asked, Answered}
 use Rattle.rhd_session.specs.Nodes.{nodes_in}
 use Rattle.rhd_session.specs.Plans.{Plan, plan_of}
-use Rattle.rhd_session.specs.Ends.{End, end_of}
+use Rattle.rhd_session.specs.declared.ends.End.{End}
+use Rattle.rhd_session.specs.Ends.{end_of}
 use Rattle.rhd_session.specs.Seen.{seen, begun_node}
 use Rattle.rhd_session.specs.Decisions.{runs, decision}
 use Rattle.rhd_session.specs.Entered.{context, entered}
@@ -48,14 +49,14 @@ pub data Open {B : Type 0} (o : Objects B) (w : World) : Frame → ℕ → CallR
       Open o w f level call frame (entered f level) waited before mid
 
 -- what a step of its function makes of a call under way
-pub data Settled (work : Work) : NativeStep → Outcome → Type 0 where
+pub data Settled (e : EngineLists) (work : Work) : NativeStep → Outcome → Type 0 where
   asks : {request : CallRequest} {carry : Carry} {frame : Suspended} →
       frame.work ≡ work → frame.carry ≡ carry →
-      Settled work (Ask request carry) (Waiting frame request)
+      Settled e work (Ask request carry) (Waiting frame request)
   ends_with : {step : NativeStep} {end : End} {node : CallNode} →
-      end_of (plan_of work.call) step ≡ Some end →
+      end_of e (plan_of work.call) work.pick step ≡ Some end →
       seen node ≡ begun_node work.call work.level (Some work.pick) work.carries (nodes_in work.children) end →
-      Settled work step (Finished node)
+      Settled e work step (Finished node)
 
 -- what a step of the machine makes of a call
 pub data Comes_to {B : Type 0} (o : Objects B) (w : World) : Frame → ℕ → CallRequest → Outcome → Moment B → Moment B → Type 0 where

@@ -9,11 +9,12 @@ ghost use Rattle.rhd_session.specs.World.{Moment, moment};
 ghost use Rattle.rhd_session.specs.Objects.{objects_of};
 ghost use Rattle.rhd_value.specs.Firsts.{first_of};
 ghost use Rattle.rhd_session.specs.Held.{func_held};
-ghost use Rattle.rhd_session.specs.Asks.{looked, allowed_asks, native_ask};
+ghost use Rattle.rhd_session.specs.Asks.{looked, allowed_asks, typed_asks, native_ask};
+ghost use Rattle.rhd_session.specs.Searched.{found};
 ghost use Rattle.rhd_session.specs.Plans.{plan_of};
 ghost use Rattle.rhd_session.specs.NotFound.{not_found};
 ghost use Rattle.rhd_session.specs.Ends.{failed};
-ghost use Rattle.rhd_session.specs.Decisions.{decision, runs, pick_of};
+ghost use Rattle.rhd_session.specs.Decisions.{refusal, decision, runs, pick_of};
 ghost use Rattle.rhd_session.specs.Seen.{seen, begun_node, done_of};
 ghost use Rattle.rhd_session.specs.Entered.{context, entered};
 ghost use Rattle.rhd_session.specs.Steps.{Starts, Resumes};
@@ -26,11 +27,13 @@ use crate::node::{CallNode, Carries, Nodes};
 use crate::pick::Pick;
 use crate::plan::{name_of, native_only_of, position_of, shape_of};
 use crate::received::{Received, context, context_if, receive};
-use crate::search::{find, native_key_of, script_key_of};
+use crate::refusal::refusal;
+use crate::search::{find, native_key_of, script_key_of, typed_key_of};
 use crate::session::Session;
 use rhd_func::{
     Bodies, CallDone, CallRequest, CallShape, Carry, NativeCallContext, NativeStep, RhaiFunc,
 };
+use rhd_module::Key;
 use rhd_value::{EvalAltResult, OutOfMemory, Text};
 use std::alloc::Global;
 
@@ -57,7 +60,8 @@ impl Session {
                 Hand::Asked(request) => {
                     if *begun >= self.limits.budget {
                         let level = stack.len() as u32 + 1;
-                        return self.cut_all::<B>(stack, CallNode::unbegun(alloc, request, level));
+                        let node = CallNode::unbegun(alloc, request, level)?;
+                        return self.cut_all::<B>(stack, node);
                     }
                     *begun += 1;
                     hand = self.ask(alloc, &mut stack, request, bodies)?;
@@ -130,10 +134,25 @@ impl Session {
     ) -> Result<Outcome, OutOfMemory>
         ensures { (n begun : ℕ) → begun < self.now.limits.budget → IfOk result (λ outcome. Comes_to (objects_of allows_call allows_resume B.allows_start B.allows_next (natives_of self.now)) (world_of info self.now) (entered (frame_of self.now) n) level call outcome (moment begun bodies.old) (moment (begun + 1) bodies.new)) }
     {
-        if level > self.limits.level {
-            let fault = EvalAltResult::ErrorStackOverflow(position_of(&call));
-            return Ok(Outcome::Finished(CallNode::failed(alloc, call, level, fault)));
+        match refusal(alloc, self.limits, level, &call)? {
+            Some(fault) => {
+                let node = CallNode::failed(alloc, call, level, fault)?;
+                Ok(Outcome::Finished(node))
+            }
+            None => self.begin_unrefused(alloc, call, level, bodies),
         }
+    }
+
+    /// Begins a call that nothing refuses: it isn't found, or its function takes its first step.
+    fn begin_unrefused<B: Bodies>(
+        &self,
+        alloc: Global,
+        call: CallRequest,
+        level: u32,
+        bodies: &mut B,
+    ) -> Result<Outcome, OutOfMemory>
+        ensures { (n begun : ℕ) → begun < self.now.limits.budget → refusal (world_of info self.now).engine level call ≡ None → IfOk result (λ outcome. Comes_to (objects_of allows_call allows_resume B.allows_start B.allows_next (natives_of self.now)) (world_of info self.now) (entered (frame_of self.now) n) level call outcome (moment begun bodies.old) (moment (begun + 1) bodies.new)) }
+    {
         match self.pick(alloc, &call)? {
             Some(pick) => self.begin_picked(alloc, call, level, pick, bodies),
             None => Ok(Outcome::Finished(missing(alloc, call, level)?)),
@@ -167,8 +186,28 @@ impl Session {
         if native_only {
             return Ok(None);
         }
-        let key = script_key_of(alloc, name, shape)?;
-        find(alloc, &self.libraries, &self.global, &key)
+        match self.pick_typed(alloc, name, shape)? {
+            Some(pick) => Ok(Some(pick)),
+            None => {
+                let key = script_key_of(alloc, name, shape)?;
+                self.found(alloc, &key)
+            }
+        }
+    }
+
+    /// The script of its object's type that a call means.
+    fn pick_typed(
+        &self,
+        alloc: Global,
+        name: &Text,
+        shape: &CallShape,
+    ) -> Result<Option<Pick>, OutOfMemory>
+        ensures { IfOk result (λ pick. pick ≡ first_of (looked (world_of info self.now).engine (frame_of self.now)) (typed_asks name.now shape.now)) }
+    {
+        match typed_key_of(alloc, name, shape)? {
+            Some(key) => self.found(alloc, &key),
+            None => Ok(None),
+        }
     }
 
     /// The native that a call means.
@@ -181,7 +220,14 @@ impl Session {
         ensures { IfOk result (λ pick. pick ≡ looked (world_of info self.now).engine (frame_of self.now) (native_ask name.now shape.now)) }
     {
         let key = native_key_of(alloc, name, shape)?;
-        find(alloc, &self.libraries, &self.global, &key)
+        self.found(alloc, &key)
+    }
+
+    /// What is found under a key.
+    fn found(&self, alloc: Global, key: &Key) -> Result<Option<Pick>, OutOfMemory>
+        ensures { IfOk result (λ pick. pick ≡ found (world_of info self.now).engine (frame_of self.now) key.now) }
+    {
+        find(alloc, &self.libraries, &self.global, key)
     }
 
     /// The first step of the function that is picked.
@@ -204,7 +250,7 @@ impl Session {
             carries: Carries::new(alloc),
             children: Nodes::new(alloc),
         };
-        Ok(settle(work, step))
+        settle(alloc, self.limits, work, step)
     }
 
     /// The next step of a function that waits, after the answer to its request.
@@ -219,7 +265,7 @@ impl Session {
         ensures { (n level begun : ℕ) (inner : Frame) (call waited : CallRequest) (before mid : Moment B) → Open (objects_of allows_call allows_resume B.allows_start B.allows_next (natives_of self.now)) (world_of info self.now) (entered (frame_of self.now) n) level call frame inner waited before mid → Runs (objects_of allows_call allows_resume B.allows_start B.allows_next (natives_of self.now)) (world_of info self.now) inner (level + 1) waited child mid (moment begun bodies.old) false → IfOk result (λ outcome. Comes_to (objects_of allows_call allows_resume B.allows_start B.allows_next (natives_of self.now)) (world_of info self.now) (entered (frame_of self.now) n) level call outcome before (moment begun bodies.new)) }
     {
         let step = self.answered_step(alloc, &frame, &child, bodies)?;
-        Ok(settle(joined(frame, child)?, step))
+        settle(alloc, self.limits, joined(frame, child)?, step)
     }
 
     /// The next step of a function that waits, after the answer of a child.
@@ -250,7 +296,7 @@ impl Session {
         requires { func_held (length (natives_of self.now).items.items) pick.now.func ≡ true }
         ensures { (begun : ℕ) → IfOk result (λ step. Starts (objects_of allows_call allows_resume B.allows_start B.allows_next (natives_of self.now)) (context (frame_of self.now) level (plan_of call.now)) pick.now.func (received_by (plan_of call.now) pick.now) (moment begun bodies.old) step (moment begun bodies.new)) }
     {
-        let received = receive(alloc, pick.func.is_method(), shape_of(call))?;
+        let received = receive(alloc, &pick.func, shape_of(call))?;
         let ctx = context(alloc, name_of(call), position_of(call), level)?;
         self.start(alloc, &pick.func, &ctx, received, bodies)
     }
@@ -335,8 +381,7 @@ impl Session {
 fn missing(alloc: Global, call: CallRequest, level: u32) -> Result<CallNode, OutOfMemory>
     ensures { IfOk result (λ node. seen node ≡ begun_node call level None [] [] (failed (plan_of call).given (not_found (plan_of call).pos (plan_of call).name (all_args (plan_of call).shape)))) }
 {
-    let CallShape::Plain(args) = shape_of(&call);
-    let signature = signature(alloc, name_of(&call), args)?;
+    let signature = signature(alloc, name_of(&call), shape_of(&call))?;
     let fault = EvalAltResult::ErrorFunctionNotFound(signature, position_of(&call));
-    Ok(CallNode::failed(alloc, call, level, fault))
+    CallNode::failed(alloc, call, level, fault)
 }

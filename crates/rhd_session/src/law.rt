@@ -12,7 +12,8 @@ ghost use Rattle.rhd_session.specs.declared.pick.Pick.{Pick};
 ghost use Rattle.rhd_session.specs.Engine.{EngineLists, Frame};
 ghost use Rattle.rhd_session.specs.Searched.{found};
 ghost use Rattle.rhd_session.specs.Plans.{Plan, plan_of};
-ghost use Rattle.rhd_session.specs.Ends.{End, failed};
+ghost use Rattle.rhd_session.specs.declared.ends.End.{End};
+ghost use Rattle.rhd_session.specs.Ends.{failed};
 ghost use Rattle.rhd_session.specs.Decisions.{ends, runs, refusal, decision};
 ghost use Rattle.rhd_session.specs.FirstAsks.{IsAnsweredFirst, EndsAlone, IsOfFirstPlace};
 ghost use Rattle.rhd_session.specs.World.{Moment};
@@ -63,7 +64,7 @@ pub fn a_spent_budget_ends_the_tree<B: Bodies>(session: &Session)
 /// The children of a node are the requests of its function, in order, each with that very request,
 /// and the function goes on with each answer. Without a function there are none.
 pub fn the_children_of_a_node_are_its_requests<B: Bodies>(session: &Session)
-    ensures shown { (f : Frame) (level : ℕ) (call : CallRequest) (node : CallNode) (before after : Moment B) (cut : Bool) (pick : Pick) → Runs (objects_of allows_call allows_resume B.allows_start B.allows_next (natives_of session.now)) (world_of info session.now) f level call node before after cut → (seen node).pick ≡ Some pick → ShowsRequests (objects_of allows_call allows_resume B.allows_start B.allows_next (natives_of session.now)) f (seen node) pick cut }
+    ensures shown { (f : Frame) (level : ℕ) (call : CallRequest) (node : CallNode) (before after : Moment B) (cut : Bool) (pick : Pick) → Runs (objects_of allows_call allows_resume B.allows_start B.allows_next (natives_of session.now)) (world_of info session.now) f level call node before after cut → (seen node).pick ≡ Some pick → ShowsRequests (objects_of allows_call allows_resume B.allows_start B.allows_next (natives_of session.now)) (world_of info session.now) f (seen node) pick cut }
     ensures alone { (f : Frame) (level : ℕ) (call : CallRequest) (node : CallNode) (before after : Moment B) (cut : Bool) → Runs (objects_of allows_call allows_resume B.allows_start B.allows_next (natives_of session.now)) (world_of info session.now) f level call node before after cut → (seen node).pick ≡ None → ((seen node).carries ≡ []) × ((seen node).children ≡ []) }
     ensures as_many { (f : Frame) (level : ℕ) (call : CallRequest) (node : CallNode) (before after : Moment B) (cut : Bool) → Runs (objects_of allows_call allows_resume B.allows_start B.allows_next (natives_of session.now)) (world_of info session.now) f level call node before after cut → length (seen node).carries ≡ length (seen node).children }
 {}

@@ -3,15 +3,17 @@
 ghost use Rattle.std.specs.Prelude.{◌≡◌, ◌+◌, ◌++◌, ◌∷◌, [], IfOk, length, Some};
 ghost use Rattle.rhd_session.specs.Nodes.{nodes_in};
 ghost use Rattle.rhd_session.specs.Seen.{seen, begun_node, cut_end};
-ghost use Rattle.rhd_session.specs.Plans.{plan_of};
-ghost use Rattle.rhd_session.specs.Ends.{called};
+ghost use Rattle.rhd_session.specs.Engine.{EngineLists};
 ghost use Rattle.rhd_session.specs.Waits.{Settled, Put, weight, kept, keeping};
 
+use crate::ends::{End, done, handed_on};
+use crate::limits::Limits;
 use crate::node::{CallNode, Carries, Nodes, Whose};
 use crate::pick::Pick;
 use crate::plan::position_of;
 use rhd_func::{CallRequest, Carry, NativeStep};
-use rhd_value::{Dynamic, EvalAltResult, OutOfMemory};
+use rhd_value::{EvalAltResult, OutOfMemory};
+use std::alloc::Global;
 
 /// A call under way: what was asked of it, and what its function asked for so far.
 #[derive(Drop)]
@@ -47,27 +49,32 @@ pub enum Hand {
 }
 
 /// Takes the step of a call's function.
-pub fn settle(work: Work, step: NativeStep) -> Outcome
-    ensures { Settled work step result }
+pub fn settle(
+    alloc: Global,
+    limits: Limits,
+    work: Work,
+    step: NativeStep,
+) -> Result<Outcome, OutOfMemory>
+    ensures { (e : EngineLists) → e.limits ≡ limits → IfOk result (λ outcome. Settled e work step outcome) }
 {
     match step {
-        NativeStep::Done {
-            answer,
-            first: _first,
-        } => Outcome::Finished(end_call(work, Ok(answer))),
-        NativeStep::Failed {
-            fault,
-            first: _first,
-        } => Outcome::Finished(end_call(work, Err(fault))),
+        NativeStep::Done { answer, first } => {
+            let end = done(alloc, limits, &work.call, &work.pick, answer, first)?;
+            Ok(Outcome::Finished(end_call(work, end)))
+        }
+        NativeStep::Failed { fault, first } => {
+            let end = handed_on(alloc, &work.call, &work.pick, fault, first)?;
+            Ok(Outcome::Finished(end_call(work, end)))
+        }
         NativeStep::Ask { request, carry } => {
-            Outcome::Waiting(Suspended { work, carry }, request)
+            Ok(Outcome::Waiting(Suspended { work, carry }, request))
         }
     }
 }
 
 /// The node of a call whose function took its last step.
-fn end_call(work: Work, answer: Result<Dynamic, EvalAltResult>) -> CallNode
-    ensures { seen result ≡ begun_node work.call work.level (Some work.pick) work.carries (nodes_in work.children) (called (plan_of work.call) answer) }
+fn end_call(work: Work, end: End) -> CallNode
+    ensures { seen result ≡ begun_node work.call work.level (Some work.pick) work.carries (nodes_in work.children) end }
 {
     CallNode {
         call: work.call,
@@ -76,9 +83,10 @@ fn end_call(work: Work, answer: Result<Dynamic, EvalAltResult>) -> CallNode
         pick: Some(work.pick),
         carries: work.carries,
         children: work.children,
-        answer,
-        whose: Whose::Called,
-        first_after: None,
+        answer: end.answer,
+        whose: end.whose,
+        first_after: end.first_after,
+        refused: end.refused,
     }
 }
 
@@ -128,5 +136,6 @@ fn closed(work: Work) -> CallNode
         answer: Err(EvalAltResult::ErrorTooManyOperations(pos)),
         whose: Whose::Call,
         first_after: None,
+        refused: None,
     }
 }

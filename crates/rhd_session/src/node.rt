@@ -6,8 +6,10 @@ ghost use Rattle.rhd_func.specs.Shapes.{given};
 ghost use Rattle.rhd_session.specs.Nodes.{nodes_in};
 ghost use Rattle.rhd_session.specs.Seen.{seen, begun_node, unbegun_node, done_of};
 
+use crate::ends::{End, failed};
 use crate::pick::Pick;
 use crate::plan::position_of;
+use crate::received::given;
 use rhd_func::{CallDone, CallRequest, Carry};
 use rhd_value::{Dynamic, EvalAltResult, OutOfMemory};
 use std::alloc::Global;
@@ -81,8 +83,10 @@ pub struct CallNode {
     pub children: Nodes,
     pub answer: Result<Dynamic, EvalAltResult>,
     pub whose: Whose,
-    /// The first argument by reference, as it is after the call.
+    /// The first argument by reference, or the object, as it is after the call.
     pub first_after: Option<Dynamic>,
+    /// The value that the call refused, where it did.
+    pub refused: Option<Dynamic>,
 }
 
 /// Nodes in the order in which they were asked for.
@@ -112,11 +116,12 @@ impl Nodes {
 
 impl CallNode {
     /// A call that isn't begun, as the budget is spent.
-    pub fn unbegun(alloc: Global, call: CallRequest, level: u32) -> CallNode
-        ensures { seen result ≡ unbegun_node call level }
+    pub fn unbegun(alloc: Global, call: CallRequest, level: u32) -> Result<CallNode, OutOfMemory>
+        ensures { IfOk result (λ node. seen node ≡ unbegun_node call level) }
     {
+        let first_after = given(alloc, &call)?;
         let pos = position_of(&call);
-        CallNode {
+        Ok(CallNode {
             call,
             level,
             begun: false,
@@ -125,13 +130,14 @@ impl CallNode {
             children: Nodes::new(alloc),
             answer: Err(EvalAltResult::ErrorTooManyOperations(pos)),
             whose: Whose::Call,
-            first_after: None,
-        }
+            first_after,
+            refused: None,
+        })
     }
 
-    /// A call for which nothing runs.
-    pub fn failed(alloc: Global, call: CallRequest, level: u32, fault: EvalAltResult) -> CallNode
-        ensures { seen result ≡ begun_node call level None [] [] (failed (given call) fault) }
+    /// A call that is begun, and for which nothing runs.
+    fn alone(alloc: Global, call: CallRequest, level: u32, end: End) -> CallNode
+        ensures { seen result ≡ begun_node call level None [] [] end }
     {
         CallNode {
             call,
@@ -140,10 +146,24 @@ impl CallNode {
             pick: None,
             carries: Carries::new(alloc),
             children: Nodes::new(alloc),
-            answer: Err(fault),
-            whose: Whose::Call,
-            first_after: None,
+            answer: end.answer,
+            whose: end.whose,
+            first_after: end.first_after,
+            refused: end.refused,
         }
+    }
+
+    /// A call that ends with a fault of its own, and for which nothing runs.
+    pub fn failed(
+        alloc: Global,
+        call: CallRequest,
+        level: u32,
+        fault: EvalAltResult,
+    ) -> Result<CallNode, OutOfMemory>
+        ensures { IfOk result (λ node. seen node ≡ begun_node call level None [] [] (failed (given call) fault)) }
+    {
+        let first = given(alloc, &call)?;
+        Ok(CallNode::alone(alloc, call, level, failed(first, fault)))
     }
 
     /// What the function that asked for the call is told.

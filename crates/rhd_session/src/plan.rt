@@ -4,7 +4,7 @@ ghost use Rattle.std.specs.Prelude.{◌≡◌};
 ghost use Rattle.rhd_session.specs.Plans.{by_name, plan_of};
 
 use rhd_func::{CallRequest, CallShape};
-use rhd_value::{Position, Text};
+use rhd_value::{Position, Text, TypeTag};
 
 /// The name that is called.
 pub fn name_of(request: &CallRequest) -> &Text
@@ -21,6 +21,15 @@ pub fn shape_of(request: &CallRequest) -> &CallShape
 {
     match request {
         CallRequest::Named { shape, .. } => shape,
+    }
+}
+
+/// The type that the answer has to have; any, where there is none.
+pub fn want_of(request: &CallRequest) -> Option<TypeTag>
+    ensures { result ≡ (plan_of request.now).want }
+{
+    match request {
+        CallRequest::Named { want, .. } => *want,
     }
 }
 

@@ -1,10 +1,12 @@
 //! The search for the function that a call means.
 
-ghost use Rattle.std.specs.Prelude.{◌≡◌, ◌++◌, ◌∷◌, [], IfOk, length, map, None};
+ghost use Rattle.std.specs.Prelude.{◌≡◌, ◌++◌, ◌∷◌, [], IfOk, OnOk, map, None};
+ghost use Rattle.std.specs.Option.{option_to_list};
 ghost use Rattle.rhd_value.specs.Kinds.{tag_of};
 ghost use Rattle.rhd_value.specs.Firsts.{first_of};
 ghost use Rattle.rhd_func.specs.Shapes.{all_args};
 ghost use Rattle.rhd_module.specs.declared.key.Key.TheVariants as keys;
+ghost use Rattle.rhd_session.specs.Asks.{asked_key, params_of, typed_asks};
 ghost use Rattle.rhd_session.specs.Searched.{libraries as places, own_place, pick_at};
 
 use crate::pick::{Layer, Pick};
@@ -13,13 +15,31 @@ use rhd_module::{Key, Module, SharedModule};
 use rhd_value::{OutOfMemory, Text, Types, Values};
 use std::alloc::Global;
 
-/// The kinds of values, in order.
-fn kinds_of(alloc: Global, values: &Values) -> Result<Types, OutOfMemory>
-    ensures { IfOk result (λ kinds. kinds ≡ map tag_of values.now) }
+/// Puts the kinds of values last.
+fn push_kinds(kinds: &mut Types, values: &Values) -> Result<(), OutOfMemory>
+    ensures { OnOk result (kinds.new ≡ kinds.old ++ map tag_of values.now) }
 {
-    let mut kinds = Types::new(alloc);
     for value in values.as_slice() {
         kinds.push(value.kind())?;
+    }
+    Ok(())
+}
+
+/// The kinds of all arguments, in order.
+fn kinds_of(alloc: Global, shape: &CallShape) -> Result<Types, OutOfMemory>
+    ensures { IfOk result (λ kinds. kinds ≡ map tag_of (all_args shape.now)) }
+{
+    let mut kinds = Types::new(alloc);
+    match shape {
+        CallShape::Plain(args) => push_kinds(&mut kinds, args)?,
+        CallShape::ByRef(first, args) => {
+            kinds.push(first.kind())?;
+            push_kinds(&mut kinds, args)?;
+        }
+        CallShape::Method(object, args) => {
+            kinds.push(object.kind())?;
+            push_kinds(&mut kinds, args)?;
+        }
     }
     Ok(kinds)
 }
@@ -28,25 +48,52 @@ fn kinds_of(alloc: Global, values: &Values) -> Result<Types, OutOfMemory>
 pub fn native_key_of(alloc: Global, name: &Text, shape: &CallShape) -> Result<Key, OutOfMemory>
     ensures { IfOk result (λ key. key ≡ keys.Native None name.now (map tag_of (all_args shape.now))) }
 {
+    Ok(Key::Native {
+        path: None,
+        name: name.dup(alloc)?,
+        types: kinds_of(alloc, shape)?,
+    })
+}
+
+/// The number of arguments, an object not counted.
+fn params_of(shape: &CallShape) -> u64
+    ensures { result ≡ params_of shape.now }
+{
     match shape {
-        CallShape::Plain(args) => Ok(Key::Native {
-            path: None,
-            name: name.dup(alloc)?,
-            types: kinds_of(alloc, args)?,
-        }),
+        CallShape::Plain(args) => args.len() as u64,
+        CallShape::ByRef(_, args) => args.as_slice().len() as u64 + 1,
+        CallShape::Method(_, args) => args.len() as u64,
     }
 }
 
 /// The key of a script that takes so many arguments.
 pub fn script_key_of(alloc: Global, name: &Text, shape: &CallShape) -> Result<Key, OutOfMemory>
-    ensures { IfOk result (λ key. key ≡ keys.Script None name.now (length (all_args shape.now))) }
+    ensures { IfOk result (λ key. key ≡ keys.Script None name.now (params_of shape.now)) }
+{
+    Ok(Key::Script {
+        path: None,
+        name: name.dup(alloc)?,
+        params: params_of(shape),
+    })
+}
+
+/// The key of a script of an object's type; none where there is no object.
+pub fn typed_key_of(
+    alloc: Global,
+    name: &Text,
+    shape: &CallShape,
+) -> Result<Option<Key>, OutOfMemory>
+    ensures { IfOk result (λ key. option_to_list key ≡ map asked_key (typed_asks name.now shape.now)) }
 {
     match shape {
-        CallShape::Plain(args) => Ok(Key::Script {
+        CallShape::Plain(_) => Ok(None),
+        CallShape::ByRef(_, _) => Ok(None),
+        CallShape::Method(object, _) => Ok(Some(Key::Typed {
             path: None,
             name: name.dup(alloc)?,
-            params: args.len() as u64,
-        }),
+            params: params_of(shape),
+            this_type: object.type_name(alloc)?,
+        })),
     }
 }
 

@@ -95,7 +95,7 @@ impl Session {
     ) -> Result<Replies, Stopped>
         requires { length (modules_of self.old) + length commands.now < 2 ^ 32 }
         ensures answered { IfOk result (λ replies. Answered (objects_of allows_call allows_resume B.allows_start B.allows_next (natives_of self.old)) (world_of info self.old) (frame_of self.old) (moment_of self.old bodies.old) commands.now replies (world_of info self.new) (frame_of self.new) (moment_of self.new bodies.new)) }
-        ensures stopped { IfErr result (λ stopped. (after : Moment B) × Answered (objects_of allows_call allows_resume B.allows_start B.allows_next (natives_of self.old)) (world_of info self.old) (frame_of self.old) (moment_of self.old bodies.old) (take (length stopped.replies) commands.now) stopped.replies (world_of info self.new) (frame_of self.new) after × (after.begun ≤ calls_begun_of self.new)) }
+        ensures stopped { IfErr result (λ stopped. (after : Moment B) × Answered (objects_of allows_call allows_resume B.allows_start B.allows_next (natives_of self.old)) (world_of info self.old) (frame_of self.old) (moment_of self.old bodies.old) (take (length stopped.replies) commands.now) stopped.replies (world_of info self.new) (frame_of self.new) after × (after.begun ≤ calls_begun_of self.new) × (length stopped.replies < length commands.now)) }
         ensures counted { IfOk result (λ replies. length replies ≡ length commands.now) }
         ensures modules { length (modules_of self.new) ≤ length (modules_of self.old) + length commands.now }
         ensures natives { natives_of self.new ≡ natives_of self.old }

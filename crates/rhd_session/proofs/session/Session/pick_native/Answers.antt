@@ -1,9 +1,9 @@
-use Rattle.std.proofs.Common.{refl}
+use Rattle.std.proofs.Common.{◌∙◌, ap}
 use Rattle.std.proofs.lemmas.Result.{IfOk-weaker}
+use Rattle.rhd_module.specs.declared.key.Key.{Key}
 use Rattle.rhd_session.specs.Of.{world_of, frame_of}
-use Rattle.rhd_session.proofs.Found.{found_by}
+use Rattle.rhd_session.specs.Searched.{found}
 use Rattle.rhd_session.proofs.session.Session.pick_native.Goals as goal
 
 pub returns : goal.returns
-unfolding world_of
-returns g c = IfOk-weaker c.find.result _ _ (λ last e. found_by (world_of (λ z. (goal.PluginFunc-dyn g z).info z.1) c.args.self.now).engine (frame_of c.args.self.now) c.args.self.now.global c.deref.result.now c.in_ok-key.key _ last refl c.deref.ensures.value c.in_ok-key.ensures e) c.find.ensures
+returns g c = IfOk-weaker c.found.result _ _ (λ last e. e ∙ ap (found (world_of (λ z. (goal.PluginFunc-dyn g z).info z.1) c.args.self.now).engine (frame_of c.args.self.now)) c.in_ok-key.ensures) c.found.ensures

@@ -15,9 +15,9 @@ unfolding world_of
 returns-then-begun-self-clause-runs g c =
     let going = rw c.in-Asked.is at c.loop-hand.invariant.going in
     let e : c.len.result ≡ length c.loop-hand.stack.items = search rules in
-    let h = rw e at c.unbegun.ensures in
+    let h = rw e at c.in_ok-node-in-Asked.ensures in
     let b : c.loop-hand.begun ≡ c.args.self.now.limits.budget = omega (arith, c.loop-hand.invariant.within, c.if-begun-self.true) in
-    IfOk-weaker c.cut_all.result _ _ (λ node r. (true, r)) (c.cut_all.ensures c.args.call (moment c.args.begun.now c.args.bodies.now) (moment c.loop-hand.begun c.loop-hand.bodies) (spent _ _ c.loop-hand.stack.items (frame_of c.args.self.now) c.args.call c.in-Asked.request (moment c.args.begun.now c.args.bodies.now) (moment c.loop-hand.begun c.loop-hand.bodies) c.unbegun.result b h going))
+    IfOk-weaker c.cut_all.result _ _ (λ node r. (true, r)) (c.cut_all.ensures c.args.call (moment c.args.begun.now c.args.bodies.now) (moment c.loop-hand.begun c.loop-hand.bodies) (spent _ _ c.loop-hand.stack.items (frame_of c.args.self.now) c.args.call c.in-Asked.request (moment c.args.begun.now c.args.bodies.now) (moment c.loop-hand.begun c.loop-hand.bodies) c.in_ok-node-in-Asked.node b h going))
 
 pub overflow_cast-level : goal.overflow_cast-level
 unfolding world_of
