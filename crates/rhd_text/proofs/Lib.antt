@@ -7,6 +7,8 @@ pub mod ListLaws
 pub mod ByteLaws
 pub mod QuoteLaws
 pub mod FlagLaws
+pub mod WantLaws
+pub mod ObjectLaws
 pub mod ValueLaws
 pub mod ArgumentLaws
 pub mod OperandLaws

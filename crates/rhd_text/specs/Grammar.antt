@@ -7,8 +7,8 @@ use Rattle.rhd_text.specs.declared.line.Line.{Line}
 use Rattle.rhd_text.specs.declared.line.Line.TheVariants.{Skipped, Says}
 use Rattle.rhd_text.specs.declared.keyword.Keyword.{Keyword}
 use Rattle.rhd_text.specs.declared.keyword.Keyword.TheVariants.{Do}
-use Rattle.rhd_text.specs.Rows.{Operand, NAME, WORD, WORDS, NUM, LONG, ARG, ARGS, OPTIONAL, Meaning, From, row, call_word, keyword}
-use Rattle.rhd_text.specs.Spans.{Span, ◌▸◌, blanks, bare, name, word, words, optional, number, argument, arguments}
+use Rattle.rhd_text.specs.Rows.{Operand, NAME, WORD, WORDS, NUM, LONG, ARG, ARGS, OPTIONAL, WANT, THIS, Meaning, From, row, call_word, keyword}
+use Rattle.rhd_text.specs.Spans.{Span, ◌▸◌, blanks, bare, name, word, words, optional, number, want, this, argument, arguments}
 
 -- how each kind of operand is written
 abbrev pub operand : (o : Operand) → Meaning o → Span
@@ -20,6 +20,8 @@ operand LONG = number 64
 operand ARG = argument true
 operand (ARGS given) = arguments given
 operand (OPTIONAL w) = optional w
+operand WANT = want
+operand THIS = this
 
 -- the operands of a row, to the end of the line, where the row gives this of what they say
 abbrev pub operands : {R : Type 0} (os : List Operand) → From os (Option R) → R → List ℕ → Type 0

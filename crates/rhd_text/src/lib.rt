@@ -17,8 +17,10 @@ mod place;
 mod printing;
 mod quoted;
 mod reading;
+mod requests;
 mod session;
 mod values;
+mod wants;
 mod words;
 
 pub use body::{BodyEnd, BodyPlan, BodyPlans, CallPlan, CallPlans, Given, GivenAt, Places};
