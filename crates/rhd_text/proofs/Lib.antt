@@ -13,6 +13,7 @@ pub mod ValueLaws
 pub mod ArgumentLaws
 pub mod OperandLaws
 pub mod RowLaws
+pub mod CallLaws
 pub mod SessionLaws
 pub mod Utf8Laws
 pub mod BodyLaws

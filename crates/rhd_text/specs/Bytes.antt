@@ -60,7 +60,7 @@ unfoldable pub given_of : List ℕ → Option Given
 given_of w =
     if bytes_eq w (codes "$this") then Some This
     else (if bytes_eq w (codes "$last") then Some Last
-    else (if begins 36 w then option_map (λ n. Arg n) (num_of 32 (drop 1 w)) else None))
+    else (if begins 36 w then option_map (λ n. Arg n) (num_of 64 (drop 1 w)) else None))
 
 -- `custom` and the number of a custom kind
 unfoldable pub custom_of : List ℕ → Option TypeTag

@@ -1,7 +1,10 @@
 -- HOW A LINE IS WRITTEN, by the table of Rows.
-use Rattle.std.specs.Prelude.{◌≡◌, ◌⊎◌, ℕ, true, List, [], ◌∷◌, Option, Some, codes}
+use Rattle.std.specs.Prelude.{◌≡◌, ◌⊎◌, ℕ, true, List, [], ◌∷◌, Option, Some, None, codes}
 use Rattle.std.specs.Str.{is_utf8}
+use Rattle.rhd_func.specs.declared.request.CallRequest.{CallRequest}
+use Rattle.rhd_session.specs.declared.command.Command.TheVariants.{Call}
 use Rattle.rhd_text.specs.declared.part.Part.{Part}
+use Rattle.rhd_text.specs.declared.part.Part.TheVariants.{Command}
 use Rattle.rhd_text.specs.declared.place.Place.{Place}
 use Rattle.rhd_text.specs.declared.line.Line.{Line}
 use Rattle.rhd_text.specs.declared.line.Line.TheVariants.{Skipped, Says}
@@ -46,3 +49,12 @@ WrittenLine place (Says p) bytes = part place p bytes
 pub record IsLine (held : ℕ) (n : ℕ) (line : Line) (bytes : List ℕ) : Type 0 where
   pub text : is_utf8 bytes ≡ true
   pub written : WrittenLine (record { held = held; line = n }) line bytes
+
+-- line n is a call line of this request, however many natives are held
+abbrev pub IsCall : ℕ → CallRequest → List ℕ → Type 0
+IsCall n request bytes = (held : ℕ) → IsLine held n (Says (Command (Call request))) bytes
+
+-- it is a call line of this request; or it is no call line
+abbrev pub IsCallOrNone : ℕ → List ℕ → Option CallRequest → Type 0
+IsCallOrNone n bytes (Some request) = IsCall n request bytes
+IsCallOrNone n bytes None = (request : CallRequest) → IsCall n request bytes → ⊥

@@ -1,7 +1,10 @@
 -- How rows and lines are read.
 use Rattle.std.specs.Prelude.{ℕ, Bool, true, not, List, [], ◌∷◌, Option, Some, None, ◌==◌, codes, if◌then◌else◌}
 use Rattle.std.specs.Str.{is_utf8, bytes_eq}
+use Rattle.rhd_func.specs.declared.request.CallRequest.{CallRequest}
+use Rattle.rhd_session.specs.declared.command.Command.TheVariants as commands
 use Rattle.rhd_text.specs.declared.part.Part.{Part}
+use Rattle.rhd_text.specs.declared.part.Part.TheVariants as parts
 use Rattle.rhd_text.specs.declared.place.Place.{Place}
 use Rattle.rhd_text.specs.declared.line.Line.{Line}
 use Rattle.rhd_text.specs.declared.line.Line.TheVariants.{Skipped, Says}
@@ -85,3 +88,8 @@ line_at place line = if not (is_utf8 line) then None else (if is_skipped line th
 -- what line n says, where so many natives are held
 abbrev pub line_of : ℕ → ℕ → List ℕ → Option Line
 line_of held n line = line_at (record { held = held; line = n }) line
+
+-- the request of a call line
+abbrev pub request_in : Line → Option CallRequest
+request_in (Says (parts.Command (commands.Call request))) = Some request
+request_in _ = None

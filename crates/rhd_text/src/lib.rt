@@ -4,6 +4,7 @@
 mod arguments;
 mod body;
 mod brackets;
+mod calls;
 mod fault;
 mod forms;
 mod keyword;
@@ -24,6 +25,7 @@ mod wants;
 mod words;
 
 pub use body::{BodyEnd, BodyPlan, BodyPlans, CallPlan, CallPlans, Given, GivenAt, Places};
+pub use calls::read_call;
 pub use fault::TextFault;
 pub use laws::{lines_are_read_as_they_are_written, texts_of_lines_are_utf8, texts_say_one_thing};
 pub use printing::{print_replies, print_reply, print_value};
