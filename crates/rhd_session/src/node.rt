@@ -1,10 +1,14 @@
 //! The tree of a call.
 
-ghost use Rattle.std.specs.Prelude.{◌≡◌, ◌++◌, ◌∷◌, [], if◌then◌else◌, is_ok};
+ghost use Rattle.std.specs.Prelude.{◌≡◌, ◌++◌, ◌∷◌, [], if◌then◌else◌, is_ok, None, Some, IfOk};
+ghost use Rattle.rhd_session.specs.Ends.{failed};
+ghost use Rattle.rhd_func.specs.Shapes.{given};
 ghost use Rattle.rhd_session.specs.Nodes.{nodes_in};
+ghost use Rattle.rhd_session.specs.Seen.{seen, begun_node, unbegun_node, done_of};
 
 use crate::pick::Pick;
-use rhd_func::{CallRequest, Carry};
+use crate::plan::position_of;
+use rhd_func::{CallDone, CallRequest, Carry};
 use rhd_value::{Dynamic, EvalAltResult, OutOfMemory};
 use std::alloc::Global;
 use std::marker::Model;
@@ -79,8 +83,6 @@ pub struct CallNode {
     pub whose: Whose,
     /// The first argument by reference, as it is after the call.
     pub first_after: Option<Dynamic>,
-    /// The answer that was refused, if one was.
-    pub refused: Option<Dynamic>,
 }
 
 /// Nodes in the order in which they were asked for.
@@ -105,5 +107,57 @@ impl Nodes {
     {
         self.items.push(node)?;
         Ok(())
+    }
+}
+
+impl CallNode {
+    /// A call that isn't begun, as the budget is spent.
+    pub fn unbegun(alloc: Global, call: CallRequest, level: u32) -> CallNode
+        ensures { seen result ≡ unbegun_node call level }
+    {
+        let pos = position_of(&call);
+        CallNode {
+            call,
+            level,
+            begun: false,
+            pick: None,
+            carries: Carries::new(alloc),
+            children: Nodes::new(alloc),
+            answer: Err(EvalAltResult::ErrorTooManyOperations(pos)),
+            whose: Whose::Call,
+            first_after: None,
+        }
+    }
+
+    /// A call for which nothing runs.
+    pub fn failed(alloc: Global, call: CallRequest, level: u32, fault: EvalAltResult) -> CallNode
+        ensures { seen result ≡ begun_node call level None [] [] (failed (given call) fault) }
+    {
+        CallNode {
+            call,
+            level,
+            begun: true,
+            pick: None,
+            carries: Carries::new(alloc),
+            children: Nodes::new(alloc),
+            answer: Err(fault),
+            whose: Whose::Call,
+            first_after: None,
+        }
+    }
+
+    /// What the function that asked for the call is told.
+    pub fn done(&self, alloc: Global) -> Result<CallDone, OutOfMemory>
+        ensures { IfOk result (λ done. done ≡ done_of self.now) }
+    {
+        let answer = match &self.answer {
+            Ok(value) => Ok(value.dup(alloc)?),
+            Err(fault) => Err(fault.dup(alloc)?),
+        };
+        let first = match &self.first_after {
+            Some(value) => Some(value.dup(alloc)?),
+            None => None,
+        };
+        Ok(CallDone { answer, first })
     }
 }

@@ -1,0 +1,6 @@
+use Rattle.std.proofs.Common.{◌≡◌, take, map}
+use Rattle.rhd_value.specs.Kinds.{tag_of}
+use Rattle.rhd_session.proofs.search.kinds_of.Given as goal
+
+abbrev pub invariant-loop-value : goal.invariant-loop-value
+invariant-loop-value l = l.kinds ≡ map tag_of (take l.value-index l.values)

@@ -1,0 +1,23 @@
+-- How a request goes on.
+use Rattle.std.specs.Prelude.{Bool, Option}
+use Rattle.rhd_value.specs.Tree.{Bytes, Tree}
+use Rattle.rhd_value.specs.declared.tag.Position.{Position}
+use Rattle.rhd_func.specs.declared.request.CallShape.{CallShape}
+use Rattle.rhd_func.specs.declared.request.CallRequest.{CallRequest}
+use Rattle.rhd_func.specs.declared.request.CallRequest.TheVariants.{Named}
+use Rattle.rhd_func.specs.Shapes.{first_given}
+
+-- where a call looks for its function
+pub data Search : Type 0 where
+  by_name : Bool → Search  -- unqualified: whether natives alone are meant
+
+-- a call of one function
+pub record Plan : Type 0 where
+  pub name : Bytes
+  pub search : Search
+  pub shape : CallShape
+  pub pos : Position
+  pub given : Option Tree  -- the first argument by reference, as given
+
+abbrev pub plan_of : CallRequest → Plan
+plan_of (Named name native_only shape pos) = record { name = name; search = by_name native_only; shape = shape; pos = pos; given = first_given shape }
