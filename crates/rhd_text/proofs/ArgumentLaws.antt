@@ -28,11 +28,11 @@ dollar_later : (b : Bool) (w : List ℕ) (o : Option Given) (g : Given) → begi
 dollar_later true w o g h e = refl
 dollar_later false w o g h e = absurd cc
 
-dollar_last : (b : Bool) (w : List ℕ) (g : Given) → bytes_eq w (codes "$last") ≡ b → cond b (Some given.Last) (cond (begins 36 w) (option_map (λ n. given.Arg n) (num_of 32 (drop 1 w))) None) ≡ Some g → begins 36 w ≡ true
+dollar_last : (b : Bool) (w : List ℕ) (g : Given) → bytes_eq w (codes "$last") ≡ b → cond b (Some given.Last) (cond (begins 36 w) (option_map (λ n. given.Arg n) (num_of 64 (drop 1 w))) None) ≡ Some g → begins 36 w ≡ true
 dollar_last true w g h e = ap (begins 36) ((bytes_eq-Decides w (codes "$last")).0 h)
-dollar_last false w g h e = dollar_later (begins 36 w) w (option_map (λ n. given.Arg n) (num_of 32 (drop 1 w))) g refl e
+dollar_last false w g h e = dollar_later (begins 36 w) w (option_map (λ n. given.Arg n) (num_of 64 (drop 1 w))) g refl e
 
-dollar_this : (b : Bool) (w : List ℕ) (g : Given) → bytes_eq w (codes "$this") ≡ b → cond b (Some given.This) (cond (bytes_eq w (codes "$last")) (Some given.Last) (cond (begins 36 w) (option_map (λ n. given.Arg n) (num_of 32 (drop 1 w))) None)) ≡ Some g → begins 36 w ≡ true
+dollar_this : (b : Bool) (w : List ℕ) (g : Given) → bytes_eq w (codes "$this") ≡ b → cond b (Some given.This) (cond (bytes_eq w (codes "$last")) (Some given.Last) (cond (begins 36 w) (option_map (λ n. given.Arg n) (num_of 64 (drop 1 w))) None)) ≡ Some g → begins 36 w ≡ true
 dollar_this true w g h e = ap (begins 36) ((bytes_eq-Decides w (codes "$this")).0 h)
 dollar_this false w g h e = dollar_last (bytes_eq w (codes "$last")) w g refl e
 

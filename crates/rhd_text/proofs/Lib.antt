@@ -9,6 +9,8 @@ pub mod QuoteLaws
 pub mod FlagLaws
 pub mod HeadLaws
 pub mod MapLaws
+pub mod WantLaws
+pub mod ObjectLaws
 pub mod ValueLaws
 pub mod WholeLaws
 pub mod AgainWords
@@ -20,6 +22,7 @@ pub mod WrittenValues
 pub mod ArgumentLaws
 pub mod OperandLaws
 pub mod RowLaws
+pub mod CallLaws
 pub mod SessionLaws
 pub mod Utf8Laws
 pub mod BodyLaws

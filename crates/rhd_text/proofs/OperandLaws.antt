@@ -1,7 +1,7 @@
 -- Each kind of operand: what is read is what is written.
 use Rattle.std.proofs.Common.{ℕ, List, true, ◌≡◌, Some}
 use Rattle.rhd_text.specs.Bytes.{is_name, num_of}
-use Rattle.rhd_text.specs.Rows.{Operand, NAME, WORD, WORDS, NUM, LONG, ARG, ARGS, OPTIONAL, Meaning}
+use Rattle.rhd_text.specs.Rows.{Operand, NAME, WORD, WORDS, NUM, LONG, ARG, ARGS, OPTIONAL, WANT, THIS, Meaning}
 use Rattle.rhd_text.specs.Spans.{bare, name, number}
 use Rattle.rhd_text.specs.Grammar.{operand}
 use Rattle.rhd_text.specs.Reading.{word_at, name_at, num_at}
@@ -10,6 +10,8 @@ use Rattle.rhd_text.proofs.Agrees.{Agrees}
 use Rattle.rhd_text.proofs.WordLaws.{bare_agrees, meaning_agrees, tested_agrees}
 use Rattle.rhd_text.proofs.QuoteLaws.{word_agrees, words_agree}
 use Rattle.rhd_text.proofs.FlagLaws.{flag_read}
+use Rattle.rhd_text.proofs.WantLaws.{want_agrees}
+use Rattle.rhd_text.proofs.ObjectLaws.{this_sound}
 use Rattle.rhd_text.proofs.ArgumentLaws.{argument_agrees, arguments_agree}
 
 pub name_agrees : Agrees (List ℕ) name_at name
@@ -29,3 +31,5 @@ operand_sound LONG = (number_agrees 64).sound
 operand_sound ARG = (argument_agrees true).sound
 operand_sound (ARGS given) = (arguments_agree given).sound
 operand_sound (OPTIONAL w) = λ x bytes rest e. flag_read w bytes rest x e
+operand_sound WANT = want_agrees.sound
+operand_sound THIS = this_sound

@@ -13,16 +13,18 @@ use Rattle.rhd_text.specs.declared.keyword.Keyword.TheVariants.{Limits, Body, Do
 use Rattle.rhd_text.specs.declared.keyword.CallWord.{CallWord}
 use Rattle.rhd_text.specs.declared.keyword.CallWord.TheVariants as words
 use Rattle.rhd_text.specs.Bytes.{is_blank}
-use Rattle.rhd_text.specs.Rows.{Operand, NAME, WORD, WORDS, NUM, LONG, ARG, ARGS, OPTIONAL, Meaning, From, row, call_word, keyword, one_word}
+use Rattle.rhd_text.specs.Rows.{Operand, NAME, WORD, WORDS, NUM, LONG, ARG, ARGS, OPTIONAL, WANT, THIS, Meaning, From, row, call_word, keyword, one_word}
 use Rattle.rhd_text.specs.Spans.{blanks, bare}
 use Rattle.rhd_text.specs.Grammar.{operands, head, part, WrittenLine, IsLine}
-use Rattle.rhd_text.specs.Reading.{◌>>=◌, skip_blanks, is_end, word_at, flag_at}
+use Rattle.rhd_text.specs.Reading.{◌>>=◌, skip_blanks, is_end, word_at, flag_at, this_at}
 use Rattle.rhd_text.specs.ReadRows.{operand_at, operands_at, row_at, keyword_in, keyword_of, step_of, step_at, keyword_at, begins_no_part, is_skipped, line_at, line_of}
 use Rattle.rhd_text.proofs.Agrees.{bind_some, same_some, some_pair, and_parts, not_true}
 use Rattle.rhd_text.proofs.WordLaws.{stops_nil, head_stop, skipped, skips_to, bare_agrees, bare_here, end_sound, end_complete, no_word}
 use Rattle.rhd_text.proofs.ByteLaws.{not_both}
 use Rattle.rhd_text.proofs.QuoteLaws.{word_agrees, words_agree}
 use Rattle.rhd_text.proofs.FlagLaws.{flag_there, flag_absent}
+use Rattle.rhd_text.proofs.WantLaws.{want_agrees}
+use Rattle.rhd_text.proofs.ObjectLaws.{this_there, this_absent}
 use Rattle.rhd_text.proofs.ArgumentLaws.{argument_agrees, arguments_agree}
 use Rattle.rhd_text.proofs.OperandLaws.{name_agrees, number_agrees, operand_sound}
 
@@ -43,11 +45,13 @@ row_sound (o ∷ os) says c bytes e =
 abbrev other_words : List ℕ → List Operand → Bool
 other_words w [] = true
 other_words w (OPTIONAL v ∷ os) = not (bytes_eq v w) && other_words w os
+other_words w (THIS ∷ os) = not (bytes_eq (codes "this") w) && other_words w os
 other_words w (o ∷ os) = false
 
 abbrev well_placed : List Operand → Bool
 well_placed [] = true
 well_placed (OPTIONAL w ∷ os) = other_words w os && well_placed os
+well_placed (THIS ∷ os) = other_words (codes "this") os && well_placed os
 well_placed (o ∷ os) = well_placed os
 
 not_word : (w v after rest bytes : List ℕ) → bytes_eq v w ≡ false → bare v bytes rest → bare w bytes after → ⊥
@@ -59,6 +63,8 @@ no_other : {R : Type 0} (w : List ℕ) (os : List Operand) (says : From os (Opti
 no_other w [] says c bytes after p o u = no_word w bytes after o.0 u
 no_other w (OPTIONAL v ∷ os) says c bytes after p (true, rest, o, more) u = not_word w v after rest bytes (not_true (bytes_eq v w) (and_parts (not (bytes_eq v w)) (other_words w os) p).0) o u
 no_other w (OPTIONAL v ∷ os) says c bytes after p (false, rest, o, more) u = no_other w os (says false) c rest after (and_parts (not (bytes_eq v w)) (other_words w os) p).1 more (subst (λ (b : List ℕ). bare w b after) o u)
+no_other w (THIS ∷ os) says c bytes after p (Some s, rest, o, more) u = not_word w (codes "this") after o.0 bytes (not_true (bytes_eq (codes "this") w) (and_parts (not (bytes_eq (codes "this") w)) (other_words w os) p).0) o.1 u
+no_other w (THIS ∷ os) says c bytes after p (None, rest, o, more) u = no_other w os (says None) c rest after (and_parts (not (bytes_eq (codes "this") w)) (other_words w os) p).1 more (subst (λ (b : List ℕ). bare w b after) o u)
 no_other w (NAME ∷ os) says c bytes after p o u = absurd cc
 no_other w (WORD ∷ os) says c bytes after p o u = absurd cc
 no_other w (WORDS ∷ os) says c bytes after p o u = absurd cc
@@ -66,6 +72,7 @@ no_other w (NUM ∷ os) says c bytes after p o u = absurd cc
 no_other w (LONG ∷ os) says c bytes after p o u = absurd cc
 no_other w (ARG ∷ os) says c bytes after p o u = absurd cc
 no_other w (ARGS given ∷ os) says c bytes after p o u = absurd cc
+no_other w (WANT ∷ os) says c bytes after p o u = absurd cc
 
 first_read : {R : Type 0} (o : Operand) (os : List Operand) (says : From (o ∷ os) (Option R)) (c : R) (x : Meaning o) (bytes rest : List ℕ) → operand_at o bytes ≡ Some (x, rest) → operands_at os (says x) rest ≡ Some c → operands_at (o ∷ os) says bytes ≡ Some c
 first_read o os says c x bytes rest e more = rw e more
@@ -77,6 +84,12 @@ row_complete (OPTIONAL v ∷ os) says c bytes p (false, rest, o, more) =
     let a = and_parts (other_words v os) (well_placed os) p in
     let n : flag_at v rest ≡ (false, rest) = flag_absent v rest (λ after u. no_other v os (says false) c rest after a.0 more u) in
     first_read (OPTIONAL v) os says c false bytes rest (ap (λ (b : List ℕ). Some (flag_at v b)) o ∙ ap (λ (q : Bool × List ℕ). Some q) n) (row_complete os (says false) c rest a.1 more)
+row_complete (THIS ∷ os) says c bytes p (Some s, rest, o, more) = first_read THIS os says c (Some s) bytes rest (this_there s bytes rest o) (row_complete os (says (Some s)) c rest (and_parts (other_words (codes "this") os) (well_placed os) p).1 more)
+row_complete (THIS ∷ os) says c bytes p (None, rest, o, more) =
+    let a = and_parts (other_words (codes "this") os) (well_placed os) p in
+    let n : this_at rest ≡ Some (None, rest) = this_absent rest (λ after u. no_other (codes "this") os (says None) c rest after a.0 more u) in
+    first_read THIS os says c None bytes rest (ap this_at o ∙ n) (row_complete os (says None) c rest a.1 more)
+row_complete (WANT ∷ os) says c bytes p w = first_read WANT os says c w.0 bytes w.1 (want_agrees.complete w.0 bytes w.1 w.2) (row_complete os (says w.0) c w.1 p w.3)
 row_complete (NAME ∷ os) says c bytes p w = first_read NAME os says c w.0 bytes w.1 (name_agrees.complete w.0 bytes w.1 w.2) (row_complete os (says w.0) c w.1 p w.3)
 row_complete (WORD ∷ os) says c bytes p w = first_read WORD os says c w.0 bytes w.1 (word_agrees.complete w.0 bytes w.1 w.2) (row_complete os (says w.0) c w.1 p w.3)
 row_complete (WORDS ∷ os) says c bytes p w = first_read WORDS os says c w.0 bytes w.1 (words_agree.complete w.0 bytes w.1 w.2) (row_complete os (says w.0) c w.1 p w.3)
@@ -127,6 +140,10 @@ keyword_complete Lib h = refl
 keyword_complete PopLib h = refl
 keyword_complete (Call words.Call) h = refl
 keyword_complete (Call words.CallNative) h = refl
+keyword_complete (Call words.Ref) h = refl
+keyword_complete (Call words.RefNative) h = refl
+keyword_complete (Call words.Method) h = refl
+keyword_complete (Call words.MethodNative) h = refl
 
 -- a keyword begins no comment
 keyword_shows : (k : Keyword) (rest : List ℕ) → begins_no_part (keyword k ++ rest) ≡ false
@@ -142,6 +159,10 @@ keyword_shows Lib rest = refl
 keyword_shows PopLib rest = refl
 keyword_shows (Call words.Call) rest = refl
 keyword_shows (Call words.CallNative) rest = refl
+keyword_shows (Call words.Ref) rest = refl
+keyword_shows (Call words.RefNative) rest = refl
+keyword_shows (Call words.Method) rest = refl
+keyword_shows (Call words.MethodNative) rest = refl
 
 -- where the first word is not `do`, it is all
 alone : (k : Keyword) (bytes rest : List ℕ) → bytes_eq (keyword k) (codes "do") ≡ false → bare (keyword k) bytes rest → head k bytes rest
@@ -210,6 +231,10 @@ step_complete : (v : CallWord) (bytes rest : List ℕ) → bare (call_word v) by
 unfolding step_at keyword_in
 step_complete words.Call bytes rest w = rw (bare_agrees.complete (call_word words.Call) bytes rest w) refl
 step_complete words.CallNative bytes rest w = rw (bare_agrees.complete (call_word words.CallNative) bytes rest w) refl
+step_complete words.Ref bytes rest w = rw (bare_agrees.complete (call_word words.Ref) bytes rest w) refl
+step_complete words.RefNative bytes rest w = rw (bare_agrees.complete (call_word words.RefNative) bytes rest w) refl
+step_complete words.Method bytes rest w = rw (bare_agrees.complete (call_word words.Method) bytes rest w) refl
+step_complete words.MethodNative bytes rest w = rw (bare_agrees.complete (call_word words.MethodNative) bytes rest w) refl
 
 do_complete : (v : CallWord) (bytes rest : List ℕ) → head (Do v) bytes rest → keyword_at bytes ≡ Some (Do v, rest)
 unfolding keyword_at
@@ -228,6 +253,10 @@ head_complete Lib bytes rest w = one_word_complete Lib bytes rest refl w
 head_complete PopLib bytes rest w = one_word_complete PopLib bytes rest refl w
 head_complete (Call words.Call) bytes rest w = one_word_complete (Call words.Call) bytes rest refl w
 head_complete (Call words.CallNative) bytes rest w = one_word_complete (Call words.CallNative) bytes rest refl w
+head_complete (Call words.Ref) bytes rest w = one_word_complete (Call words.Ref) bytes rest refl w
+head_complete (Call words.RefNative) bytes rest w = one_word_complete (Call words.RefNative) bytes rest refl w
+head_complete (Call words.Method) bytes rest w = one_word_complete (Call words.Method) bytes rest refl w
+head_complete (Call words.MethodNative) bytes rest w = one_word_complete (Call words.MethodNative) bytes rest refl w
 
 -- what stands first is the first word
 first_word : (k : Keyword) (bytes rest : List ℕ) → head k bytes rest → (after : List ℕ) × bare (keyword k) bytes after

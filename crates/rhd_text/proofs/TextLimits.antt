@@ -1,9 +1,11 @@
 -- The limits of a text allow no level above 1,000, and a line adds one command at most.
 use Rattle.std.proofs.Common.{◌≡◌, ℕ, ◌+◌, ◌≤◌, Bool, true, false, cond, List, [], ◌∷◌, ◌++◌, length, Option, Some, None, refl, sym, ap, subst, arith}
 use Rattle.std.specs.Prelude.{IfOk, OnOk, IfSome, nat_le, ◌&&◌, Result, Ok, Err}
-use Rattle.std.specs.Option.{is_none}
+use Rattle.std.specs.Option.{is_none, option_map}
 use Rattle.std.proofs.lemmas.Bool.{leb-true}
 use Rattle.std.proofs.lemmas.List.{length_push}
+use Rattle.rhd_func.specs.declared.request.CallRequest.{CallRequest}
+use Rattle.rhd_session.specs.declared.command.Command.TheVariants as commands
 use Rattle.rhd_session.specs.declared.limits.Limits.{Limits}
 use Rattle.rhd_text.specs.declared.body.BodyPlan.{BodyPlan}
 use Rattle.rhd_text.specs.declared.body.BodyEnd.{BodyEnd}
@@ -17,7 +19,7 @@ use Rattle.rhd_text.specs.declared.line.Line.TheVariants.{Skipped, Says}
 use Rattle.rhd_text.specs.declared.place.Place.{Place}
 use Rattle.rhd_text.specs.declared.keyword.Keyword.{Keyword}
 use Rattle.rhd_text.specs.declared.keyword.Keyword.TheVariants as keywords
-use Rattle.rhd_text.specs.Rows.{row}
+use Rattle.rhd_text.specs.Rows.{position, nowhere, request_of, row}
 use Rattle.rhd_text.specs.Grammar.{operands, IsLine}
 use Rattle.rhd_text.specs.Session.{empty_text, takes_headers, stepped, ended, in_latest, with_limits, with_body, with_call, with_end, with_part, with_line, IsText, IsSession, ReadsText}
 use Rattle.rhd_text.specs.Reading.{◌>>=◌}
@@ -31,18 +33,22 @@ allowed_by : (b : Bool) (l m : Limits) → nat_le l.level 1000 ≡ b → cond b 
 allowed_by true l m h e = let same : l ≡ m = cc in subst (λ (x : Limits). x.level ≤ 1000) same (leb-true l.level 1000 h)
 allowed_by false l m h e = absurd cc
 
+no_limits : (make : CallRequest → Part) (o : Option CallRequest) (m : Limits) → ((request : CallRequest) → make request ≡ parts.Limits m → ⊥) → option_map make o ≡ Some (parts.Limits m) → ⊥
+no_limits make (Some request) m other e = other request (same_some (make request) (parts.Limits m) e)
+no_limits make None m other e = absurd cc
+
 row_fits : (place : Place) (k : Keyword) (m : Limits) (rest : List ℕ) → operands (row k).operands ((row k).part place) (parts.Limits m) rest → m.level ≤ 1000
 row_fits place keywords.Limits m rest ops = let e = ops.3.3.3.3.3.1 in allowed_by (nat_le ops.3.3.3.0 1000) (record { array = ops.0; map = ops.3.0; text = ops.3.3.0; level = ops.3.3.3.0; budget = ops.3.3.3.3.0 }) m refl e
 row_fits place keywords.Body m rest ops = absurd (let e = ops.1 in cc)
-row_fits place (keywords.Do w) m rest ops = absurd (let e = ops.3.3.1 in cc)
+row_fits place (keywords.Do w) m rest ops = absurd (no_limits (λ request. parts.Do (record { request = request; places = ops.3.3.0.places })) (request_of w ops.0 ops.3.0 ops.3.3.0.values nowhere) m (λ request e. cc) ops.3.3.3.1)
 row_fits place keywords.Ret m rest ops = absurd (let e = ops.3.1 in cc)
 row_fits place keywords.Fail m rest ops = absurd (let e = ops.3.1 in cc)
 row_fits place keywords.Register m rest ops = absurd (let e = ops.3.3.1 in cc)
 row_fits place keywords.Module m rest ops = absurd (let e = ops.1 in cc)
-row_fits place keywords.Script m rest ops = absurd (let e = ops.3.3.3.3.3.1 in cc)
+row_fits place keywords.Script m rest ops = absurd (let e = ops.3.3.3.3.3.3.1 in cc)
 row_fits place keywords.Lib m rest ops = absurd (let e = ops.3.1 in cc)
 row_fits place keywords.PopLib m rest ops = absurd (let e = ops.1 in cc)
-row_fits place (keywords.Call w) m rest ops = absurd (let e = ops.3.3.1 in cc)
+row_fits place (keywords.Call w) m rest ops = absurd (no_limits (λ request. parts.Command (commands.Call request)) (request_of w ops.0 ops.3.0 ops.3.3.0.values (position place)) m (λ request e. cc) ops.3.3.3.1)
 
 -- the limits that a line sets
 line_fits : (held n : ℕ) (m : Limits) (bytes : List ℕ) → IsLine held n (Says (parts.Limits m)) bytes → m.level ≤ 1000

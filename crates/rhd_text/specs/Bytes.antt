@@ -1,10 +1,12 @@
 -- BYTES AND WORDS: which bytes part words, and what a word may say.
-use Rattle.std.specs.Prelude.{ℕ, ◌^◌, Bool, true, false, ◌&&◌, ◌||◌, not, List, [], ◌∷◌, length, drop, Option, Some, None, ℤ, pos, neg_ℤ, nat_le, nat_lt, ◌==◌, slice_index, codes, if◌then◌else◌}
+use Rattle.std.specs.Prelude.{ℕ, ◌^◌, Bool, true, false, ◌&&◌, ◌||◌, not, List, [], ◌∷◌, length, drop, Option, Some, None, ℤ, pos, neg_ℤ, nat_le, nat_lt, ◌==◌, slice_index, codes, take, if◌then◌else◌}
 use Rattle.std.specs.Option.{option_map}
 use Rattle.std.specs.Str.{bytes_eq}
 use Rattle.std.specs.List.{list_all}
 use Rattle.std.specs.Char.{is_ascii_digit, is_ascii_lowercase}
 use Rattle.std.specs.Str.Parse.{digits_value}
+use Rattle.rhd_value.specs.declared.tag.TypeTag.{TypeTag}
+use Rattle.rhd_value.specs.declared.tag.TypeTag.TheVariants as tags
 use Rattle.rhd_text.specs.declared.body.Given.{Given}
 use Rattle.rhd_text.specs.declared.body.Given.TheVariants.{This, Last, Arg}
 
@@ -58,7 +60,25 @@ unfoldable pub given_of : List ℕ → Option Given
 given_of w =
     if bytes_eq w (codes "$this") then Some This
     else (if bytes_eq w (codes "$last") then Some Last
-    else (if begins 36 w then option_map (λ n. Arg n) (num_of 32 (drop 1 w)) else None))
+    else (if begins 36 w then option_map (λ n. Arg n) (num_of 64 (drop 1 w)) else None))
+
+-- `custom` and the number of a custom kind
+unfoldable pub custom_of : List ℕ → Option TypeTag
+custom_of w = if bytes_eq (take 6 w) (codes "custom") then option_map (λ n. tags.Custom n) (num_of 32 (drop 6 w)) else None
+
+-- a kind of values, or `dynamic`, which stands for any
+unfoldable pub kind_of : List ℕ → Option TypeTag
+kind_of w =
+    if bytes_eq w (codes "unit") then Some tags.Unit
+    else (if bytes_eq w (codes "bool") then Some tags.Bool
+    else (if bytes_eq w (codes "int") then Some tags.Int
+    else (if bytes_eq w (codes "char") then Some tags.Char
+    else (if bytes_eq w (codes "text") then Some tags.Text
+    else (if bytes_eq w (codes "array") then Some tags.Array
+    else (if bytes_eq w (codes "map") then Some tags.Map
+    else (if bytes_eq w (codes "fn") then Some tags.FnPtr
+    else (if bytes_eq w (codes "dynamic") then Some tags.Dynamic
+    else custom_of w))))))))
 
 -- digits, or `-` and digits
 abbrev pub is_signed_digits : List ℕ → Bool

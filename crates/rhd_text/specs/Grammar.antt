@@ -1,14 +1,17 @@
 -- HOW A LINE IS WRITTEN, by the table of Rows.
-use Rattle.std.specs.Prelude.{◌≡◌, ◌⊎◌, ℕ, true, List, [], ◌∷◌, Option, Some, codes}
+use Rattle.std.specs.Prelude.{◌≡◌, ◌⊎◌, ℕ, true, List, [], ◌∷◌, Option, Some, None, codes}
 use Rattle.std.specs.Str.{is_utf8}
+use Rattle.rhd_func.specs.declared.request.CallRequest.{CallRequest}
+use Rattle.rhd_session.specs.declared.command.Command.TheVariants.{Call}
 use Rattle.rhd_text.specs.declared.part.Part.{Part}
+use Rattle.rhd_text.specs.declared.part.Part.TheVariants.{Command}
 use Rattle.rhd_text.specs.declared.place.Place.{Place}
 use Rattle.rhd_text.specs.declared.line.Line.{Line}
 use Rattle.rhd_text.specs.declared.line.Line.TheVariants.{Skipped, Says}
 use Rattle.rhd_text.specs.declared.keyword.Keyword.{Keyword}
 use Rattle.rhd_text.specs.declared.keyword.Keyword.TheVariants.{Do}
-use Rattle.rhd_text.specs.Rows.{Operand, NAME, WORD, WORDS, NUM, LONG, ARG, ARGS, OPTIONAL, Meaning, From, row, call_word, keyword}
-use Rattle.rhd_text.specs.Spans.{Span, ◌▸◌, blanks, bare, name, word, words, optional, number, argument, arguments}
+use Rattle.rhd_text.specs.Rows.{Operand, NAME, WORD, WORDS, NUM, LONG, ARG, ARGS, OPTIONAL, WANT, THIS, Meaning, From, row, call_word, keyword}
+use Rattle.rhd_text.specs.Spans.{Span, ◌▸◌, blanks, bare, name, word, words, optional, number, want, this, argument, arguments}
 
 -- how each kind of operand is written
 abbrev pub operand : (o : Operand) → Meaning o → Span
@@ -20,6 +23,8 @@ operand LONG = number 64
 operand ARG = argument true
 operand (ARGS given) = arguments given
 operand (OPTIONAL w) = optional w
+operand WANT = want
+operand THIS = this
 
 -- the operands of a row, to the end of the line, where the row gives this of what they say
 abbrev pub operands : {R : Type 0} (os : List Operand) → From os (Option R) → R → List ℕ → Type 0
@@ -44,3 +49,12 @@ WrittenLine place (Says p) bytes = part place p bytes
 pub record IsLine (held : ℕ) (n : ℕ) (line : Line) (bytes : List ℕ) : Type 0 where
   pub text : is_utf8 bytes ≡ true
   pub written : WrittenLine (record { held = held; line = n }) line bytes
+
+-- line n is a call line of this request, however many natives are held
+abbrev pub IsCall : ℕ → CallRequest → List ℕ → Type 0
+IsCall n request bytes = (held : ℕ) → IsLine held n (Says (Command (Call request))) bytes
+
+-- it is a call line of this request; or it is no call line
+abbrev pub IsCallOrNone : ℕ → List ℕ → Option CallRequest → Type 0
+IsCallOrNone n bytes (Some request) = IsCall n request bytes
+IsCallOrNone n bytes None = (request : CallRequest) → IsCall n request bytes → ⊥

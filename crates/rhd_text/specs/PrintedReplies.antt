@@ -4,7 +4,7 @@ use Rattle.std.specs.List.{flat_map}
 use Rattle.std.specs.Fmt.{decimal}
 use Rattle.rhd_value.specs.Tree.{Tree}
 use Rattle.rhd_value.specs.declared.fault.EvalAltResult.{EvalAltResult}
-use Rattle.rhd_value.specs.declared.fault.EvalAltResult.TheVariants.{ErrorFunctionNotFound, ErrorTooManyOperations, ErrorStackOverflow, ErrorRuntime}
+use Rattle.rhd_value.specs.declared.fault.EvalAltResult.TheVariants.{ErrorFunctionNotFound, ErrorDataRace, ErrorMismatchOutputType, ErrorMismatchDataType, ErrorTooManyOperations, ErrorStackOverflow, ErrorDataTooLarge, ErrorRuntime}
 use Rattle.rhd_func.specs.declared.func.RhaiFunc.{RhaiFunc}
 use Rattle.rhd_func.specs.declared.func.RhaiFunc.TheVariants as funcs
 use Rattle.rhd_func.specs.declared.request.CallRequest.{CallRequest}
@@ -26,8 +26,12 @@ use Rattle.rhd_text.specs.PrintedValues.{spelled}
 -- the number of a fault and its parts
 unfoldable pub spelled_fault : EvalAltResult → List ℕ
 spelled_fault (ErrorFunctionNotFound text pos) = codes "1 " ++ quoted text
+spelled_fault (ErrorDataRace text pos) = codes "6 " ++ quoted text
+spelled_fault (ErrorMismatchOutputType wanted got pos) = codes "7 " ++ quoted wanted ++ codes " " ++ quoted got
+spelled_fault (ErrorMismatchDataType wanted got pos) = codes "8 " ++ quoted wanted ++ codes " " ++ quoted got
 spelled_fault (ErrorTooManyOperations pos) = codes "9"
 spelled_fault (ErrorStackOverflow pos) = codes "10"
+spelled_fault (ErrorDataTooLarge text pos) = codes "11 " ++ quoted text
 spelled_fault (ErrorRuntime text pos) = codes "15 " ++ quoted text
 
 -- the number of a refusal and its parts
@@ -37,7 +41,7 @@ spelled_refusal OutOfMemory = codes "5"
 
 -- what a call is called
 abbrev pub label : CallRequest → List ℕ
-label (Named name native_only shape pos) = name
+label (Named name native_only shape want pos) = name
 
 -- where a function was found
 unfoldable pub layer_text : Layer → List ℕ
@@ -81,7 +85,7 @@ indent level = replicate (2 * (level - 1)) 32
 abbrev mutual
   -- a call on a line, and the calls that it led to on the lines after it
   pub tree_text : CallNode → List ℕ
-  tree_text (CallNode' call level begun pick carries children answer whose after) =
+  tree_text (CallNode' call level begun pick carries children answer whose after refused) =
       indent level ++ call_line call pick whose answer after ++ 10 ∷ [] ++ nodes_text children
 
   pub nodes_text : Nodes → List ℕ

@@ -1,14 +1,17 @@
 -- How rows and lines are read.
 use Rattle.std.specs.Prelude.{ℕ, Bool, true, not, List, [], ◌∷◌, Option, Some, None, ◌==◌, codes, if◌then◌else◌}
 use Rattle.std.specs.Str.{is_utf8, bytes_eq}
+use Rattle.rhd_func.specs.declared.request.CallRequest.{CallRequest}
+use Rattle.rhd_session.specs.declared.command.Command.TheVariants as commands
 use Rattle.rhd_text.specs.declared.part.Part.{Part}
+use Rattle.rhd_text.specs.declared.part.Part.TheVariants as parts
 use Rattle.rhd_text.specs.declared.place.Place.{Place}
 use Rattle.rhd_text.specs.declared.line.Line.{Line}
 use Rattle.rhd_text.specs.declared.line.Line.TheVariants.{Skipped, Says}
 use Rattle.rhd_text.specs.declared.keyword.Keyword.{Keyword}
 use Rattle.rhd_text.specs.declared.keyword.Keyword.TheVariants.{Call, Do}
-use Rattle.rhd_text.specs.Rows.{Operand, NAME, WORD, WORDS, NUM, LONG, ARG, ARGS, OPTIONAL, Meaning, From, Row, row, keyword, one_word}
-use Rattle.rhd_text.specs.Reading.{◌>>=◌, skip_blanks, is_end, Parse, word_at, name_at, wording_at, texts_at, flag_at, num_at, argument_at, arguments_at}
+use Rattle.rhd_text.specs.Rows.{Operand, NAME, WORD, WORDS, NUM, LONG, ARG, ARGS, OPTIONAL, WANT, THIS, Meaning, From, Row, row, keyword, one_word}
+use Rattle.rhd_text.specs.Reading.{◌>>=◌, skip_blanks, is_end, Parse, word_at, name_at, wording_at, texts_at, flag_at, num_at, want_at, this_at, argument_at, arguments_at}
 
 -- how each kind of operand is read
 abbrev pub operand_at : (o : Operand) → List ℕ → Option (Meaning o × List ℕ)
@@ -20,6 +23,8 @@ operand_at LONG bytes = num_at 64 bytes
 operand_at ARG bytes = argument_at true bytes
 operand_at (ARGS given) bytes = arguments_at given bytes
 operand_at (OPTIONAL w) bytes = Some (flag_at w bytes)
+operand_at WANT bytes = want_at bytes
+operand_at THIS bytes = this_at bytes
 
 -- the operands of a row, to the end of the line
 abbrev pub operands_at : {R : Type 0} (os : List Operand) → From os (Option R) → List ℕ → Option R
@@ -83,3 +88,8 @@ line_at place line = if not (is_utf8 line) then None else (if is_skipped line th
 -- what line n says, where so many natives are held
 abbrev pub line_of : ℕ → ℕ → List ℕ → Option Line
 line_of held n line = line_at (record { held = held; line = n }) line
+
+-- the request of a call line
+abbrev pub request_in : Line → Option CallRequest
+request_in (Says (parts.Command (commands.Call request))) = Some request
+request_in _ = None

@@ -4,6 +4,7 @@ use Rattle.std.specs.List.{prefix_len}
 use Rattle.std.specs.Option.{option_map}
 use Rattle.std.specs.Str.{is_utf8, bytes_eq, chars}
 use Rattle.rhd_value.specs.declared.tag.Marks.{Marks}
+use Rattle.rhd_value.specs.declared.tag.TypeTag.{TypeTag}
 use Rattle.rhd_value.specs.declared.tag.FnPtrType.{FnPtrType}
 use Rattle.rhd_value.specs.declared.tag.FnPtrType.TheVariants as types
 use Rattle.rhd_value.specs.Tree.{Bytes, Tree, Kind, unit, boolean, integer, character, text, array, object, pointer, custom, items_of, members_of}
@@ -12,7 +13,7 @@ use Rattle.rhd_text.specs.declared.heads.Head.TheVariants as heads
 use Rattle.rhd_text.specs.declared.heads.Sort.{Sort}
 use Rattle.rhd_text.specs.declared.heads.Sort.TheVariants as sorts
 use Rattle.rhd_text.specs.Maps.{put_new}
-use Rattle.rhd_text.specs.Bytes.{is_blank, is_word_byte, may_end, begins, unescaped, is_name, num_of, int_of, given_of}
+use Rattle.rhd_text.specs.Bytes.{is_blank, is_word_byte, may_end, begins, unescaped, is_name, num_of, int_of, given_of, kind_of}
 use Rattle.rhd_text.specs.declared.arguments.Argument.{Argument}
 use Rattle.rhd_text.specs.declared.arguments.Argument.TheVariants as argument
 use Rattle.rhd_text.specs.declared.arguments.Arguments.{Arguments}
@@ -72,6 +73,13 @@ comes b bytes = begins b (skip_blanks bytes)
 abbrev pub after_bracket : List ℕ → List ℕ
 after_bracket bytes = drop 1 (skip_blanks bytes)
 
+-- the kind of the next word after its `:`, where that comes next
+unfoldable pub want_at : Parse (Option TypeTag)
+want_at bytes = if comes 58 bytes then (do
+  w ← word_at bytes
+  k ← kind_of (drop 1 w.0)
+  Some (Some k, w.1)) else Some (None, bytes)
+
 -- ---- quoted texts
 
 abbrev pub put : Option ℕ → Option (List ℕ × List ℕ) → Option (List ℕ × List ℕ)
@@ -115,6 +123,12 @@ text_here bytes = if begins 34 bytes then quoted_at 34 (drop 1 bytes) else plain
 -- the next text, quoted or not
 unfoldable pub wording_at : Parse (List ℕ)
 wording_at bytes = text_here (skip_blanks bytes)
+
+-- the text after `this`, where that is the next word
+unfoldable pub this_at : Parse (Option (List ℕ))
+this_at bytes = if (flag_at (codes "this") bytes).0 then (do
+  s ← wording_at (flag_at (codes "this") bytes).1
+  Some (Some s.0, s.1)) else Some (None, bytes)
 
 -- ---- lists
 

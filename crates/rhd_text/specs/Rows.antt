@@ -1,7 +1,12 @@
 -- THE TABLE: each line form, how it begins, its operands, and what it adds to the text.
 use Rattle.std.specs.Prelude.{ℕ, Bool, true, false, List, [], ◌∷◌, Option, Some, None, nat_le, codes, if◌then◌else◌}
+use Rattle.std.specs.Option.{option_map}
+use Rattle.rhd_value.specs.Tree.{Tree}
 use Rattle.rhd_value.specs.declared.tag.Position.{Position}
-use Rattle.rhd_func.specs.declared.request.CallShape.TheVariants.{Plain}
+use Rattle.rhd_value.specs.declared.tag.TypeTag.{TypeTag}
+use Rattle.rhd_func.specs.declared.request.CallShape.{CallShape}
+use Rattle.rhd_func.specs.declared.request.CallShape.TheVariants.{Plain, ByRef, Method}
+use Rattle.rhd_func.specs.declared.request.CallRequest.{CallRequest}
 use Rattle.rhd_func.specs.declared.request.CallRequest.TheVariants.{Named}
 use Rattle.rhd_func.specs.declared.access.FnAccess.{FnAccess}
 use Rattle.rhd_func.specs.declared.access.FnAccess.TheVariants.{Private, Public}
@@ -22,7 +27,8 @@ use Rattle.rhd_text.specs.declared.keyword.Keyword.{Keyword}
 use Rattle.rhd_text.specs.declared.keyword.Keyword.TheVariants as keywords
 
 -- an operand of a line: a name; a text, quoted or not; texts between brackets; a number of 32 or of 64 bits; one
--- argument, which may be given; arguments up to the end of the line, which may be given or not; a word that may be left out
+-- argument, which may be given; arguments up to the end of the line, which may be given or not; a word that may be left
+-- out; the kind of the answer that is wanted; the type of a script's object, which may be left out like a word
 pub data Operand : Type 0 where
   NAME : Operand
   WORD : Operand
@@ -32,6 +38,8 @@ pub data Operand : Type 0 where
   ARG : Operand
   ARGS : Bool → Operand
   OPTIONAL : List ℕ → Operand
+  WANT : Operand
+  THIS : Operand
 
 -- what an operand says
 abbrev pub Meaning : Operand → Type 0
@@ -43,6 +51,8 @@ Meaning LONG = ℕ
 Meaning ARG = Argument
 Meaning (ARGS given) = Arguments
 Meaning (OPTIONAL w) = Bool
+Meaning WANT = Option TypeTag
+Meaning THIS = Option (List ℕ)
 
 -- a function of what these operands say
 abbrev pub From : List Operand → Type 0 → Type 0
@@ -66,11 +76,37 @@ nowhere = record { line = 0; column = 0 }
 abbrev pub call_word : CallWord → List ℕ
 call_word words.Call = codes "call"
 call_word words.CallNative = codes "call-native"
+call_word words.Ref = codes "ref"
+call_word words.RefNative = codes "ref-native"
+call_word words.Method = codes "method"
+call_word words.MethodNative = codes "method-native"
 
 -- whether it asks natives alone
 abbrev pub native_only : CallWord → Bool
 native_only words.Call = false
 native_only words.CallNative = true
+native_only words.Ref = false
+native_only words.RefNative = true
+native_only words.Method = false
+native_only words.MethodNative = true
+
+-- the first argument apart from the others, where there is one
+abbrev pub first_apart : (Tree → List Tree → CallShape) → List Tree → Option CallShape
+first_apart make [] = None
+first_apart make (first ∷ args) = Some (make first args)
+
+-- how its arguments are handed over: all by value, or the first by reference, or the first as the object
+abbrev pub shape_of : CallWord → List Tree → Option CallShape
+shape_of words.Call args = Some (Plain args)
+shape_of words.CallNative args = Some (Plain args)
+shape_of words.Ref args = first_apart (λ first more. ByRef first more) args
+shape_of words.RefNative args = first_apart (λ first more. ByRef first more) args
+shape_of words.Method args = first_apart (λ object more. Method object more) args
+shape_of words.MethodNative args = first_apart (λ object more. Method object more) args
+
+-- its request, where the arguments are enough
+abbrev pub request_of : CallWord → Option TypeTag → List ℕ → List Tree → Position → Option CallRequest
+request_of w want f args pos = option_map (λ shape. Named f (native_only w) shape want pos) (shape_of w args)
 
 -- how the first word of a line is spelled; after `do` stands the word of a call
 abbrev pub keyword : Keyword → List ℕ
@@ -88,7 +124,7 @@ keyword (keywords.Call w) = call_word w
 
 -- all keywords of one word
 abbrev pub one_word : List Keyword
-one_word = keywords.Limits ∷ keywords.Body ∷ keywords.Ret ∷ keywords.Fail ∷ keywords.Register ∷ keywords.Module ∷ keywords.Script ∷ keywords.Lib ∷ keywords.PopLib ∷ keywords.Call words.Call ∷ keywords.Call words.CallNative ∷ []
+one_word = keywords.Limits ∷ keywords.Body ∷ keywords.Ret ∷ keywords.Fail ∷ keywords.Register ∷ keywords.Module ∷ keywords.Script ∷ keywords.Lib ∷ keywords.PopLib ∷ keywords.Call words.Call ∷ keywords.Call words.CallNative ∷ keywords.Call words.Ref ∷ keywords.Call words.RefNative ∷ keywords.Call words.Method ∷ keywords.Call words.MethodNative ∷ []
 
 -- limits, of which the level is at most 1,000
 abbrev pub allowed : Limits → Option Part
@@ -104,14 +140,15 @@ abbrev pub access : Bool → FnAccess
 access true = Private
 access false = Public
 
--- a script of this name, with these parameters and the body of this number
-abbrev pub scripted : List ℕ → List (List ℕ) → ℕ → Bool → ScriptFuncDef
-scripted f params n private = record { name = f; params = params; this_type = None; access = access private; body = record { 0 = n } }
+-- a script of this name, with these parameters, the body of this number and this type of its object
+abbrev pub scripted : List ℕ → List (List ℕ) → ℕ → Option (List ℕ) → Bool → ScriptFuncDef
+scripted f params n type private = record { name = f; params = params; this_type = type; access = access private; body = record { 0 = n } }
 
--- a call line, and in a body a step, whose arguments may be given ones
+-- a call line, and in a body a step, whose arguments may be given ones; a place counts all of them, a first one by
+-- reference or an object included
 abbrev pub called : Bool → CallWord → Row
-called false w = record { operands = NAME ∷ ARGS false ∷ []; part = λ place f args. Some (parts.Command (commands.Call (Named f (native_only w) (Plain args.values) (position place)))) }
-called true w = record { operands = NAME ∷ ARGS true ∷ []; part = λ place f args. Some (parts.Do (record { request = Named f (native_only w) (Plain args.values) nowhere; places = args.places })) }
+called false w = record { operands = WANT ∷ NAME ∷ ARGS false ∷ []; part = λ place want f args. option_map (λ request. parts.Command (commands.Call request)) (request_of w want f args.values (position place)) }
+called true w = record { operands = WANT ∷ NAME ∷ ARGS true ∷ []; part = λ place want f args. option_map (λ request. parts.Do (record { request = request; places = args.places })) (request_of w want f args.values nowhere) }
 
 -- THE ROWS
 abbrev pub row : Keyword → Row
@@ -122,7 +159,7 @@ row keywords.Ret = record { operands = ARG ∷ []; part = λ place x. Some (part
 row keywords.Fail = record { operands = WORD ∷ []; part = λ place text. Some (parts.End (Fail text)) }
 row keywords.Register = record { operands = NAME ∷ NUM ∷ []; part = λ place f n. Some (parts.Command (commands.RegisterFn f (record { 0 = n }))) }
 row keywords.Module = record { operands = []; part = λ place. Some (parts.Command commands.NewModule) }
-row keywords.Script = record { operands = NUM ∷ WORD ∷ WORDS ∷ NUM ∷ OPTIONAL (codes "private") ∷ []; part = λ place m f params n private. Some (parts.Command (commands.Script (record { 0 = m }) (scripted f params n private))) }
+row keywords.Script = record { operands = NUM ∷ WORD ∷ WORDS ∷ NUM ∷ THIS ∷ OPTIONAL (codes "private") ∷ []; part = λ place m f params n type private. Some (parts.Command (commands.Script (record { 0 = m }) (scripted f params n type private))) }
 row keywords.Lib = record { operands = NUM ∷ []; part = λ place m. Some (parts.Command (commands.PushLib (record { 0 = m }))) }
 row keywords.PopLib = record { operands = []; part = λ place. Some (parts.Command commands.PopLib) }
 row (keywords.Call w) = called false w

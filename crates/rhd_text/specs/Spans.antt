@@ -1,13 +1,14 @@
 -- HOW THINGS ARE WRITTEN. A span says of some bytes, and of the bytes that are left, what is written between them.
-use Rattle.std.specs.Prelude.{◌≡◌, ◌≢◌, ◌⊎◌, ◌<◌, ℕ, zero, suc, ℤ, Bool, true, false, List, [], ◌∷◌, ◌++◌, length, Option, Some, codes}
+use Rattle.std.specs.Prelude.{◌≡◌, ◌≢◌, ◌⊎◌, ◌<◌, ℕ, zero, suc, ℤ, Bool, true, false, List, [], ◌∷◌, ◌++◌, length, Option, Some, None, codes}
 use Rattle.std.specs.List.{list_all}
 use Rattle.std.specs.Str.{is_utf8, chars}
 use Rattle.rhd_value.specs.declared.tag.Marks.{Marks}
+use Rattle.rhd_value.specs.declared.tag.TypeTag.{TypeTag}
 use Rattle.rhd_value.specs.declared.tag.FnPtrType.{FnPtrType}
 use Rattle.rhd_value.specs.declared.tag.FnPtrType.TheVariants.{Normal, Script, Native}
 use Rattle.rhd_value.specs.Tree.{Bytes, Kind, unit, boolean, integer, character, text, array, object, pointer, custom, Tree, list_of, entries_of}
 use Rattle.rhd_text.specs.Maps.{put_each}
-use Rattle.rhd_text.specs.Bytes.{is_blank, is_word_byte, may_end, unescaped, is_name, num_of, int_of, given_of}
+use Rattle.rhd_text.specs.Bytes.{is_blank, is_word_byte, may_end, unescaped, is_name, num_of, int_of, given_of, kind_of}
 use Rattle.rhd_text.specs.declared.arguments.Argument.{Argument}
 use Rattle.rhd_text.specs.declared.arguments.Argument.TheVariants as one
 use Rattle.rhd_text.specs.declared.arguments.Arguments.{Arguments}
@@ -69,6 +70,11 @@ optional w false = nothing
 abbrev pub number : ℕ → ℕ → Span
 number bits = meant (num_of bits)
 
+-- `:` and at once the word of a kind; or nothing, where no `:` comes next
+abbrev pub want : Option TypeTag → Span
+want (Some tag) bytes rest = (w : List ℕ) × (kind_of w ≡ Some tag) × bare (58 ∷ w) bytes rest
+want None bytes rest = (bytes ≡ rest) × ((after : List ℕ) → (blanks ▸ byte 58) bytes after → ⊥)
+
 -- ---- quoted texts
 
 -- a byte of a text between two of these quotation marks, by itself or after a backslash
@@ -102,6 +108,11 @@ unquoted s bytes rest = (is_utf8 s ≡ true) × run s bytes rest
 -- a text, quoted or not
 abbrev pub word : List ℕ → Span
 word s = blanks ▸ either (unquoted s) (quotation s)
+
+-- `this` and a text, or nothing
+abbrev pub this : Option (List ℕ) → Span
+this (Some s) = bare (codes "this") ▸ word s
+this None = nothing
 
 -- ---- lists
 

@@ -9,7 +9,7 @@ ghost use Rattle.rhd_text.specs.Answers.{Gives};
 use crate::body::{Given, GivenAt, Places};
 use crate::brackets::comes;
 use crate::fault::Stop;
-use crate::numbers::num_of;
+use crate::numbers::long_of;
 use crate::values::value_at;
 use crate::words::{is_end, word_at};
 use rhd_value::{Dynamic, OutOfMemory, Value, Values};
@@ -70,7 +70,7 @@ fn given_of(word: &[u8]) -> Option<Given>
         return Some(Given::Last);
     }
     match word {
-        [b'$', digits @ ..] => Some(Given::Arg(num_of(digits)?)),
+        [b'$', digits @ ..] => Some(Given::Arg(long_of(digits)?)),
         _ => None,
     }
 }

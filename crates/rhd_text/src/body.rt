@@ -19,7 +19,7 @@ pub enum Given {
     /// The answer of the call made last.
     Last,
     /// The argument of this number, counted from 0.
-    Arg(u32),
+    Arg(u64),
 }
 
 /// Where a given value is to stand.

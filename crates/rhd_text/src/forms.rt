@@ -6,17 +6,19 @@ ghost use Rattle.rhd_text.specs.Rows.{answered, access};
 ghost use Rattle.rhd_text.specs.ReadRows.{row_at};
 ghost use Rattle.rhd_text.specs.Answers.{Gives};
 
-use crate::arguments::{Argument, argument_at, arguments_at};
+use crate::arguments::{Argument, Arguments, argument_at, arguments_at};
 use crate::body::{BodyEnd, CallPlan};
 use crate::fault::Stop;
 use crate::keyword::{CallWord, Keyword};
 use crate::numbers::{long_at, num_at};
-use crate::operands::{name_at, texts_at};
+use crate::operands::{name_at, texts_at, this_at};
 use crate::part::Part;
 use crate::place::Place;
 use crate::quoted::wording_at;
+use crate::requests::request_of;
+use crate::wants::want_at;
 use crate::words::{flag_at, is_end};
-use rhd_func::{BodyId, CallRequest, CallShape, FnAccess, ScriptFuncDef, SharedDef};
+use rhd_func::{BodyId, FnAccess, ScriptFuncDef, SharedDef};
 use rhd_session::{Command, Limits, ModuleId};
 use rhd_value::{FnId, Position};
 use std::alloc::Global;
@@ -40,37 +42,33 @@ fn register_at(alloc: Global, bytes: &[u8], place: Place) -> Result<Part, Stop>
 fn call_at(alloc: Global, bytes: &[u8], place: Place, call: CallWord) -> Result<Part, Stop>
     ensures { Gives (λ x. x) result (row_at place (keywords.Call call) bytes.now) }
 {
-    let (name, rest) = name_at(alloc, bytes)?;
+    let (want, rest) = want_at(bytes)?;
+    let (name, rest) = name_at(alloc, rest)?;
     let (args, rest) = arguments_at(alloc, rest, false)?;
     if !is_end(rest) {
         return Err(Stop::Bad);
     }
-    Ok(Part::Command(Command::Call(CallRequest::Named {
-        name,
-        native_only: call.native_only(),
-        shape: CallShape::Plain(args.values),
-        pos: place.position(),
-    })))
+    match request_of(call, want, name, args.values, place.position()) {
+        Some(request) => Ok(Part::Command(Command::Call(request))),
+        None => Err(Stop::Bad),
+    }
 }
 
 #[tactic(auto, unfolding(crate::specs::ReadRows::row_at))]
 fn do_at(alloc: Global, bytes: &[u8], place: Place, call: CallWord) -> Result<Part, Stop>
     ensures { Gives (λ x. x) result (row_at place (keywords.Do call) bytes.now) }
 {
-    let (name, rest) = name_at(alloc, bytes)?;
+    let (want, rest) = want_at(bytes)?;
+    let (name, rest) = name_at(alloc, rest)?;
     let (args, rest) = arguments_at(alloc, rest, true)?;
     if !is_end(rest) {
         return Err(Stop::Bad);
     }
-    Ok(Part::Do(CallPlan {
-        request: CallRequest::Named {
-            name,
-            native_only: call.native_only(),
-            shape: CallShape::Plain(args.values),
-            pos: Position::NONE,
-        },
-        places: args.places,
-    }))
+    let Arguments { values, places } = args;
+    match request_of(call, want, name, values, Position::NONE) {
+        Some(request) => Ok(Part::Do(CallPlan { request, places })),
+        None => Err(Stop::Bad),
+    }
 }
 
 #[tactic(auto, unfolding(crate::specs::ReadRows::row_at))]
@@ -162,6 +160,7 @@ fn script_at(alloc: Global, bytes: &[u8], place: Place) -> Result<Part, Stop>
     let (name, rest) = wording_at(alloc, rest)?;
     let (params, rest) = texts_at(alloc, rest)?;
     let (body, rest) = num_at(rest)?;
+    let (this_type, rest) = this_at(alloc, rest)?;
     let (private, rest) = flag_at(rest, b"private");
     if !is_end(rest) {
         return Err(Stop::Bad);
@@ -169,7 +168,7 @@ fn script_at(alloc: Global, bytes: &[u8], place: Place) -> Result<Part, Stop>
     let def = ScriptFuncDef {
         name,
         params,
-        this_type: None,
+        this_type,
         access: access(private),
         body: BodyId(body),
     };

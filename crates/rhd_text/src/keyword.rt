@@ -13,6 +13,10 @@ use crate::words::word_at;
 pub enum CallWord {
     Call,
     CallNative,
+    Ref,
+    RefNative,
+    Method,
+    MethodNative,
 }
 
 impl CallWord {
@@ -22,6 +26,10 @@ impl CallWord {
         match self {
             CallWord::Call => b"call",
             CallWord::CallNative => b"call-native",
+            CallWord::Ref => b"ref",
+            CallWord::RefNative => b"ref-native",
+            CallWord::Method => b"method",
+            CallWord::MethodNative => b"method-native",
         }
     }
 
@@ -32,6 +40,10 @@ impl CallWord {
         match self {
             CallWord::Call => false,
             CallWord::CallNative => true,
+            CallWord::Ref => false,
+            CallWord::RefNative => true,
+            CallWord::Method => false,
+            CallWord::MethodNative => true,
         }
     }
 }
@@ -102,6 +114,10 @@ fn keyword_of(word: &[u8]) -> Option<Keyword>
             Keyword::PopLib,
             Keyword::Call(CallWord::Call),
             Keyword::Call(CallWord::CallNative),
+            Keyword::Call(CallWord::Ref),
+            Keyword::Call(CallWord::RefNative),
+            Keyword::Call(CallWord::Method),
+            Keyword::Call(CallWord::MethodNative),
         ],
         word,
     )

@@ -4,6 +4,7 @@
 mod arguments;
 mod body;
 mod brackets;
+mod calls;
 mod fault;
 mod forms;
 mod heads;
@@ -19,11 +20,14 @@ mod place;
 mod printing;
 mod quoted;
 mod reading;
+mod requests;
 mod session;
 mod values;
+mod wants;
 mod words;
 
 pub use body::{BodyEnd, BodyPlan, BodyPlans, CallPlan, CallPlans, Given, GivenAt, Places};
+pub use calls::read_call;
 pub use fault::TextFault;
 pub use laws::{
     lines_are_read_as_they_are_written, printed_values_are_read_again, texts_of_lines_are_utf8,

@@ -54,8 +54,9 @@ pub fn num_of(word: &[u8]) -> Option<u32>
     }
 }
 
+/// The number of 64 bits that a word says.
 #[tactic(auto, unfolding(crate::specs::Bytes::num_of))]
-fn long_of(word: &[u8]) -> Option<u64>
+pub fn long_of(word: &[u8]) -> Option<u64>
     ensures { result ≡ num_of 64 word.now }
 {
     if may_be_number(word) {

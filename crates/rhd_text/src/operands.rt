@@ -1,14 +1,14 @@
-//! Names, and lists of texts.
+//! Names, lists of texts, and the type of an object.
 
 ghost use Rattle.std.specs.Prelude.{◌≡◌, [], length, true};
 ghost use Rattle.rhd_text.specs.Bytes.{is_name};
-ghost use Rattle.rhd_text.specs.Reading.{name_at, comes, wording_at, many, texts_at};
+ghost use Rattle.rhd_text.specs.Reading.{name_at, comes, wording_at, many, texts_at, this_at};
 ghost use Rattle.rhd_text.specs.Answers.{Gives};
 
 use crate::brackets::{after_bracket, comes};
 use crate::fault::Stop;
 use crate::quoted::{text_of, wording_at};
-use crate::words::{is_name, word_at};
+use crate::words::{flag_at, is_name, word_at};
 use rhd_value::{Text, Texts};
 use std::alloc::Global;
 
@@ -67,4 +67,17 @@ pub fn texts_at(alloc: Global, bytes: &[u8]) -> Result<(Texts, &[u8]), Stop>
     }
     let (texts, rest) = texts_to_bracket(alloc, after_bracket(bytes))?;
     Ok((texts, after_bracket(rest)))
+}
+
+/// The text after `this`, where that is the next word, and the bytes after it.
+#[tactic(auto, unfolding(crate::specs::Reading::this_at))]
+pub fn this_at(alloc: Global, bytes: &[u8]) -> Result<(Option<Text>, &[u8]), Stop>
+    ensures { Gives (λ x. (x.0, x.1.now)) result (this_at bytes.now) }
+{
+    let (found, rest) = flag_at(bytes, b"this");
+    if !found {
+        return Ok((None, bytes));
+    }
+    let (text, rest) = wording_at(alloc, rest)?;
+    Ok((Some(text), rest))
 }

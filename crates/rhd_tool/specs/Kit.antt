@@ -1,12 +1,13 @@
 -- The natives of the kit, by number: what each says of itself, and what each does.
-use Rattle.std.specs.Prelude.{ℕ, ◌^◌, ◌-◌, min, ℤ, pos, ◌-ℤ◌, int_le, int_lt, ◌==◌, ◌||◌, ◌&&◌, Bool, true, false, not, List, [], ◌∷◌, length, slice_get, Option, None, Some, is_some, unwrap_or, Result, Ok, Err, if◌then◌else◌, codes}
+use Rattle.std.specs.Prelude.{ℕ, ◌^◌, ◌-◌, take, min, ℤ, pos, ◌-ℤ◌, int_le, int_lt, ◌==◌, ◌||◌, ◌&&◌, Bool, true, false, not, List, [], ◌∷◌, length, slice_get, Option, None, Some, is_some, unwrap_or, Result, Ok, Err, if◌then◌else◌, codes}
 use Rattle.std.specs.Int.{int_wrapping_add, w64}
-use Rattle.std.specs.List.{list_all, zip}
+use Rattle.std.specs.List.{find, zip}
 use Rattle.std.specs.Option.{option_map, option_map_or}
-use Rattle.rhd_value.specs.Tree.{Bytes, Tree, unit, integer, array, items_of}
-use Rattle.rhd_value.specs.Kinds.{plain, tag_of, int_in, text_in, map_type}
+use Rattle.rhd_value.specs.Tree.{Bytes, Tree, Kind, unit, integer, array, custom, items_of}
+use Rattle.rhd_value.specs.Kinds.{plain, tag_of, int_in, text_in, map_type, type_name}
 use Rattle.rhd_value.specs.Same.{tag_eq}
 use Rattle.rhd_value.specs.declared.fault.EvalAltResult.{EvalAltResult}
+use Rattle.rhd_value.specs.declared.fault.EvalAltResult.TheVariants.{ErrorMismatchDataType}
 use Rattle.rhd_value.specs.declared.tag.Position.{Position}
 use Rattle.rhd_value.specs.declared.tag.TypeTag.{TypeTag}
 use Rattle.rhd_value.specs.declared.tag.TypeTag.TheVariants as tags
@@ -58,9 +59,9 @@ kit_rows =
 abbrev pub kit_info : ℕ → NativeInfo
 kit_info number = unwrap_or (slice_get kit_rows number) (row [] false false false)
 
--- these are to come
+-- one is to come
 abbrev pub is_built : ℕ → Bool
-is_built number = not ((number == 8) || (number == 9) || (number == 15) || (number == 16))
+is_built number = not (number == 16)
 
 -- The arguments.
 
@@ -73,9 +74,13 @@ arguments (Some first) args = first ∷ args
 abbrev pub takes : TypeTag → Tree → Bool
 takes tag value = tag_eq tag tags.Dynamic || tag_eq (map_type true tag) (tag_of value)
 
--- each argument is of the type at its place
-abbrev pub all_fit : List TypeTag → List Tree → Bool
-all_fit types args = list_all (λ p. takes p.0 p.1) (zip types args)
+-- the first argument of another type than that at its place, with the type
+abbrev pub first_unfit : List TypeTag → List Tree → Option (TypeTag × Tree)
+first_unfit types args = find (λ p. not (takes p.0 p.1)) (zip types args)
+
+-- the fault of such an argument: the name of the type that is wanted, and that of the argument's own
+abbrev pub unfit_fault : TypeTag × Tree → EvalAltResult
+unfit_fault p = ErrorMismatchDataType (type_name (map_type true p.0)) (type_name (tag_of p.1)) (record { line = 0; column = 0 })
 
 -- what the argument at a place is
 abbrev pub int_at : List Tree → ℕ → ℤ
@@ -102,13 +107,30 @@ sum_of args = int_wrapping_add w64 (int_at args 0) (int_at args 1)
 abbrev pub changed_to : ℤ → Tree → Tree
 changed_to number value = record value { kind = integer number }
 
+-- the values of an array argument
+abbrev pub elements : List Tree → List Tree
+elements args = values_in (argument_at args 0).kind
+
+-- the last value; unit where there is none
+abbrev pub last_of : List Tree → Tree
+last_of values = unwrap_or (slice_get values (length values - 1)) (plain unit)
+
+-- an array without its last element, with its own marks
+abbrev pub without_last : Tree → Tree
+without_last value = record value { kind = array (items_of (take (length (values_in value.kind) - 1) (values_in value.kind))) }
+
+-- the integer that a custom value holds; 0 for another
+abbrev pub payload_in : Kind → ℤ
+payload_in (custom kind payload) = payload
+payload_in _ = pos 0
+
 -- the position of the context, and none without one
 abbrev pub position_of : Option NativeCallContext → Position
 position_of ctx = option_map_or (λ given. given.pos) ctx (record { line = 0; column = 0 })
 
 -- the call of a name without arguments, scripts allowed
 abbrev pub call_of : Option NativeCallContext → Bytes → CallRequest
-call_of ctx name = Named name false (Plain []) (position_of ctx)
+call_of ctx name = Named name false (Plain []) None (position_of ctx)
 
 -- asks the call of a name, and keeps nothing
 abbrev pub asks_once : Option NativeCallContext → Bytes → Option Tree → NativeStep
@@ -131,20 +153,27 @@ abbrev pub kit_does : ℕ → Option NativeCallContext → Option Tree → List 
 kit_does number ctx first args =
     if number == 6 then answers (bytes_in (text_at args 0)) first
     else if number == 7 then answers (sum_of args) first
+    else if number == 8 then Done (last_of (elements args)) (option_map without_last first)
+    else if number == 9 then answers (pos (length (elements args))) first
     else if number == 10 then Done (argument_at args 0) first
     else if number == 11 then own_fault (text_at args 0) first
     else if number == 12 then asks_once ctx (text_at args 0) first
     else if number == 13 then asks_often ctx (argument_at args 0) (int_at args 1) first
+    else if number == 15 then answers (payload_in (argument_at args 0).kind) first
     else if number == 19 then Done (plain unit) (option_map (changed_to (sum_of args)) first)
     else answers (pos number) first
+
+-- the same, where no argument is of another type than that at its place
+abbrev pub kit_fits : ℕ → Option NativeCallContext → Option Tree → List Tree → Option (TypeTag × Tree) → NativeStep
+kit_fits number ctx first args None = kit_does number ctx first args
+kit_fits number ctx first args (Some unfit) = Failed (unfit_fault unfit) first
 
 -- the same with all the arguments at hand
 abbrev pub kit_takes : ℕ → Option NativeCallContext → Option Tree → List Tree → NativeStep
 kit_takes number ctx first args =
     if not (is_built number) then own_fault (codes "not built") first
     else if not (length args == length (kit_info number).types) then own_fault (codes "wrong number of arguments") first
-    else if not (all_fit (kit_info number).types args) then own_fault (codes "not built") first
-    else kit_does number ctx first args
+    else kit_fits number ctx first args (first_unfit (kit_info number).types args)
 
 -- the first step of the native of a number
 abbrev pub kit_step : ℕ → Option NativeCallContext → Option Tree → List Tree → NativeStep

@@ -9,7 +9,9 @@ use Rattle.rhd_func.specs.declared.request.CallDone.{CallDone}
 use Rattle.rhd_func.specs.declared.request.NativeCallContext.{NativeCallContext}
 use Rattle.rhd_func.specs.declared.request.CallRequest.{CallRequest}
 use Rattle.rhd_func.specs.declared.request.CallRequest.TheVariants.{Named}
-use Rattle.rhd_func.specs.declared.request.CallShape.TheVariants.{Plain}
+use Rattle.rhd_func.specs.declared.request.CallShape.{CallShape}
+use Rattle.rhd_func.specs.declared.request.CallShape.TheVariants.{Plain, ByRef, Method}
+use Rattle.rhd_func.specs.Shapes.{all_args}
 use Rattle.rhd_func.specs.declared.request.NativeStep.{NativeStep}
 use Rattle.rhd_func.specs.declared.request.NativeStep.TheVariants.{Done, Failed, Ask}
 use Rattle.rhd_text.specs.declared.body.BodyEnd.{BodyEnd}
@@ -19,7 +21,7 @@ use Rattle.rhd_text.specs.declared.body.CallPlan.{CallPlan}
 use Rattle.rhd_text.specs.declared.body.Given.{Given}
 use Rattle.rhd_text.specs.declared.body.Given.TheVariants.{This, Last, Arg}
 use Rattle.rhd_text.specs.declared.body.GivenAt.{GivenAt}
-use Rattle.rhd_tool.specs.Values.{own_fault, bad_carry, values_in}
+use Rattle.rhd_tool.specs.Values.{argument_at, own_fault, bad_carry, values_in}
 
 -- What a body is given.
 
@@ -45,9 +47,15 @@ abbrev pub with_given : Scope → List GivenAt → List Tree → List Tree
 with_given scope [] values = values
 with_given scope (p ∷ places) values = with_given scope places (slice_set values p.place (value_given scope p.given))
 
--- a call as it is asked
+-- other arguments in the same shape: a first one by reference or an object stands first among them
+abbrev pub with_args : CallShape → List Tree → CallShape
+with_args (Plain _) values = Plain values
+with_args (ByRef _ _) values = ByRef (argument_at values 0) (drop 1 values)
+with_args (Method _ _) values = Method (argument_at values 0) (drop 1 values)
+
+-- a call as it is asked; places count all arguments
 abbrev pub call_with : Scope → List GivenAt → CallRequest → CallRequest
-call_with scope places (Named name native_only (Plain values) position) = Named name native_only (Plain (with_given scope places values)) position
+call_with scope places (Named name native_only shape want position) = Named name native_only (with_args shape (with_given scope places (all_args shape))) want position
 
 -- what a body keeps: the number of calls asked so far, and its arguments
 abbrev pub with_count : ℕ → List Tree → List Tree

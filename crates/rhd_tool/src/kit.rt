@@ -34,7 +34,7 @@ impl KitFn {
     fn is_built(&self) -> bool
         ensures { result ≡ is_built self.now.number }
     {
-        !matches!(self.number, 8 | 9 | 15 | 16)
+        self.number != 16
     }
 }
 
@@ -63,8 +63,11 @@ impl PluginFunc for KitFn {
         if !given.is_count(types.len()) {
             return own_fault(alloc, "wrong number of arguments", given.first);
         }
-        if !given.fits(types) {
-            return own_fault(alloc, "not built", given.first);
+        if let Some(fault) = given.unfit_fault(alloc, types)? {
+            return Ok(NativeStep::Failed {
+                fault,
+                first: given.first,
+            });
         }
         act(self.number, alloc, ctx, given)
     }

@@ -2,9 +2,10 @@
 
 ghost use Rattle.std.specs.Prelude.{◌≡◌, ◌<◌, IfOk, OnOk, drop, length, slice_get};
 ghost use Rattle.std.specs.Option.{option_copied};
-ghost use Rattle.rhd_tool.specs.PlanBodies.{value_given, with_given, call_with, ends, step_after, count_in};
+ghost use Rattle.rhd_func.specs.Shapes.{all_args};
+ghost use Rattle.rhd_tool.specs.PlanBodies.{value_given, with_given, with_args, call_with, ends, step_after, count_in};
 
-use crate::values::{answer_unit, failed, own_fault, values_in};
+use crate::values::{answer_unit, failed, first_apart, own_fault, values_in};
 use rhd_func::{
     Bodies, CallDone, CallRequest, CallShape, Carry, NativeCallContext, NativeStep, ScriptFuncDef,
 };
@@ -71,6 +72,40 @@ fn put_given(
     Ok(())
 }
 
+/// A shape with each given value in its place, where places count all arguments.
+fn shape_with(
+    alloc: Global,
+    shape: CallShape,
+    places: &[GivenAt],
+    object: Option<&Dynamic>,
+    latest: Option<&Dynamic>,
+    args: &[Dynamic],
+) -> Result<CallShape, OutOfMemory>
+    ensures { IfOk result (λ made. made ≡ with_args shape (with_given (record { object = option_copied object.entry; latest = option_copied latest.entry; args = args.now }) places.now (all_args shape))) }
+{
+    match shape {
+        CallShape::Plain(values) => {
+            let mut values = values;
+            put_given(alloc, places, &mut values, object, latest, args)?;
+            Ok(CallShape::Plain(values))
+        }
+        CallShape::ByRef(first, values) => {
+            let mut values = values;
+            values.push_first(first)?;
+            put_given(alloc, places, &mut values, object, latest, args)?;
+            let (first, values) = first_apart(values);
+            Ok(CallShape::ByRef(first, values))
+        }
+        CallShape::Method(this, values) => {
+            let mut values = values;
+            values.push_first(this)?;
+            put_given(alloc, places, &mut values, object, latest, args)?;
+            let (this, values) = first_apart(values);
+            Ok(CallShape::Method(this, values))
+        }
+    }
+}
+
 /// A call as it is asked.
 fn call_with(
     alloc: Global,
@@ -85,22 +120,15 @@ fn call_with(
         name,
         native_only,
         shape,
+        want,
         pos,
     } = call.request.dup(alloc)?;
-    let CallShape::Plain(values) = shape;
-    let mut values = values;
-    put_given(
-        alloc,
-        call.places.as_slice(),
-        &mut values,
-        object,
-        latest,
-        args,
-    )?;
+    let places = call.places.as_slice();
     Ok(CallRequest::Named {
         name,
         native_only,
-        shape: CallShape::Plain(values),
+        shape: shape_with(alloc, shape, places, object, latest, args)?,
+        want,
         pos,
     })
 }

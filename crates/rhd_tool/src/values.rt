@@ -1,6 +1,6 @@
 //! What natives and bodies read in values, and what they make of them.
 
-ghost use Rattle.std.specs.Prelude.{◌≡◌, IfOk};
+ghost use Rattle.std.specs.Prelude.{◌≡◌, IfOk, drop};
 ghost use Rattle.std.specs.Option.{option_copied};
 ghost use Rattle.rhd_value.specs.Kinds.{plain};
 ghost use Rattle.rhd_value.specs.Tree.{unit};
@@ -41,6 +41,18 @@ pub fn first_of(values: Values) -> Dynamic
     match first {
         Some(first) => first,
         None => Dynamic::from(Value::Unit),
+    }
+}
+
+/// The first of some values, unit where there is none, and the others.
+pub fn first_apart(values: Values) -> (Dynamic, Values)
+    ensures first { result.0 ≡ argument_at values 0 }
+    ensures rest { result.1 ≡ drop 1 values }
+{
+    let (first, rest) = values.split_first();
+    match first {
+        Some(first) => (first, rest),
+        None => (Dynamic::from(Value::Unit), rest),
     }
 }
 

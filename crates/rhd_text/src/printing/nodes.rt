@@ -1,6 +1,7 @@
 //! The line of a call.
 
-ghost use Rattle.std.specs.Prelude.{◌≡◌, ◌++◌, ◌∷◌, [], OnOk};
+ghost use Rattle.std.specs.Prelude.{◌≡◌, ◌++◌, ◌∷◌, [], OnOk, codes};
+ghost use Rattle.rhd_text.specs.PrintedTexts.{quoted};
 ghost use Rattle.std.specs.Fmt.{decimal};
 ghost use Rattle.rhd_text.specs.PrintedReplies.{spelled_fault, label, layer_text, func_text, pick_text, whose_text, result_text, after_text, call_line, indent, tree_text, nodes_text};
 ghost use Rattle.rhd_session.specs.declared.node.CallNode.{out-CallNode};
@@ -9,8 +10,17 @@ use super::quotes::{push_number, push_quoted};
 use super::values::push_value;
 use rhd_func::{CallRequest, RhaiFunc};
 use rhd_session::{CallNode, Layer, Nodes, Pick, Whose};
-use rhd_value::{Dynamic, EvalAltResult, OutOfMemory};
+use rhd_value::{Dynamic, EvalAltResult, OutOfMemory, Text};
 use std::alloc::Global;
+
+/// The type wanted and the type got.
+fn push_types(wanted: &Text, got: &Text, out: &mut Vec<u8>) -> Result<(), OutOfMemory>
+    ensures { OnOk result (out.new.items ≡ out.old.items ++ (quoted wanted.now ++ codes " " ++ quoted got.now)) }
+{
+    push_quoted(wanted.as_str(), out)?;
+    out.extend_from_slice(b" ")?;
+    push_quoted(got.as_str(), out)
+}
 
 /// A fault by its number, without its position.
 #[tactic(auto, unfolding(crate::specs::PrintedReplies::spelled_fault))]
@@ -22,8 +32,24 @@ fn push_fault(fault: &EvalAltResult, out: &mut Vec<u8>) -> Result<(), OutOfMemor
             out.extend_from_slice(b"1 ")?;
             push_quoted(text.as_str(), out)
         }
+        EvalAltResult::ErrorDataRace(text, _) => {
+            out.extend_from_slice(b"6 ")?;
+            push_quoted(text.as_str(), out)
+        }
+        EvalAltResult::ErrorMismatchOutputType(wanted, got, _) => {
+            out.extend_from_slice(b"7 ")?;
+            push_types(wanted, got, out)
+        }
+        EvalAltResult::ErrorMismatchDataType(wanted, got, _) => {
+            out.extend_from_slice(b"8 ")?;
+            push_types(wanted, got, out)
+        }
         EvalAltResult::ErrorTooManyOperations(_) => Ok(out.extend_from_slice(b"9")?),
         EvalAltResult::ErrorStackOverflow(_) => Ok(out.extend_from_slice(b"10")?),
+        EvalAltResult::ErrorDataTooLarge(text, _) => {
+            out.extend_from_slice(b"11 ")?;
+            push_quoted(text.as_str(), out)
+        }
         EvalAltResult::ErrorRuntime(text, _) => {
             out.extend_from_slice(b"15 ")?;
             push_quoted(text.as_str(), out)

@@ -1,12 +1,12 @@
 //! The arguments that a native is called with.
 
 ghost use Rattle.std.specs.Prelude.{◌≡◌, ◌==◌, IfOk, length, slice_get};
-ghost use Rattle.std.specs.Option.{option_copied};
-ghost use Rattle.rhd_tool.specs.Kit.{arguments, takes, all_fit, int_at, text_at};
+ghost use Rattle.std.specs.Option.{option_copied, option_map};
+ghost use Rattle.rhd_tool.specs.Kit.{arguments, takes, first_unfit, unfit_fault, int_at, text_at};
 ghost use Rattle.rhd_tool.specs.Values.{argument_at};
 
 use crate::values::{first_of, int_of, text_of};
-use rhd_value::{Dynamic, OutOfMemory, TypeTag, Values, map_type};
+use rhd_value::{Dynamic, EvalAltResult, OutOfMemory, Position, TypeTag, Values, map_type};
 use std::alloc::Global;
 
 /// The arguments of a native.
@@ -25,11 +25,30 @@ fn takes(tag: TypeTag, value: &Dynamic) -> bool
     tag == TypeTag::Dynamic || map_type(true, tag) == value.kind()
 }
 
-/// Whether each argument is of the type at its place.
-fn all_fit(types: &[TypeTag], args: &[Dynamic]) -> bool
-    ensures { result ≡ all_fit types.now args.now }
+/// The first argument of another type than that at its place, with the type.
+fn first_unfit<'a>(types: &'a [TypeTag], args: &'a [Dynamic]) -> Option<(TypeTag, &'a Dynamic)>
+    ensures { option_map (λ p. (p.0, p.1.now)) result ≡ first_unfit types.now args.now }
 {
-    types.iter().zip(args).all(|(tag, arg)| takes(*tag, arg))
+    let [tag, types @ ..] = types else {
+        return None;
+    };
+    let [arg, args @ ..] = args else {
+        return None;
+    };
+    if takes(*tag, arg) {
+        first_unfit(types, args)
+    } else {
+        Some((*tag, arg))
+    }
+}
+
+/// The fault of an argument of another type than this.
+fn unfit_fault(alloc: Global, tag: TypeTag, value: &Dynamic) -> Result<EvalAltResult, OutOfMemory>
+    ensures { IfOk result (λ fault. fault ≡ unfit_fault (tag, value.now)) }
+{
+    let wanted = map_type(true, tag).type_name(alloc)?;
+    let got = value.type_name(alloc)?;
+    Ok(EvalAltResult::ErrorMismatchDataType(wanted, got, Position::NONE))
 }
 
 impl Given {
@@ -43,16 +62,29 @@ impl Given {
         }
     }
 
-    /// Whether each is of the type at its place.
-    pub fn fits(&self, types: &[TypeTag]) -> bool
-        ensures { result ≡ all_fit types.now (arguments self.now.first self.now.args) }
+    /// The first one of another type than that at its place, with the type.
+    fn first_unfit<'a>(&'a self, types: &'a [TypeTag]) -> Option<(TypeTag, &'a Dynamic)>
+        ensures { option_map (λ p. (p.0, p.1.now)) result ≡ first_unfit types.now (arguments self.now.first self.now.args) }
     {
         match (&self.first, types) {
-            (None, _) => all_fit(types, self.args.as_slice()),
-            (Some(_), []) => true,
-            (Some(first), [tag, types @ ..]) => {
-                takes(*tag, first) && all_fit(types, self.args.as_slice())
-            }
+            (None, _) => first_unfit(types, self.args.as_slice()),
+            (Some(_), []) => None,
+            (Some(first), [tag, _types @ ..]) if !takes(*tag, first) => Some((*tag, first)),
+            (Some(_), [_tag, types @ ..]) => first_unfit(types, self.args.as_slice()),
+        }
+    }
+
+    /// The fault of the first one of another type than that at its place, if there is one.
+    pub fn unfit_fault(
+        &self,
+        alloc: Global,
+        types: &[TypeTag],
+    ) -> Result<Option<EvalAltResult>, OutOfMemory>
+        ensures { IfOk result (λ fault. fault ≡ option_map unfit_fault (first_unfit types.now (arguments self.now.first self.now.args))) }
+    {
+        match self.first_unfit(types) {
+            Some((tag, value)) => Ok(Some(unfit_fault(alloc, tag, value)?)),
+            None => Ok(None),
         }
     }
 

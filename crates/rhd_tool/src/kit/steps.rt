@@ -1,11 +1,11 @@
 //! What the natives of the kit do.
 
-ghost use Rattle.std.specs.Prelude.{◌≡◌, IfOk};
+ghost use Rattle.std.specs.Prelude.{◌≡◌, ◌-◌, IfOk, length, pos, take};
 ghost use Rattle.std.specs.Option.{option_copied, option_map};
 ghost use Rattle.rhd_value.specs.Tree.{unit};
 ghost use Rattle.rhd_value.specs.Kinds.{plain};
-ghost use Rattle.rhd_tool.specs.Kit.{arguments, answers, bytes_in, sum_of, changed_to, position_of, call_of, asks_once, with_left, asks_with_left, asks_often, kit_does, passes_on, is_name_with_left, goes_on, kit_next, int_at, text_at};
-ghost use Rattle.rhd_tool.specs.Values.{argument_at, own_fault};
+ghost use Rattle.rhd_tool.specs.Kit.{arguments, answers, bytes_in, sum_of, changed_to, elements, last_of, without_last, payload_in, position_of, call_of, asks_once, with_left, asks_with_left, asks_often, kit_does, passes_on, is_name_with_left, goes_on, kit_next, int_at, text_at};
+ghost use Rattle.rhd_tool.specs.Values.{argument_at, own_fault, values_in};
 
 use crate::kit::given::Given;
 use crate::values::{answer_unit, failed, first_of, int_of, own_fault, owned, text_of, values_in};
@@ -59,6 +59,80 @@ fn add_to_first(given: Given) -> NativeStep
     }
 }
 
+/// The last value, which is unit where there is none, and the values before it.
+fn last_apart(values: Values) -> (Dynamic, Values)
+    ensures last { result.0 ≡ last_of values }
+    ensures rest { result.1 ≡ take (length values - 1) values }
+{
+    let mut values = values;
+    match values.pop() {
+        Some(last) => (last, values),
+        None => (Dynamic::from(Value::Unit), values),
+    }
+}
+
+/// Takes the last element off the first argument, and answers it.
+fn pop(alloc: Global, given: Given) -> NativeStep
+    ensures { result ≡ NativeStep.Done (last_of (elements (arguments given.first given.args))) (option_map without_last given.first) }
+{
+    let Given { first, args } = given;
+    match first {
+        Some(first) => {
+            let marks = first.marks;
+            let (answer, rest) = last_apart(values_in(alloc, first));
+            let first = Dynamic {
+                value: Value::Array(rest),
+                marks,
+            };
+            NativeStep::Done {
+                answer,
+                first: Some(first),
+            }
+        }
+        None => {
+            let (answer, _rest) = last_apart(values_in(alloc, first_of(args)));
+            NativeStep::Done {
+                answer,
+                first: None,
+            }
+        }
+    }
+}
+
+/// The elements of an array; of a value of another kind, none.
+#[tactic(auto, using(crate::proofs::Arrays::items_list))]
+fn elements_of(value: &Dynamic) -> &[Dynamic]
+    ensures { result.now ≡ values_in value.now.kind }
+{
+    match &value.value {
+        Value::Array(values) => values.as_slice(),
+        _ => &[],
+    }
+}
+
+/// The number of elements of the first argument.
+fn count(given: &Given) -> i64
+    ensures { result ≡ pos (length (elements (arguments given.now.first given.now.args))) }
+{
+    match given.get(0) {
+        Some(value) => elements_of(value).len() as i64,
+        None => 0,
+    }
+}
+
+/// The integer that the first argument holds, where that is a custom value; else 0.
+fn payload_in(given: &Given) -> i64
+    ensures { result ≡ payload_in (argument_at (arguments given.now.first given.now.args) 0).kind }
+{
+    match given.get(0) {
+        Some(value) => match &value.value {
+            Value::Custom(_, payload) => *payload,
+            _ => 0,
+        },
+        None => 0,
+    }
+}
+
 /// Answers the first argument.
 fn echo(alloc: Global, given: Given) -> Result<NativeStep, OutOfMemory>
     ensures { IfOk result (λ step. step ≡ NativeStep.Done (argument_at (arguments given.first given.args) 0) given.first) }
@@ -97,6 +171,7 @@ fn call_of(
         name: owned(alloc, name)?,
         native_only: false,
         shape: CallShape::Plain(Values::new(alloc)),
+        want: None,
         pos: position_of(ctx),
     })
 }
@@ -178,10 +253,13 @@ pub fn act(
     match number {
         6 => Ok(answer(bytes_in(given.text(0)), given.first)),
         7 => Ok(answer(sum_of(&given), given.first)),
+        8 => Ok(pop(alloc, given)),
+        9 => Ok(answer(count(&given), given.first)),
         10 => echo(alloc, given),
         11 => fail(alloc, given),
         12 => ask_once(alloc, ctx, given),
         13 => ask_often(alloc, ctx, given),
+        15 => Ok(answer(payload_in(&given), given.first)),
         19 => Ok(add_to_first(given)),
         _ => Ok(answer(number as i64, given.first)),
     }

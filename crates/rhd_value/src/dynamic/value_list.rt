@@ -1,6 +1,6 @@
 //! Lists of values.
 
-ghost use Rattle.std.specs.Prelude.{◌≡◌, ◌++◌, ◌∷◌, [], length, if◌then◌else◌, is_ok, slice_get, slice_set, ◌<◌, Some};
+ghost use Rattle.std.specs.Prelude.{◌≡◌, ◌<◌, ◌-◌, ◌++◌, ◌∷◌, [], length, if◌then◌else◌, is_ok, slice_get, slice_set, take, Some};
 ghost use Rattle.std.specs.Option.{option_copied};
 ghost use Rattle.std.specs.List.{IsItemAtMut};
 ghost use Rattle.std.specs.Slice.Iter.{iter_mut_rest, iter_mut_steps};
@@ -114,5 +114,13 @@ impl Values {
         }
         let first = items.remove(0);
         (Some(first), Values { items })
+    }
+
+    /// Takes the last value off; none where there is nothing.
+    pub fn pop(&mut self) -> Option<Dynamic>
+        ensures last { result ≡ slice_get self.old (length self.old - 1) }
+        ensures rest { self.new ≡ take (length self.old - 1) self.old }
+    {
+        self.items.pop()
     }
 }

@@ -1,0 +1,44 @@
+//! One call line by itself.
+
+ghost use Rattle.std.specs.Prelude.{◌≡◌, IfOk};
+ghost use Rattle.rhd_text.specs.Grammar.{IsCallOrNone};
+ghost use Rattle.rhd_text.specs.ReadRows.{request_in};
+
+use crate::fault::Stop;
+use crate::line::{Line, line_at};
+use crate::part::Part;
+use crate::place::Place;
+use rhd_func::CallRequest;
+use rhd_session::Command;
+use rhd_value::OutOfMemory;
+use std::alloc::Global;
+
+/// The request of a line, where that is a call line.
+fn request_in(line: Line) -> Option<CallRequest>
+    ensures { result ≡ request_in line }
+{
+    match line {
+        Line::Says(Part::Command(Command::Call(request))) => Some(request),
+        _ => None,
+    }
+}
+
+/// The request of a call line that stands at this line of a text, counted from 1; none exactly
+/// where the bytes are no call line.
+pub fn read_call(
+    alloc: Global,
+    line: &[u8],
+    number: u32,
+) -> Result<Option<CallRequest>, OutOfMemory>
+    ensures { IfOk result (IsCallOrNone number line.now) }
+{
+    let place = Place {
+        held: 0,
+        line: number,
+    };
+    match line_at(alloc, line, place) {
+        Ok(line) => Ok(request_in(line)),
+        Err(Stop::Bad) => Ok(None),
+        Err(Stop::Memory) => Err(OutOfMemory),
+    }
+}
