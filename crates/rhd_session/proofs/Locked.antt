@@ -1,12 +1,11 @@
 -- Where the first locked argument is.
-use Rattle.std.proofs.Common.{◌≡◌, ◌<◌, ◌≤◌, ℕ, ◌+◌, Bool, true, false, get_or, drop, List, [], ◌∷◌, length, refl, sym, ap, ◌∙◌, arith}
+use Rattle.std.proofs.Common.{◌≡◌, ◌<◌, ℕ, ◌+◌, Bool, true, false, List, [], ◌∷◌, refl, sym, ap, ◌∙◌, arith}
 use Rattle.std.specs.Prelude.{◌↔◌, zero, suc, slice_get, Option, None, Some, if◌then◌else◌}
-use Rattle.std.proofs.lemmas.List.{drop_more}
 use Rattle.rhd_value.specs.Tree.{Tree}
 use Rattle.rhd_func.specs.declared.request.CallShape.{CallShape}
 use Rattle.rhd_func.specs.declared.request.CallShape.TheVariants.{Plain, ByRef, Method}
 use Rattle.rhd_session.specs.Decisions.{locked_from, locked_place}
-use Rattle.rhd_session.specs.Causes.{args_by_value, place_by_value, IsLocked, IsFirstLocked}
+use Rattle.rhd_session.specs.Causes.{args_by_value, place_by_value, IsFirstLocked}
 
 -- where the search ends with none, no value is locked
 not_head : (start : ℕ) (v u : Tree) (rest : Option ℕ) (b : Bool) → v.marks.locked ≡ b → (if b then Some start else rest) ≡ None → ◌≡◌ {A = Option Tree} (Some v) (Some u) → u.marks.locked ≡ true → ⊥
@@ -60,9 +59,10 @@ place_searched (Method object args) = refl
 
 pub place_first : (shape : CallShape) (n : ℕ) → locked_place shape ≡ Some n → IsFirstLocked shape n
 place_first shape n h =
-    let r = found_by (place_by_value shape) (args_by_value shape) n (sym (place_searched shape) ∙ h) in
-    (record { at = r.k; argument = r.value; place = r.place; stands = r.stands; locked = r.locked },
-    λ m b l. r.none_before l.at l.argument (omega (arith, r.place, l.place)) l.stands l.locked)
+    let r = found_by (place_by_value shape) (args_by_value shape) n (sym (place_searched shape) ∙ h) in (
+      record { at = r.k; argument = r.value; place = r.place; stands = r.stands; locked = r.locked },
+      λ m b l. r.none_before l.at l.argument (omega (arith, r.place, l.place)) l.stands l.locked,
+    )
 
 the_same : (m n : ℕ) → (m < n → ⊥) → (n < m → ⊥) → m ≡ n
 the_same m n p q = omega (arith, p, q)

@@ -1,5 +1,5 @@
 -- How each call of a tree ends.
-use Rattle.std.proofs.Common.{◌≡◌, ℕ, ◌<◌, ◌≤◌, Bool, true, false, ltb, List, [], ◌∷◌, refl, sym, ap, ◌∙◌, subst, ◌⊎◌, inl, inr, arith}
+use Rattle.std.proofs.Common.{◌≡◌, ℕ, ◌<◌, ◌≤◌, Bool, true, false, ltb, List, [], refl, sym, ap, ◌∙◌, subst, ◌⊎◌, inl, inr, arith}
 use Rattle.std.specs.Prelude.{◌↔◌, if◌then◌else◌, Option, None, Some, Err}
 use Rattle.std.proofs.lemmas.Bool.{ltb-true, ltb-false}
 use Rattle.rhd_value.specs.Tree.{Bytes, Tree}
@@ -16,7 +16,7 @@ use Rattle.rhd_func.specs.declared.request.CallRequest.TheVariants.{Named}
 use Rattle.rhd_func.specs.declared.request.CallShape.{CallShape}
 use Rattle.rhd_func.specs.declared.request.CallShape.TheVariants.{Plain, ByRef, Method}
 use Rattle.rhd_func.specs.declared.request.NativeStep.{NativeStep}
-use Rattle.rhd_func.specs.declared.request.NativeStep.TheVariants.{Done, Failed, Ask}
+use Rattle.rhd_func.specs.declared.request.NativeStep.TheVariants.{Done}
 use Rattle.rhd_func.specs.Funcs.{is_method, is_script}
 use Rattle.rhd_func.specs.Shapes.{first_given, given, pos_of}
 use Rattle.rhd_session.specs.Engine.{Frame}
@@ -29,8 +29,8 @@ use Rattle.rhd_session.specs.declared.pick.Pick.{Pick}
 use Rattle.rhd_session.specs.Display.{display}
 use Rattle.rhd_session.specs.Plans.{Plan, plan_of}
 use Rattle.rhd_session.specs.Received.{manner_of, has_the_given}
-use Rattle.rhd_session.specs.Ends.{failed, refusing, first_at_end, end_of}
-use Rattle.rhd_session.specs.Decisions.{locked_place, locked_text, refusal}
+use Rattle.rhd_session.specs.Ends.{first_at_end, end_of}
+use Rattle.rhd_session.specs.Decisions.{locked_place, refusal}
 use Rattle.rhd_session.specs.FirstAsks.{EndsAlone, missing_end}
 use Rattle.rhd_session.specs.Causes.{IsOwn, IsFirstLocked, NamesLocked, AreWithin, IsTooLarge, IsOfOtherKind, EndsWith, RefusesKind, RefusesSize, RefusesValue, for_kind, for_size, gave_back, GivesBack}
 use Rattle.rhd_session.specs.Entered.{context}

@@ -1,27 +1,26 @@
 -- What each call of a tree shows, and where it ends with fault 9 or 10.
-use Rattle.std.proofs.Common.{◌≡◌, ℕ, ◌<◌, Bool, true, false, ltb, [], ◌∷◌, refl, sym, ap, ◌∙◌, inl, inr, arith}
-use Rattle.std.specs.Prelude.{◌↔◌, Option, None, Some, option_map, Ok, Err}
-use Rattle.std.proofs.lemmas.Bool.{lt-ltb, ltb-true}
-use Rattle.rhd_value.specs.Firsts.{first_some, where_holds}
+use Rattle.std.proofs.Common.{◌≡◌, ℕ, ◌<◌, Bool, true, false, ltb, [], refl, sym, ap, ◌∙◌, arith}
+use Rattle.std.specs.Prelude.{◌↔◌, Option, None, Some, Err}
+use Rattle.std.proofs.lemmas.Bool.{ltb-true}
 use Rattle.rhd_value.specs.declared.fault.EvalAltResult.TheVariants.{ErrorTooManyOperations, ErrorStackOverflow}
 use Rattle.rhd_func.specs.declared.request.CallRequest.{CallRequest}
 use Rattle.rhd_func.specs.Shapes.{given, pos_of}
 use Rattle.rhd_session.specs.declared.node.CallNode.{CallNode}
-use Rattle.rhd_session.specs.declared.node.Whose.TheVariants.{Call, Called}
+use Rattle.rhd_session.specs.declared.node.Whose.TheVariants.{Call}
 use Rattle.rhd_session.specs.declared.pick.Pick.{Pick}
 use Rattle.rhd_session.specs.Engine.{EngineLists, Frame}
 use Rattle.rhd_session.specs.World.{World, Objects, Moment}
-use Rattle.rhd_session.specs.Plans.{Plan, plan_of}
+use Rattle.rhd_session.specs.Plans.{plan_of}
 use Rattle.rhd_session.specs.declared.ends.End.{End}
 use Rattle.rhd_session.specs.Ends.{failed}
 use Rattle.rhd_session.specs.Decisions.{ends, runs, locked_place, refusal}
-use Rattle.rhd_session.specs.FirstAsks.{IsAnsweredFirst, EndsAlone, missing_end}
-use Rattle.rhd_session.specs.Seen.{Seen, seen, begun_node, unbegun_node, cut_end}
+use Rattle.rhd_session.specs.FirstAsks.{IsAnsweredFirst, EndsAlone}
+use Rattle.rhd_session.specs.Seen.{Seen, seen, begun_node, unbegun_node}
 use Rattle.rhd_session.specs.Runs.{Runs, not_begun, ended, finished, cut_short}
 use Rattle.rhd_session.specs.Trees.{InTree, is_root, frame_at}
 use Rattle.rhd_session.proofs.Found.{runs_within, decided_deep, deep_end, locked_end, refused_where, refusal_is, deep_refused}
 use Rattle.rhd_session.proofs.NodeEnds.{runs_end, spends_not, overflows}
-use Rattle.rhd_session.proofs.FirstAnswered.{first_runs, ends_missing, shows_first, shows_missing, shows_unbegun}
+use Rattle.rhd_session.proofs.FirstAnswered.{first_runs, shows_first, shows_missing, shows_unbegun}
 use Rattle.rhd_session.proofs.TreeLaws.{tree_runs, runs_begun}
 
 not_deep : (call : CallRequest) (n : ℕ) → locked_end call n ≡ deep_end call → ⊥
