@@ -1,8 +1,8 @@
 -- What is refused, what is picked, and what is decided by it.
-use Rattle.std.proofs.Common.{◌≡◌, ◌<◌, ◌≤◌, ℕ, Bool, false, ltb, List, [], ◌∷◌, ◌++◌, length, map, true, refl, sym, ap, ◌∙◌}
+use Rattle.std.proofs.Common.{◌≡◌, ◌<◌, ◌≤◌, ℕ, Bool, false, ltb, List, [], ◌∷◌, ◌++◌, map, true, refl, sym, ap, ◌∙◌}
 use Rattle.std.specs.Prelude.{Option, Some, None, IfSome, option_map}
 use Rattle.std.specs.Option.{option_or, option_to_list}
-use Rattle.std.proofs.lemmas.Bool.{lt-ltb, le-ltb, ltb-false}
+use Rattle.std.proofs.lemmas.Bool.{lt-ltb, ltb-false}
 use Rattle.rhd_value.specs.Firsts.{first_of, first_some, where_holds}
 use Rattle.rhd_value.specs.declared.fault.EvalAltResult.TheVariants.{ErrorStackOverflow, ErrorDataRace}
 use Rattle.rhd_value.specs.declared.fault.EvalAltResult.{EvalAltResult}
@@ -10,7 +10,6 @@ use Rattle.rhd_func.specs.declared.request.CallRequest.{CallRequest}
 use Rattle.rhd_func.specs.declared.request.CallRequest.TheVariants.{Named}
 use Rattle.rhd_value.specs.Tree.{Bytes}
 use Rattle.rhd_func.specs.declared.request.CallShape.{CallShape}
-use Rattle.rhd_func.specs.declared.request.CallShape.TheVariants.{Plain, ByRef, Method}
 use Rattle.rhd_func.specs.Shapes.{all_args, given, pos_of}
 use Rattle.rhd_module.specs.declared.key.Key.{Key}
 use Rattle.rhd_module.specs.declared.key.Key.TheVariants.{Script}
@@ -21,7 +20,7 @@ use Rattle.rhd_session.specs.Engine.{EngineLists, Frame}
 use Rattle.rhd_session.specs.Searched.{libraries, own_place, pick_at, found}
 use Rattle.std.specs.List.{enumerate_from}
 use Rattle.rhd_session.specs.Held.{func_held, all_held}
-use Rattle.rhd_session.specs.Asks.{Asked, asked_key, looked, params_of, typed_asks, allowed_asks, script_asks, script, native_ask, pick_unqualified}
+use Rattle.rhd_session.specs.Asks.{Asked, asked_key, looked, params_of, typed_asks, allowed_asks, script, native_ask, pick_unqualified}
 use Rattle.rhd_session.specs.FirstAsks.{asks_of}
 use Rattle.rhd_session.specs.NotFound.{not_found}
 use Rattle.rhd_session.specs.Plans.{by_name, Plan, plan_of}

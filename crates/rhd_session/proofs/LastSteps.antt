@@ -1,6 +1,6 @@
 -- What the checks of a last step say, without their order.
-use Rattle.std.proofs.Common.{◌≡◌, ℕ, ◌<◌, ◌≤◌, Bool, true, false, ltb, [], ◌∷◌, refl, sym, ap, ◌∙◌, subst, ◌⊎◌, inl, inr, arith}
-use Rattle.std.specs.Prelude.{Option, None, Some, not, if◌then◌else◌, option_and_then, Ok, Err, codes}
+use Rattle.std.proofs.Common.{◌≡◌, Bool, true, false, ltb, [], ◌∷◌, refl, sym, ap, ◌∙◌, subst}
+use Rattle.std.specs.Prelude.{Option, None, Some, not, if◌then◌else◌, option_and_then, Ok, codes}
 use Rattle.std.specs.Option.{option_or}
 use Rattle.std.proofs.lemmas.Bool.{lt-ltb, le-ltb, ltb-true, ltb-false}
 use Rattle.rhd_value.specs.Tree.{Bytes, Tree}
@@ -20,7 +20,7 @@ use Rattle.rhd_func.specs.Funcs.{is_script}
 use Rattle.rhd_session.specs.Engine.{EngineLists}
 use Rattle.rhd_session.specs.declared.ends.End.{End}
 use Rattle.rhd_session.specs.declared.limits.Limits.{Limits}
-use Rattle.rhd_session.specs.declared.node.Whose.TheVariants.{Call, Called}
+use Rattle.rhd_session.specs.declared.node.Whose.TheVariants.{Called}
 use Rattle.rhd_session.specs.declared.pick.Pick.{Pick}
 use Rattle.rhd_session.specs.Display.{display}
 use Rattle.rhd_session.specs.Plans.{Plan}
@@ -115,8 +115,8 @@ unfit_by limits plan pick back v fault None is h =
     elim [
       | None ↦ (λ e k. absurd (none_some fault k))
       | Some x ↦ (λ e k.
-      let p = first_passes limits plan pick back fault (is_script pick.func) (first_at_end plan pick back) refl refl (e ∙ k) in
-      (p.2.0, the_first p.0 (tested_within limits plan.pos (sizes_of v) is) p.1 p.2.1, p.2.2))
+          let p = first_passes limits plan pick back fault (is_script pick.func) (first_at_end plan pick back) refl refl (e ∙ k) in
+          (p.2.0, the_first p.0 (tested_within limits plan.pos (sizes_of v) is) p.1 p.2.1, p.2.2))
     ] in
     by (first_too_large limits plan pick back) refl h
 

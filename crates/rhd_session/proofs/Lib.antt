@@ -10,3 +10,5 @@ pub mod TreeFaults
 pub mod TreePlants
 pub mod Places
 pub mod Locked
+pub mod LastSteps
+pub mod NodeEnds

@@ -1,27 +1,11 @@
 -- Where the first locked argument is.
-use Rattle.std.proofs.Common.{◌≡◌, ◌<◌, ◌≤◌, ℕ, ◌+◌, Bool, true, false, get_or, drop, List, [], ◌∷◌, length, refl, sym, ap, ◌∙◌, arith}
+use Rattle.std.proofs.Common.{◌≡◌, ◌<◌, ℕ, ◌+◌, Bool, true, false, List, [], ◌∷◌, refl, sym, ap, ◌∙◌, arith}
 use Rattle.std.specs.Prelude.{◌↔◌, zero, suc, slice_get, Option, None, Some, if◌then◌else◌}
-use Rattle.std.proofs.lemmas.List.{drop_more}
 use Rattle.rhd_value.specs.Tree.{Tree}
 use Rattle.rhd_func.specs.declared.request.CallShape.{CallShape}
 use Rattle.rhd_func.specs.declared.request.CallShape.TheVariants.{Plain, ByRef, Method}
 use Rattle.rhd_session.specs.Decisions.{locked_from, locked_place}
-use Rattle.rhd_session.specs.Causes.{args_by_value, place_by_value, IsLocked, IsFirstLocked}
-
--- at a place the search looks at the value that stands there
-looks_at : (start place i : ℕ) (vs : List Tree) (v : Tree) → i < length vs → v ≡ get_or vs i v → locked_from place (drop i vs) ≡ locked_from start vs
-    → (if v.marks.locked then Some place else locked_from (place + 1) (drop (i + 1) vs)) ≡ locked_from start vs
-looks_at start place i vs v h is before = sym (ap (locked_from place) (drop_more vs i v h ∙ ap (λ (x : Tree). x ∷ drop (i + 1) vs) (sym is))) ∙ before
-
-pub locked_here : (start place i : ℕ) (vs : List Tree) (v : Tree) (locked : Bool) → i < length vs → v ≡ get_or vs i v → locked_from place (drop i vs) ≡ locked_from start vs
-    → locked ≡ v.marks.locked → locked ≡ true → ◌≡◌ {A = Option ℕ} (Some place) (locked_from start vs)
-locked_here start place i vs v locked h is before l yes =
-    sym (ap (λ (b : Bool). if b then Some place else locked_from (place + 1) (drop (i + 1) vs)) (sym l ∙ yes)) ∙ looks_at start place i vs v h is before
-
-pub locked_later : (start place i : ℕ) (vs : List Tree) (v : Tree) (locked : Bool) → i < length vs → v ≡ get_or vs i v → locked_from place (drop i vs) ≡ locked_from start vs
-    → locked ≡ v.marks.locked → locked ≡ false → locked_from (place + 1) (drop (i + 1) vs) ≡ locked_from start vs
-locked_later start place i vs v locked h is before l no =
-    sym (ap (λ (b : Bool). if b then Some place else locked_from (place + 1) (drop (i + 1) vs)) (sym l ∙ no)) ∙ looks_at start place i vs v h is before
+use Rattle.rhd_session.specs.Causes.{args_by_value, place_by_value, IsFirstLocked}
 
 -- where the search ends with none, no value is locked
 not_head : (start : ℕ) (v u : Tree) (rest : Option ℕ) (b : Bool) → v.marks.locked ≡ b → (if b then Some start else rest) ≡ None → ◌≡◌ {A = Option Tree} (Some v) (Some u) → u.marks.locked ≡ true → ⊥
@@ -48,8 +32,8 @@ record Found (start : ℕ) (vs : List Tree) (n : ℕ) : Type 0 where
 
 before : (v : Tree) (vs : List Tree) (k : ℕ) → v.marks.locked ≡ false → ((j : ℕ) (u : Tree) → j < k → slice_get vs j ≡ Some u → u.marks.locked ≡ true → ⊥)
     → (j : ℕ) (u : Tree) → j < suc k → slice_get (v ∷ vs) j ≡ Some u → u.marks.locked ≡ true → ⊥
-before v vs k e none zero u b there yes = let same : v ≡ u = cc in let q : false ≡ true = sym e ∙ ap (λ (t : Tree). t.marks.locked) same ∙ yes in absurd cc
-before v vs k e none (suc j) u b there yes = none j u (omega arith) there yes
+before v vs k e none zero u b there locked = let same : v ≡ u = cc in let q : false ≡ true = sym e ∙ ap (λ (t : Tree). t.marks.locked) same ∙ locked in absurd cc
+before v vs k e none (suc j) u b there locked = none j u (omega arith) there locked
 
 one_on : (start : ℕ) (v : Tree) (vs : List Tree) (n : ℕ) → v.marks.locked ≡ false → Found (start + 1) vs n → Found start (v ∷ vs) n
 one_on start v vs n e r = record { k = suc r.k; value = r.value; place = omega (arith, r.place); stands = r.stands; locked = r.locked; none_before = before v vs r.k e r.none_before }
@@ -59,7 +43,7 @@ found_by start [] n h = absurd cc
 found_by start (v ∷ vs) n h =
     let by : (b : Bool) → v.marks.locked ≡ b → (if b then Some start else locked_from (start + 1) vs) ≡ Some n → Found start (v ∷ vs) n =
     elim [
-      | true ↦ (λ e r. let same : start ≡ n = cc in record { k = 0; value = v; place = omega (arith, same); stands = refl; locked = e; none_before = λ j u b there yes. absurd (omega arith) })
+      | true ↦ (λ e r. let same : start ≡ n = cc in record { k = 0; value = v; place = omega (arith, same); stands = refl; locked = e; none_before = λ j u b there locked. absurd (omega arith) })
       | false ↦ (λ e r. one_on start v vs n e (found_by (start + 1) vs n r))
     ] in
     by v.marks.locked refl h
@@ -75,9 +59,10 @@ place_searched (Method object args) = refl
 
 pub place_first : (shape : CallShape) (n : ℕ) → locked_place shape ≡ Some n → IsFirstLocked shape n
 place_first shape n h =
-    let r = found_by (place_by_value shape) (args_by_value shape) n (sym (place_searched shape) ∙ h) in
-    (record { at = r.k; argument = r.value; place = r.place; stands = r.stands; locked = r.locked },
-    λ m b l. r.none_before l.at l.argument (omega (arith, r.place, l.place)) l.stands l.locked)
+    let r = found_by (place_by_value shape) (args_by_value shape) n (sym (place_searched shape) ∙ h) in (
+      record { at = r.k; argument = r.value; place = r.place; stands = r.stands; locked = r.locked },
+      λ m b l. r.none_before l.at l.argument (omega (arith, r.place, l.place)) l.stands l.locked,
+    )
 
 the_same : (m n : ℕ) → (m < n → ⊥) → (n < m → ⊥) → m ≡ n
 the_same m n p q = omega (arith, p, q)

@@ -1,5 +1,5 @@
 -- Why a call ends with a fault of its own, said without a search.
-use Rattle.std.specs.Prelude.{◌≡◌, ℕ, ◌+◌, ◌<◌, ◌≤◌, true, false, List, slice_get, Option, None, Some, codes}
+use Rattle.std.specs.Prelude.{◌≡◌, ℕ, ◌+◌, ◌<◌, ◌≤◌, true, false, List, slice_get, Option, None, Some, Err, codes}
 use Rattle.rhd_value.specs.Tree.{Bytes, Tree}
 use Rattle.rhd_value.specs.Kinds.{tag_of, type_name}
 use Rattle.rhd_value.specs.Sums.{sizes_of}
@@ -17,7 +17,9 @@ use Rattle.rhd_func.specs.Funcs.{is_script}
 use Rattle.rhd_func.specs.Shapes.{pos_of}
 use Rattle.rhd_session.specs.Engine.{Frame}
 use Rattle.rhd_session.specs.World.{World, Objects, Moment}
+use Rattle.rhd_session.specs.declared.ends.End.{End}
 use Rattle.rhd_session.specs.declared.limits.Limits.{Limits}
+use Rattle.rhd_session.specs.declared.node.Whose.TheVariants.{Call}
 use Rattle.rhd_session.specs.declared.pick.Pick.{Pick}
 use Rattle.rhd_session.specs.Display.{display}
 use Rattle.rhd_session.specs.Plans.{Plan, plan_of}
@@ -27,6 +29,10 @@ use Rattle.rhd_session.specs.Entered.{context}
 use Rattle.rhd_session.specs.Seen.{Seen}
 use Rattle.rhd_session.specs.Steps.{Starts}
 use Rattle.rhd_session.specs.Runs.{Steps, received_by}
+
+-- a call ends so with a fault of its own
+abbrev pub IsOwn : End → EvalAltResult → Type 0
+IsOwn end fault = (end.whose ≡ Call) × (end.answer ≡ Err fault)
 
 -- the arguments that are given by value, and the place of the first of them among all, from 1
 abbrev pub args_by_value : CallShape → List Tree
@@ -116,8 +122,17 @@ pub record RefusesSize {B : Type 0} (o : Objects B) (w : World) (f : Frame) (nod
   pub says : fault ≡ ErrorDataTooLarge what (pos_of node.call)
   pub refused : node.end.refused ≡ Some value
 
+-- The node's call refuses this value, for its kind or for a size.
+pub data RefusesValue {B : Type 0} (o : Objects B) (w : World) (f : Frame) (node : Seen) (value : Tree) : Type 0 where
+  for_kind : {fault : EvalAltResult} (r : RefusesKind o w f node fault) → r.value ≡ value → RefusesValue o w f node value
+  for_size : {fault : EvalAltResult} (r : RefusesSize o w f node fault) → r.value ≡ value → RefusesValue o w f node value
+
 -- what a function gave back of its first argument
 abbrev pub gave_back : NativeStep → Option Tree
 gave_back (Done v back) = back
 gave_back (Failed fault back) = back
 gave_back (Ask request carry) = None
+
+-- The node shows what its function gave back with its last step.
+abbrev pub GivesBack : {B : Type 0} → Objects B → World → Frame → Seen → Pick → Type 0
+GivesBack o w f node pick = (last : NativeStep) × EndsWith o w f node pick last × (node.end.first_after ≡ gave_back last)

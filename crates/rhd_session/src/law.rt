@@ -1,9 +1,14 @@
 //! Laws of calls.
 
-ghost use Rattle.std.specs.Prelude.{◌≡◌, ◌↔◌, ◌+◌, ◌<◌, ◌≤◌, ℕ, Bool, true, false, if◌then◌else◌, [], length, Option, Some, None, Err};
+ghost use Rattle.std.specs.Prelude.{◌≡◌, ◌↔◌, ◌+◌, ◌<◌, ◌≤◌, ℕ, Bool, true, false, if◌then◌else◌, List, [], length, Option, Some, None, Err};
 ghost use Rattle.std.specs.List.{Contains, sum_by};
-ghost use Rattle.rhd_value.specs.declared.fault.EvalAltResult.TheVariants.{ErrorTooManyOperations, ErrorStackOverflow};
+ghost use Rattle.rhd_value.specs.declared.fault.EvalAltResult.TheVariants.{ErrorDataRace, ErrorMismatchOutputType, ErrorTooManyOperations, ErrorStackOverflow, ErrorDataTooLarge};
+ghost use Rattle.rhd_value.specs.declared.tag.Position.{Position};
+ghost use Rattle.rhd_value.specs.Tree.{Bytes, Tree};
 ghost use Rattle.rhd_func.specs.declared.request.CallRequest.{CallRequest};
+ghost use Rattle.rhd_func.specs.declared.request.CallShape.{CallShape};
+ghost use Rattle.rhd_func.specs.declared.request.CallShape.TheVariants.{ByRef, Method};
+ghost use Rattle.rhd_func.specs.Funcs.{is_method, is_script};
 ghost use Rattle.rhd_func.specs.Shapes.{given, pos_of};
 ghost use Rattle.rhd_module.specs.declared.key.Key.{Key};
 ghost use Rattle.rhd_session.specs.declared.node.CallNode.{CallNode};
@@ -14,7 +19,8 @@ ghost use Rattle.rhd_session.specs.Searched.{found};
 ghost use Rattle.rhd_session.specs.Plans.{Plan, plan_of};
 ghost use Rattle.rhd_session.specs.declared.ends.End.{End};
 ghost use Rattle.rhd_session.specs.Ends.{failed};
-ghost use Rattle.rhd_session.specs.Decisions.{ends, runs, refusal, decision};
+ghost use Rattle.rhd_session.specs.Decisions.{ends, runs, locked_place, locked_text, refusal, decision};
+ghost use Rattle.rhd_session.specs.Causes.{IsOwn, IsFirstLocked, NamesLocked, RefusesKind, RefusesSize, RefusesValue, GivesBack};
 ghost use Rattle.rhd_session.specs.FirstAsks.{IsAnsweredFirst, EndsAlone, IsOfFirstPlace};
 ghost use Rattle.rhd_session.specs.World.{Moment};
 ghost use Rattle.rhd_session.specs.Objects.{objects_of};
@@ -91,4 +97,32 @@ pub fn the_level_of_a_call_is_limited<B: Bodies>(session: &Session)
     ensures ends { (f : Frame) (level : ℕ) (call : CallRequest) (node : CallNode) (before after : Moment B) (cut : Bool) → Runs (objects_of allows_call allows_resume B.allows_start B.allows_next (natives_of session.now)) (world_of info session.now) f level call node before after cut → (seen node).begun ≡ true → ((seen node).end ≡ failed (given call) (ErrorStackOverflow (pos_of call))) ↔ ((world_of info session.now).engine.limits.level < level) }
     ensures shown { (f : Frame) (level : ℕ) (call : CallRequest) (node : CallNode) (before after : Moment B) (cut : Bool) → Runs (objects_of allows_call allows_resume B.allows_start B.allows_next (natives_of session.now)) (world_of info session.now) f level call node before after cut → (seen node).begun ≡ true → (world_of info session.now).engine.limits.level < level → seen node ≡ begun_node call level None [] [] (failed (given call) (ErrorStackOverflow (pos_of call))) }
     ensures within { (f : Frame) (call : CallRequest) (root node : CallNode) (before after : Moment B) (cut : Bool) → Runs (objects_of allows_call allows_resume B.allows_start B.allows_next (natives_of session.now)) (world_of info session.now) f 1 call root before after cut → InTree node root → (seen node).level ≤ (world_of info session.now).engine.limits.level + 1 }
+{}
+
+/// A call whose level is within the limit ends with a data race of its own exactly where an argument
+/// that is given by value is locked. The fault names the first such place, and nothing runs.
+pub fn a_locked_argument_ends_the_call<B: Bodies>(session: &Session)
+    ensures place { (shape : CallShape) (n : ℕ) → (locked_place shape ≡ Some n) ↔ IsFirstLocked shape n }
+    ensures ends { (f : Frame) (level : ℕ) (call : CallRequest) (node : CallNode) (before after : Moment B) (cut : Bool) (text : Bytes) (pos : Position) → Runs (objects_of allows_call allows_resume B.allows_start B.allows_next (natives_of session.now)) (world_of info session.now) f level call node before after cut → (seen node).begun ≡ true → IsOwn (seen node).end (ErrorDataRace text pos) ↔ ((level ≤ (world_of info session.now).engine.limits.level) × NamesLocked call (ErrorDataRace text pos)) }
+    ensures shown { (f : Frame) (level : ℕ) (call : CallRequest) (node : CallNode) (before after : Moment B) (cut : Bool) (n : ℕ) → Runs (objects_of allows_call allows_resume B.allows_start B.allows_next (natives_of session.now)) (world_of info session.now) f level call node before after cut → (seen node).begun ≡ true → level ≤ (world_of info session.now).engine.limits.level → IsFirstLocked (plan_of call).shape n → seen node ≡ begun_node call level None [] [] (failed (given call) (ErrorDataRace (locked_text (plan_of call).name n) (pos_of call))) }
+{}
+
+/// A call ends with a mismatch of its own exactly where its function ended with a value, no limit
+/// was passed, and the value isn't of the wanted kind; or with a size of its own exactly where a
+/// limit was passed, by the value or by the first argument that a native had. The node shows the
+/// value, and a node shows a refused value in these two cases alone.
+pub fn a_value_is_refused_for_its_kind_or_size<B: Bodies>(session: &Session)
+    ensures kind { (f : Frame) (level : ℕ) (call : CallRequest) (node : CallNode) (before after : Moment B) (cut : Bool) (wanted got : Bytes) (pos : Position) → Runs (objects_of allows_call allows_resume B.allows_start B.allows_next (natives_of session.now)) (world_of info session.now) f level call node before after cut → IsOwn (seen node).end (ErrorMismatchOutputType wanted got pos) ↔ RefusesKind (objects_of allows_call allows_resume B.allows_start B.allows_next (natives_of session.now)) (world_of info session.now) f (seen node) (ErrorMismatchOutputType wanted got pos) }
+    ensures size { (f : Frame) (level : ℕ) (call : CallRequest) (node : CallNode) (before after : Moment B) (cut : Bool) (what : Bytes) (pos : Position) → Runs (objects_of allows_call allows_resume B.allows_start B.allows_next (natives_of session.now)) (world_of info session.now) f level call node before after cut → IsOwn (seen node).end (ErrorDataTooLarge what pos) ↔ RefusesSize (objects_of allows_call allows_resume B.allows_start B.allows_next (natives_of session.now)) (world_of info session.now) f (seen node) (ErrorDataTooLarge what pos) }
+    ensures refused { (f : Frame) (level : ℕ) (call : CallRequest) (node : CallNode) (before after : Moment B) (cut : Bool) (value : Tree) → Runs (objects_of allows_call allows_resume B.allows_start B.allows_next (natives_of session.now)) (world_of info session.now) f level call node before after cut → ((seen node).end.refused ≡ Some value) ↔ RefusesValue (objects_of allows_call allows_resume B.allows_start B.allows_next (natives_of session.now)) (world_of info session.now) f (seen node) value }
+{}
+
+/// The first argument by reference, or the object, as a call shows it in the end: as it was given
+/// where nothing ran, or where the function got a copy of it; else as its function gave it back.
+pub fn a_call_shows_its_first_argument<B: Bodies>(session: &Session)
+    ensures alone { (f : Frame) (level : ℕ) (call : CallRequest) (node : CallNode) (before after : Moment B) (cut : Bool) → Runs (objects_of allows_call allows_resume B.allows_start B.allows_next (natives_of session.now)) (world_of info session.now) f level call node before after cut → (seen node).pick ≡ None → (seen node).end.first_after ≡ given call }
+    ensures by_value { (f : Frame) (level : ℕ) (call : CallRequest) (node : CallNode) (before after : Moment B) (pick : Pick) → Runs (objects_of allows_call allows_resume B.allows_start B.allows_next (natives_of session.now)) (world_of info session.now) f level call node before after false → (seen node).pick ≡ Some pick → is_script pick.func ≡ false → is_method pick.func ≡ false → (seen node).end.first_after ≡ given call }
+    ensures script { (f : Frame) (level : ℕ) (call : CallRequest) (node : CallNode) (before after : Moment B) (pick : Pick) (first : Tree) (args : List Tree) → Runs (objects_of allows_call allows_resume B.allows_start B.allows_next (natives_of session.now)) (world_of info session.now) f level call node before after false → (seen node).pick ≡ Some pick → is_script pick.func ≡ true → (plan_of call).shape ≡ ByRef first args → (seen node).end.first_after ≡ Some first }
+    ensures method { (f : Frame) (level : ℕ) (call : CallRequest) (node : CallNode) (before after : Moment B) (pick : Pick) (first : Tree) → Runs (objects_of allows_call allows_resume B.allows_start B.allows_next (natives_of session.now)) (world_of info session.now) f level call node before after false → (seen node).pick ≡ Some pick → is_method pick.func ≡ true → given call ≡ Some first → GivesBack (objects_of allows_call allows_resume B.allows_start B.allows_next (natives_of session.now)) (world_of info session.now) f (seen node) pick }
+    ensures object { (f : Frame) (level : ℕ) (call : CallRequest) (node : CallNode) (before after : Moment B) (pick : Pick) (object : Tree) (args : List Tree) → Runs (objects_of allows_call allows_resume B.allows_start B.allows_next (natives_of session.now)) (world_of info session.now) f level call node before after false → (seen node).pick ≡ Some pick → is_script pick.func ≡ true → (plan_of call).shape ≡ Method object args → GivesBack (objects_of allows_call allows_resume B.allows_start B.allows_next (natives_of session.now)) (world_of info session.now) f (seen node) pick }
 {}

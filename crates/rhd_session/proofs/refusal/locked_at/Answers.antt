@@ -1,4 +1,4 @@
-use Rattle.std.proofs.Common.{ap, ◌∙◌, ◌≡◌, List, ℕ, append_assoc}
+use Rattle.std.proofs.Common.{ap, ◌∙◌, List, ℕ, append_assoc}
 use Rattle.rhd_value.specs.declared.fault.EvalAltResult.TheVariants.{ErrorDataRace}
 use Rattle.rhd_session.proofs.refusal.locked_at.Goals as goal
 

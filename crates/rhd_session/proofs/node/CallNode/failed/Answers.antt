@@ -1,4 +1,4 @@
-use Rattle.std.proofs.Common.{ap, ◌∙◌, [], sym}
+use Rattle.std.proofs.Common.{ap, ◌∙◌, []}
 use Rattle.std.specs.Prelude.{None, Option}
 use Rattle.rhd_value.specs.Tree.{Tree}
 use Rattle.rhd_session.specs.declared.ends.End.{End}

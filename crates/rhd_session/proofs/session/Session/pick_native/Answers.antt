@@ -1,6 +1,5 @@
 use Rattle.std.proofs.Common.{◌∙◌, ap}
 use Rattle.std.proofs.lemmas.Result.{IfOk-weaker}
-use Rattle.rhd_module.specs.declared.key.Key.{Key}
 use Rattle.rhd_session.specs.Of.{world_of, frame_of}
 use Rattle.rhd_session.specs.Searched.{found}
 use Rattle.rhd_session.proofs.session.Session.pick_native.Goals as goal
