@@ -1,9 +1,9 @@
 //! Session texts: what is answered, and which lines are bad.
 
 use super::{holds, run_words, same_bytes};
-use crate::tests::printing::check_value;
 use crate::sink::PlainSink;
 use crate::source::PlainSource;
+use crate::tests::printing::check_value;
 use rhd_func::{CallRequest, CallShape};
 use rhd_text::read_call;
 use rhd_value::{Dynamic, Position, TypeTag, Value};

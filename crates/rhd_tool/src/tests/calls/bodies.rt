@@ -25,12 +25,7 @@ enum Wanted {
 const BAD: Wanted = Wanted::Fault("bad carry");
 
 /// A call of a body in this shape.
-fn call(
-    alloc: Global,
-    name: &str,
-    shape: CallShape,
-    places: &[GivenAt],
-) -> Result<CallPlan, Fail> {
+fn call(alloc: Global, name: &str, shape: CallShape, places: &[GivenAt]) -> Result<CallPlan, Fail> {
     let mut given = Places::new(alloc);
     for place in places {
         given.push(*place)?;
