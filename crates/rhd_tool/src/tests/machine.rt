@@ -57,6 +57,53 @@ const TEXTS: &[(&str, &str)] = &[
         "body\ndo call g 2 3\nret $last\nregister g 7\nmodule\nscript 0 f () 0\nlib 0\ncall f",
         "ok\nmodule 0\nok\nok\nf lib0@0 called = 5\n  g global0#7 called = 5\n",
     ),
+    // By reference, and of methods.
+    (
+        "register f 7\nmethod f 1 2",
+        "ok\nf global0#7 called = 3 & 1\n",
+    ),
+    (
+        "register f 7\nref-native :int f 1 2\nmethod-native :dynamic f 1 2\ncall-native :int f 1 2",
+        "ok\nf global0#7 called = 3 & 1\nf global0#7 called = 3 & 1\nf global0#7 called = 3\n",
+    ),
+    (
+        "register f 8\nref f [1 2]\ncall f [1 2]",
+        "ok\nf global0#8 called = 2 & [1]\nf global0#8 called = 2\n",
+    ),
+    (
+        "register f 15\nmethod f custom(1 4)\nmethod f custom(2 4)",
+        "ok\nf global0#15 called = 4 & custom(1 4)\nf - call ! 1 \"f (custom2)\" & custom(2 4)\n",
+    ),
+    (
+        "body\nret $this\nmodule\nscript 0 m () 0 this i64\nlib 0\nmethod m 5",
+        "module 0\nok\nok\nm lib0@0 called = 5 & 5\n",
+    ),
+    (
+        "body\ndo method g $this $0\nret $last\nregister g 7\nmodule\nscript 0 m (x) 0 this \"i64\" private\nlib 0\nmethod m 5 3",
+        "ok\nmodule 0\nok\nok\nm lib0@0 called = 8 & 5\n  g global0#7 called = 8 & 5\n",
+    ),
+    // Answers and arguments that are refused.
+    (
+        "register f 1\ncall :text f 1",
+        "ok\nf global0#1 call ! 7 \"string\" \"i64\"\n",
+    ),
+    (
+        "limits 2 65536 1048576 64 10\nregister f 9\ncall f [1 2 3]\nref f [1 2 3]",
+        "ok\nf global0#9 called = 3\nf global0#9 call ! 11 \"Size of array\" & [1 2 3]\n",
+    ),
+    (
+        "register f 1\ncall f ~1\nmethod f 1 ~2",
+        "ok\nf - call ! 6 \"argument #1 of function 'f'\"\nf - call ! 6 \"argument #2 of function 'f'\" & 1\n",
+    ),
+    // Values of every kind.
+    (
+        "call f [[[[[[[[[[[[[[[[[[[[[[[[[[[[[[[[[[[[[[[[[[[[[[[[[[[[[[[[[[[[[[[[]]]]]]]]]]]]]]]]]]]]]]]]]]]]]]]]]]]]]]]]]]]]]]]]]]]]]]]]]]]]]]]]",
+        "f - call ! 1 \"f (array)\"\n",
+    ),
+    (
+        "register f 10\ncall f !%~[() true -0 'a' \"b\" {b 1 a 2}]\ncall f !%[() true -0 'a' \"b\" {b 1 a 2}]\ncall f [fn(g 1) fn*(\"h\" 2) fn#(k 3 %[]) custom(4 -5)]",
+        "ok\nf - call ! 6 \"argument #1 of function 'f'\"\nf global0#10 called = !%[() true 0 'a' \"b\" {\"a\" 2 \"b\" 1}]\nf global0#10 called = [fn(\"g\" 1) fn*(\"h\" 2) fn#(\"k\" 3 %[]) custom(4 -5)]\n",
+    ),
 ];
 
 #[test]

@@ -163,6 +163,7 @@ fn node(
         name: text_of(alloc, "f")?,
         native_only: false,
         shape: CallShape::Plain(Values::new(alloc)),
+        want: None,
         pos: Position { line: 1, column: 1 },
     };
     let (pick, whose) = match func {
@@ -185,6 +186,7 @@ fn node(
         answer,
         whose,
         first_after,
+        refused: None,
     })
 }
 
@@ -214,6 +216,7 @@ fn failed(alloc: Global, level: u32, is_deep: bool) -> Result<CallNode, Fail> {
         name: text_of(alloc, "f")?,
         native_only: false,
         shape: CallShape::Plain(Values::new(alloc)),
+        want: None,
         pos: Position::NONE,
     };
     let fault = if is_deep {
@@ -242,6 +245,21 @@ fn tree(alloc: Global) -> Result<CallNode, Fail> {
     with_child(root, failed(alloc, 2, true)?)
 }
 
+/// Puts calls last that end with faults of two texts, or of one.
+fn push_faults(alloc: Global, replies: &mut Replies) -> Result<(), Fail> {
+    let place = Position::NONE;
+    let faults = [
+        EvalAltResult::ErrorDataRace(text_of(alloc, "argument #1 of function 'f'")?, place),
+        EvalAltResult::ErrorMismatchOutputType(text_of(alloc, "a")?, text_of(alloc, "b")?, place),
+        EvalAltResult::ErrorMismatchDataType(text_of(alloc, "c")?, text_of(alloc, "\"")?, place),
+        EvalAltResult::ErrorDataTooLarge(text_of(alloc, "Size of array")?, place),
+    ];
+    for fault in faults {
+        replies.push(Reply::Called(node(alloc, None, Err(fault), None)?))?;
+    }
+    Ok(())
+}
+
 #[test]
 fn replies_are_printed(rt: HostRuntime) -> Result<(), Fail> {
     let alloc = rt.alloc();
@@ -262,11 +280,12 @@ fn replies_are_printed(rt: HostRuntime) -> Result<(), Fail> {
     let failed = EvalAltResult::ErrorRuntime(text_of(alloc, "no \"luck\"")?, place);
     let called = node(alloc, Some(by_value(12)), Err(failed), None)?;
     replies.push(Reply::Called(called))?;
+    push_faults(alloc, &mut replies)?;
     replies.push(Reply::Called(tree(alloc)?))?;
     let mut out = vec![in alloc; b'>']?;
     print_replies(alloc, replies.as_slice(), &mut out)?;
     let want =
-        ">ok\nmodule 3\nrefused 4 7 3\nf - call ! 1 \"f (i64)\"\nf global0#1 called = -5 & %[]\nf global0#12 called ! 15 \"no \\\"luck\\\"\"\nf - call ! 10\n  f - call ! 9\n    f - call ! 9\n  f - call ! 10\n";
+        ">ok\nmodule 3\nrefused 4 7 3\nf - call ! 1 \"f (i64)\"\nf global0#1 called = -5 & %[]\nf global0#12 called ! 15 \"no \\\"luck\\\"\"\nf - call ! 6 \"argument #1 of function 'f'\"\nf - call ! 7 \"a\" \"b\"\nf - call ! 8 \"c\" \"\\\"\"\nf - call ! 11 \"Size of array\"\nf - call ! 10\n  f - call ! 9\n    f - call ! 9\n  f - call ! 10\n";
     same_bytes(&rt, &out, want.as_bytes(), "replies");
     Ok(())
 }

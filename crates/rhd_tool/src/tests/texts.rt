@@ -3,6 +3,10 @@
 use super::{holds, run_words, same_bytes};
 use crate::sink::PlainSink;
 use crate::source::PlainSource;
+use crate::tests::printing::check_value;
+use rhd_func::{CallRequest, CallShape};
+use rhd_text::read_call;
+use rhd_value::{Dynamic, Position, TypeTag, Value};
 use std::alloc::Global;
 use std::process::Abort;
 use std::test::Fail;
@@ -138,12 +142,9 @@ fn the_first_bad_line_is_named(rt: HostRuntime) -> Result<(), Fail> {
         "call f 1-",
         "call f 1x",
         "call f 1.0",
-        "call f 'a'",
-        "call f []",
         "call f(1)",
         "call f 1,2",
         "call f 1;",
-        "call f true",
         "calls f 1",
         "call f 1\r",
         "call\rf 1",
@@ -170,8 +171,6 @@ fn the_first_bad_line_is_named(rt: HostRuntime) -> Result<(), Fail> {
         "call f \"a\"b",
         "call f\"a\"",
         "call f (",
-        "call f [1]",
-        "call f !1",
         "call f $this",
         "call-native",
         "call-native 1",
@@ -182,13 +181,56 @@ fn the_first_bad_line_is_named(rt: HostRuntime) -> Result<(), Fail> {
         "lib 0 0",
         "pop-lib 0",
         "script",
-        "script 0 f (x) 0 this i64",
         "script 0 f x 0",
         "script 0 f (x 0",
         "script 0 f () 0 private private",
         "script 0 f () 0 public",
         "script 0 f (\"x\"\"y\") 0",
         "script 0 f ()",
+        // Values that are none.
+        "call f [[[[[[[[[[[[[[[[[[[[[[[[[[[[[[[[[[[[[[[[[[[[[[[[[[[[[[[[[[[[[[[[[]]]]]]]]]]]]]]]]]]]]]]]]]]]]]]]]]]]]]]]]]]]]]]]]]]]]]]]]]]]]]]]]]",
+        "call f {a 1 \"a\" 2}",
+        "call f {a}",
+        "call f {a 1",
+        "call f ! 1",
+        "call f %!1",
+        "call f !!1",
+        "call f fn (\"g\")",
+        "call f fn(",
+        "call f fn*(\"g\")",
+        "call f custom (1 2)",
+        "call f custom(1)",
+        "call f [9223372036854775808]",
+        "call f [1",
+        "call f [1)",
+        "call f 1]",
+        "call f 'ab'",
+        "call f ''",
+        "call f 'a'b",
+        "call f tru",
+        // Kinds, shapes and types of objects.
+        "call :str f",
+        "call :string f",
+        "call :none f",
+        "call :custom f",
+        "call :custom 1 f",
+        "call :custom4294967296 f",
+        "call : int f",
+        "call :int",
+        "call :int :text f",
+        "call f :int 1",
+        "call \":int\" f",
+        "ref f",
+        "ref :int f",
+        "ref-native f",
+        "method f",
+        "method-native f",
+        "ref f $this",
+        "references f 1",
+        "script 0 f () 0 this",
+        "script 0 f () 0 private this i64",
+        "script 0 f () 0 this i64 i64",
+        "script 0 f () 0 \"this\" i64",
     ];
     for second in seconds {
         let text = format!(in alloc; "call f\n{second}")?;
@@ -206,7 +248,12 @@ fn the_first_bad_line_is_named(rt: HostRuntime) -> Result<(), Fail> {
         (b"body\ndo register f 1\n".as_slice(), 2),
         (b"body\ndo do call f\n".as_slice(), 2),
         (b"body\nret $x\n".as_slice(), 2),
-        (b"body\nret $4294967296\n".as_slice(), 2),
+        (b"body\nret $18446744073709551616\n".as_slice(), 2),
+        (b"body\ndo ref f\n".as_slice(), 2),
+        (b"body\ndo method g\n".as_slice(), 2),
+        (b"body\ndo call f [$this]\n".as_slice(), 2),
+        (b"body\ndo call :str f\n".as_slice(), 2),
+        (b"body\nret $18446744073709551615\nbogus\n".as_slice(), 3),
         (b"body\nret\n".as_slice(), 2),
         (b"body\nret 1 2\n".as_slice(), 2),
         (b"body\nfail\n".as_slice(), 2),
@@ -241,4 +288,45 @@ fn the_first_bad_line_is_named(rt: HostRuntime) -> Result<(), Fail> {
         check_bad(&rt, alloc, text, line)?;
     }
     Ok(())
+}
+
+#[test]
+fn call_lines_are_read_alone(rt: HostRuntime) -> Result<(), Fail> {
+    let alloc = rt.alloc();
+    let none = [
+        b"".as_slice(),
+        b"; x".as_slice(),
+        b"register f 1".as_slice(),
+        b"body".as_slice(),
+        b"do call f".as_slice(),
+        b"call".as_slice(),
+        b"method f".as_slice(),
+        b"call f $this".as_slice(),
+        b"call f\n".as_slice(),
+        b"call f \xff".as_slice(),
+    ];
+    for line in none {
+        holds(&rt, read_call(alloc, line, 1)?.is_none(), "no call line");
+    }
+    let line = b" method-native\t:custom7 f (5 ) 2";
+    holds(&rt, read_call(alloc, line, 3)?.is_none(), "no value");
+    let line = b" method-native\t:custom7 f () 2 ";
+    let Some(request) = read_call(alloc, line, 3)? else {
+        panic!(&rt; "a call line");
+    };
+    let CallRequest::Named {
+        name,
+        native_only,
+        shape,
+        want,
+        pos,
+    } = request;
+    holds(&rt, name.as_str() == "f" && native_only, "a native `f`");
+    holds(&rt, want == Some(TypeTag::Custom(7)), "a wanted kind");
+    holds(&rt, pos == Position { line: 3, column: 1 }, "a place");
+    let CallShape::Method(object, args) = shape else {
+        panic!(&rt; "a method");
+    };
+    check_value(&rt, alloc, &object, "()")?;
+    check_value(&rt, alloc, &Dynamic::from(Value::Array(args)), "[2]")
 }

@@ -8,13 +8,13 @@ use rhd_func::{
     Bodies, BodyId, CallRequest, CallShape, FnAccess, NativeCallContext, NativeStep, ScriptFuncDef,
 };
 use rhd_text::{BodyEnd, BodyPlan, BodyPlans, CallPlan, CallPlans, Given, GivenAt, Places};
-use rhd_value::{Dynamic, EvalAltResult, Position, Texts, Value};
+use rhd_value::{Dynamic, EvalAltResult, Position, Texts, TypeTag, Value};
 use std::alloc::Global;
 use std::process::Abort;
 use std::test::Fail;
 
-/// What a step is to be: an answer, the text of a fault, or the name that is asked with its arguments
-/// and what is kept.
+/// What a step is to be: an answer, the text of a fault, or the name that is asked with its arguments,
+/// before which stands another shape than that of all by value, and what is kept.
 #[derive(Clone, Copy)]
 enum Wanted {
     Answer(&'static str),
@@ -24,8 +24,8 @@ enum Wanted {
 
 const BAD: Wanted = Wanted::Fault("bad carry");
 
-/// A call of a body.
-fn call(alloc: Global, name: &str, values: &[Item], places: &[GivenAt]) -> Result<CallPlan, Fail> {
+/// A call of a body in this shape.
+fn call(alloc: Global, name: &str, shape: CallShape, places: &[GivenAt]) -> Result<CallPlan, Fail> {
     let mut given = Places::new(alloc);
     for place in places {
         given.push(*place)?;
@@ -34,40 +34,45 @@ fn call(alloc: Global, name: &str, values: &[Item], places: &[GivenAt]) -> Resul
         request: CallRequest::Named {
             name: text_of(alloc, name)?,
             native_only: false,
-            shape: CallShape::Plain(listed(alloc, values)?),
+            shape,
+            want: Some(TypeTag::Int),
             pos: Position::NONE,
         },
         places: given,
     })
 }
 
+/// A given value at a place.
+const fn at(place: usize, given: Given) -> GivenAt {
+    GivenAt { place, given }
+}
+
 /// A body that makes two calls and answers what the second answered.
 fn two_calls(alloc: Global) -> Result<BodyPlan, Fail> {
     let mut calls = CallPlans::new(alloc);
-    let second = GivenAt {
-        place: 1,
-        given: Given::Arg(0),
-    };
-    calls.push(call(alloc, "f", &[Item::Int(7), Item::Unit], &[second])?)?;
-    let given = [
-        GivenAt {
-            place: 0,
-            given: Given::This,
-        },
-        GivenAt {
-            place: 1,
-            given: Given::Last,
-        },
-        GivenAt {
-            place: 2,
-            given: Given::Arg(5),
-        },
-    ];
-    calls.push(call(alloc, "g", &[Item::Unit, Item::Unit, Item::Unit], &given)?)?;
+    let shape = CallShape::Plain(listed(alloc, &[Item::Int(7), Item::Unit])?);
+    calls.push(call(alloc, "f", shape, &[at(1, Given::Arg(0))])?)?;
+    let given = [at(0, Given::This), at(1, Given::Last), at(2, Given::Arg(5))];
+    let shape = CallShape::Plain(listed(alloc, &[Item::Unit, Item::Unit, Item::Unit])?);
+    calls.push(call(alloc, "g", shape, &given)?)?;
     Ok(BodyPlan {
         calls,
         end: Some(BodyEnd::RetGiven(Given::Last)),
     })
+}
+
+/// A body that makes a call by reference and a call of a method.
+fn other_shapes(alloc: Global) -> Result<BodyPlan, Fail> {
+    let mut calls = CallPlans::new(alloc);
+    let args = listed(alloc, &[Item::Int(7), Item::Unit])?;
+    let shape = CallShape::ByRef(made(alloc, Item::Unit)?, args);
+    let given = [at(0, Given::Arg(0)), at(2, Given::Arg(1))];
+    calls.push(call(alloc, "r", shape, &given)?)?;
+    let args = listed(alloc, &[Item::Unit])?;
+    let shape = CallShape::Method(made(alloc, Item::Unit)?, args);
+    let given = [at(0, Given::This), at(1, Given::Last)];
+    calls.push(call(alloc, "m", shape, &given)?)?;
+    Ok(BodyPlan { calls, end: None })
 }
 
 /// A body without calls.
@@ -78,13 +83,15 @@ fn no_calls(alloc: Global, end: Option<BodyEnd>) -> BodyPlan {
     }
 }
 
-/// Bodies with two calls, with a text that they fail with, without end, and with a value.
+/// Bodies with two calls, with a text that they fail with, without end, with a value, and with calls in
+/// other shapes.
 fn bodies(alloc: Global) -> Result<PlanBodies, Fail> {
     let mut plans = BodyPlans::new(alloc);
     plans.push(two_calls(alloc)?)?;
     plans.push(no_calls(alloc, Some(BodyEnd::Fail(text_of(alloc, "no")?))))?;
     plans.push(no_calls(alloc, None))?;
     plans.push(no_calls(alloc, Some(BodyEnd::Ret(made(alloc, Item::Int(5))?))))?;
+    plans.push(other_shapes(alloc)?)?;
     Ok(PlanBodies::new(plans))
 }
 
@@ -123,11 +130,25 @@ fn check_request(
         name: found,
         native_only: _,
         shape,
+        want,
         pos,
     } = request;
-    let CallShape::Plain(values) = shape;
     holds(rt, found.as_str() == name, "the name that is asked");
+    holds(rt, want == Some(TypeTag::Int), "the type that is wanted");
     holds(rt, pos == Position::NONE, "no place");
+    let values = match shape {
+        CallShape::Plain(values) => values,
+        CallShape::ByRef(first, mut values) => {
+            values.push_first(first)?;
+            values.push_first(Dynamic::from(Value::Text(text_of(alloc, "by ref")?)))?;
+            values
+        }
+        CallShape::Method(object, mut values) => {
+            values.push_first(object)?;
+            values.push_first(Dynamic::from(Value::Text(text_of(alloc, "method")?)))?;
+            values
+        }
+    };
     check_value(rt, alloc, &Dynamic::from(Value::Array(values)), args)
 }
 
@@ -173,7 +194,8 @@ fn check_first_steps(rt: &impl Abort, alloc: Global, bodies: &mut PlanBodies) ->
         (1, Fault("no")),
         (2, Answer("()")),
         (3, Answer("!5")),
-        (4, Answer("()")),
+        (4, Asks("r", "[\"by ref\" !8 !7 !9]", "[1 !8 !9]")),
+        (5, Answer("()")),
     ];
     for case in CASES {
         let (number, wanted) = *case;
@@ -213,7 +235,14 @@ fn check_next_steps(rt: &impl Abort, alloc: Global, bodies: &mut PlanBodies) -> 
         Next(0, None, FOUR, BAD),
         Next(0, None, None, BAD),
         Next(3, Some(&[Int(1)]), FOUR, BAD),
-        Next(4, Some(&[Int(1)]), FOUR, BAD),
+        Next(
+            4,
+            Some(&[Int(1), Int(8)]),
+            FOUR,
+            Asks("m", "[\"method\" !\"o\" !4]", "[2 !8]"),
+        ),
+        Next(4, Some(&[Int(2), Int(8)]), FOUR, Answer("()")),
+        Next(5, Some(&[Int(1)]), FOUR, BAD),
     ];
     for case in CASES {
         let Next(number, kept, answer, wanted) = *case;

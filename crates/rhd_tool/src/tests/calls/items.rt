@@ -14,13 +14,22 @@ pub enum Item {
     Int(i64),
     Char(char),
     Text(&'static str),
-    Array,
+    Array(&'static [i64]),
     Pointer(&'static str),
     Custom(u32, i64),
 }
 
 /// No values.
 pub const NONE: &[Item] = &[];
+
+/// Integers without marks.
+fn integers(alloc: Global, numbers: &[i64]) -> Result<Values, Fail> {
+    let mut values = Values::new(alloc);
+    for number in numbers {
+        values.push(Dynamic::from(Value::Int(*number)))?;
+    }
+    Ok(values)
+}
 
 /// The value of a case.
 pub fn made(alloc: Global, item: Item) -> Result<Dynamic, Fail> {
@@ -29,7 +38,7 @@ pub fn made(alloc: Global, item: Item) -> Result<Dynamic, Fail> {
         Item::Int(number) => Value::Int(number),
         Item::Char(letter) => Value::Char(letter),
         Item::Text(text) => Value::Text(text_of(alloc, text)?),
-        Item::Array => Value::Array(Values::new(alloc)),
+        Item::Array(numbers) => Value::Array(integers(alloc, numbers)?),
         Item::Pointer(name) => Value::FnPtr(pointer(
             text_of(alloc, name)?,
             Values::new(alloc),

@@ -1,6 +1,6 @@
 //! Requests, keys, modules and sessions.
 
-use crate::kit::{KitFn, kit};
+use crate::kit::KitFn;
 use crate::plan_bodies::PlanBodies;
 use crate::tests::{holds, same_bytes, text_of};
 use rhd_func::{
@@ -25,6 +25,7 @@ fn request(alloc: Global, line: u32) -> Result<CallRequest, OutOfMemory> {
         name: text_of(alloc, "f")?,
         native_only: true,
         shape: CallShape::Plain(args).dup(alloc)?,
+        want: Some(TypeTag::Int),
         pos: Position { line, column: 1 },
     })
 }
@@ -35,9 +36,13 @@ fn check_request(rt: &impl Abort, alloc: Global) -> Result<(), Fail> {
         name,
         native_only,
         shape,
+        want,
         pos,
     } = request(alloc, 3)?.dup(alloc)?;
-    let CallShape::Plain(args) = shape;
+    let CallShape::Plain(args) = shape else {
+        panic!(rt; "all by value");
+    };
+    holds(rt, want == Some(TypeTag::Int), "the type that is wanted");
     holds(rt, name.as_str() == "f", "the name");
     holds(rt, native_only, "only natives");
     holds(rt, pos == Position { line: 3, column: 1 }, "the place");
@@ -203,7 +208,7 @@ fn check_replies(
             _,
             Reply::Refused(DeclFault::UnknownNumber { number, length }),
             ..
-        ] => { *number == 99 && *length == 20 }
+        ] => { *number == 99 && *length == 3 }
         _ => false,
     };
     holds(rt, refused, "a number that isn't held");
@@ -230,12 +235,12 @@ fn check_session(rt: &impl Abort, alloc: Global, natives: Natives) -> Result<(),
     let Ok(replies) = session.run(alloc, commands.as_slice(), &mut bodies) else {
         return Err(AllocError.into());
     };
-    let want = "f - call ! 1 \"f (i64)\"\nrefused 4 99 20\nok\nf global0#1 called = 1\n";
+    let want = "f - call ! 1 \"f (i64)\"\nrefused 4 99 3\nok\nf global0#1 called = 1\n";
     check_replies(rt, alloc, replies.as_slice(), want)?;
     let Ok(replies) = session.run(alloc, commands.as_slice(), &mut bodies) else {
         return Err(AllocError.into());
     };
-    let want = "f global0#1 called = 1\nrefused 4 99 20\nok\nf global0#1 called = 1\n";
+    let want = "f global0#1 called = 1\nrefused 4 99 3\nok\nf global0#1 called = 1\n";
     check_replies(rt, alloc, replies.as_slice(), want)
 }
 
@@ -247,7 +252,12 @@ fn modules_and_sessions_answer(rt: HostRuntime) -> Result<(), Fail> {
     check_module(&rt, alloc)?;
     check_shared(&rt, alloc)?;
     let mut natives = Natives::new(alloc);
-    kit!(alloc, natives, return Err(AllocError.into()));
+    for number in 0..3 {
+        let native: Box<dyn PluginFunc> = Box::new(alloc, KitFn::new(number))?;
+        let Ok(_) = natives.push(alloc, native) else {
+            return Err(AllocError.into());
+        };
+    }
     check_third(&rt, alloc, &natives)?;
     check_session(&rt, alloc, natives)
 }

@@ -1,6 +1,6 @@
 //! Natives and their table.
 
-use crate::kit::{KitFn, kit};
+use crate::kit::KitFn;
 use crate::tests::calls::items::{Item, NONE, carry, done, given, listed, made};
 use crate::tests::printing::check_value;
 use crate::tests::{holds, text_of};
@@ -10,11 +10,13 @@ use std::alloc::{AllocError, Global};
 use std::process::Abort;
 use std::test::Fail;
 
-/// What a step is to be: an answer, the text of a fault, or the name that is asked and what is kept.
+/// What a step is to be: an answer, the text of a fault, the type that is wanted and the type that an
+/// argument is of, or the name that is asked and what is kept.
 #[derive(Clone, Copy)]
 enum Wanted {
     Answer(&'static str),
     Fault(&'static str),
+    Types(&'static str, &'static str),
     Asks(&'static str, &'static str),
 }
 
@@ -51,13 +53,33 @@ fn check_request(rt: &impl Abort, request: CallRequest, wanted: &str, pos: Posit
         name,
         native_only,
         shape,
+        want,
         pos: found,
     } = request;
-    let CallShape::Plain(args) = shape;
+    let CallShape::Plain(args) = shape else {
+        panic!(rt; "all by value");
+    };
+    holds(rt, want.is_none(), "an answer of any type");
     holds(rt, name.as_str() == wanted, "the name that is asked");
     holds(rt, !native_only, "scripts are allowed");
     holds(rt, args.len() == 0, "no arguments");
     holds(rt, found == pos, "the place");
+}
+
+/// Compares a fault and its place.
+fn check_fault(rt: &impl Abort, fault: EvalAltResult, wanted: Wanted) {
+    match (fault, wanted) {
+        (EvalAltResult::ErrorRuntime(found, pos), Wanted::Fault(text)) => {
+            holds(rt, found.as_str() == text, text);
+            holds(rt, pos == Position::NONE, "no place");
+        }
+        (EvalAltResult::ErrorMismatchDataType(tag, got, pos), Wanted::Types(wanted, found)) => {
+            holds(rt, tag.as_str() == wanted, wanted);
+            holds(rt, got.as_str() == found, found);
+            holds(rt, pos == Position::NONE, "no place");
+        }
+        _ => panic!(rt; "another fault"),
+    }
 }
 
 /// Compares a step and the first argument that it gives back; for none, `first` is empty.
@@ -73,12 +95,8 @@ fn check_step(
             check_value(rt, alloc, &answer, value)?;
             first
         }
-        (NativeStep::Failed { fault, first }, Wanted::Fault(text)) => {
-            let EvalAltResult::ErrorRuntime(found, pos) = fault else {
-                panic!(rt; "another fault");
-            };
-            holds(rt, found.as_str() == text, text);
-            holds(rt, pos == Position::NONE, "no place");
+        (NativeStep::Failed { fault, first }, wanted) => {
+            check_fault(rt, fault, wanted);
             first
         }
         (NativeStep::Ask { request, carry }, Wanted::Asks(name, kept)) => {
@@ -103,7 +121,7 @@ struct First(u32, Option<Item>, &'static [Item], Wanted, &'static str);
 /// Calls each native of the kit on arguments that fit, and some on others.
 fn check_first_steps(rt: &impl Abort, alloc: Global) -> Result<(), Fail> {
     use Item::{Array, Char, Custom, Int, Pointer, Text, Unit};
-    use Wanted::{Answer, Asks, Fault};
+    use Wanted::{Answer, Asks, Fault, Types};
     const CASES: &[First] = &[
         First(0, None, NONE, Answer("0"), ""),
         First(0, None, &[Int(8)], COUNT, ""),
@@ -111,20 +129,20 @@ fn check_first_steps(rt: &impl Abort, alloc: Global) -> Result<(), Fail> {
         First(1, None, &[Int(8)], Answer("1"), ""),
         First(1, None, &[], COUNT, ""),
         First(1, None, &[Unit, Unit], COUNT, ""),
-        First(1, None, &[Unit], UNBUILT, ""),
+        First(1, None, &[Unit], Types("i64", "()"), ""),
         First(1, Some(Int(5)), &[], Answer("1"), "!5"),
-        First(1, Some(Unit), &[], UNBUILT, "!()"),
+        First(1, Some(Unit), &[], Types("i64", "()"), "!()"),
         First(1, Some(Int(5)), &[Int(8)], COUNT, "!5"),
         First(2, None, &[Int(8)], Answer("2"), ""),
-        First(2, Some(Char('a')), &[], UNBUILT, "!'a'"),
-        First(3, None, &[Array], Answer("3"), ""),
+        First(2, Some(Char('a')), &[], Types("i64", "char"), "!'a'"),
+        First(3, None, &[Array(&[])], Answer("3"), ""),
         First(4, None, &[Unit, Char('a')], Answer("4"), ""),
-        First(4, None, &[Char('a'), Unit], UNBUILT, ""),
+        First(4, None, &[Char('a'), Unit], Types("char", "()"), ""),
         First(5, Some(Int(7)), &[Text("x")], Answer("5"), "!7"),
-        First(5, Some(Unit), &[Int(7)], UNBUILT, "!()"),
+        First(5, Some(Unit), &[Int(7)], Types("i64", "()"), "!()"),
         First(6, None, &[Text("")], Answer("0"), ""),
         First(6, None, &[Text("a\u{e9}")], Answer("3"), ""),
-        First(6, None, &[Unit], UNBUILT, ""),
+        First(6, None, &[Unit], Types("string", "()"), ""),
         First(7, Some(Int(2)), &[Int(-5)], Answer("-3"), "!2"),
         First(
             7,
@@ -133,15 +151,22 @@ fn check_first_steps(rt: &impl Abort, alloc: Global) -> Result<(), Fail> {
             Answer("-9223372036854775807"),
             "",
         ),
-        First(8, Some(Array), &[], UNBUILT, "![]"),
-        First(9, None, &[Array], UNBUILT, ""),
+        First(7, None, &[Text("x"), Unit], Types("i64", "string"), ""),
+        First(7, Some(Int(1)), &[Unit], Types("i64", "()"), "!1"),
+        First(8, Some(Array(&[1, 2, 3])), &[], Answer("3"), "![1 2]"),
+        First(8, Some(Array(&[])), &[], Answer("()"), "![]"),
+        First(8, None, &[Array(&[4])], Answer("4"), ""),
+        First(8, Some(Int(1)), &[], Types("array", "i64"), "!1"),
+        First(9, None, &[Array(&[1, 2, 3])], Answer("3"), ""),
+        First(9, Some(Array(&[])), &[], Answer("0"), "![]"),
+        First(9, None, &[Text("x")], Types("array", "string"), ""),
         First(10, None, &[Text("x")], Answer("!\"x\""), ""),
         First(10, Some(Int(3)), &[], Answer("!3"), "!3"),
         First(11, None, &[Text("no")], Fault("no"), ""),
         First(11, Some(Text("no")), &[], Fault("no"), "!\"no\""),
         First(12, None, &[Text("f")], Asks("f", "()"), ""),
         First(12, Some(Text("f")), &[], Asks("f", "()"), "!\"f\""),
-        First(12, None, &[Int(1)], UNBUILT, ""),
+        First(12, None, &[Int(1)], Types("string", "i64"), ""),
         First(13, None, &[Text("f"), Int(3)], Asks("f", "[!\"f\" 2]"), ""),
         First(
             13,
@@ -155,11 +180,20 @@ fn check_first_steps(rt: &impl Abort, alloc: Global) -> Result<(), Fail> {
         First(13, None, &[Text("f")], COUNT, ""),
         First(14, None, MANY, Answer("14"), ""),
         First(14, None, &[Int(1), Unit], COUNT, ""),
-        First(15, Some(Custom(1, 4)), &[], UNBUILT, "!custom(1 4)"),
+        First(15, Some(Custom(1, 4)), &[], Answer("4"), "!custom(1 4)"),
+        First(15, None, &[Custom(1, -4)], Answer("-4"), ""),
+        First(
+            15,
+            Some(Custom(2, 4)),
+            &[],
+            Types("custom1", "custom2"),
+            "!custom(2 4)",
+        ),
         First(16, None, &[Pointer("f")], UNBUILT, ""),
+        First(16, None, &[], UNBUILT, ""),
         First(17, Some(Unit), &[Unit], Answer("17"), "!()"),
         First(18, Some(Text("x")), &[], Answer("18"), "!\"x\""),
-        First(18, None, &[Char('x')], UNBUILT, ""),
+        First(18, None, &[Char('x')], Types("string", "char"), ""),
         First(19, Some(Int(2)), &[Int(3)], Answer("()"), "!5"),
         First(
             19,
@@ -278,20 +312,20 @@ fn check_places(rt: &impl Abort, alloc: Global) -> Result<(), Fail> {
 
 /// Calls natives of a table by their numbers.
 fn check_table(rt: &impl Abort, alloc: Global, natives: &Natives) -> Result<(), Fail> {
-    holds(rt, natives.get(FnId(21)).is_some(), "a native");
-    holds(rt, natives.get(FnId(22)).is_none(), "no native");
-    if natives.len() != 22 {
-        panic!(rt; "twenty-two natives");
+    holds(rt, natives.get(FnId(2)).is_some(), "a native");
+    holds(rt, natives.get(FnId(3)).is_none(), "no native");
+    if natives.len() != 3 {
+        panic!(rt; "three natives");
     }
     let args = listed(alloc, &[Item::Int(8)])?;
     let step = natives.start(alloc, FnId(0), None, None, args)?;
     check_step(rt, alloc, step, Wanted::Answer("2"), "")?;
     let first = Some(made(alloc, Item::Int(5))?);
-    let step = natives.start(alloc, FnId(21), None, first, Values::new(alloc))?;
+    let step = natives.start(alloc, FnId(2), None, first, Values::new(alloc))?;
     check_step(rt, alloc, step, Wanted::Answer("1"), "!5")?;
     let carry = carry(alloc, None, None)?;
     let done = done(alloc, Some(Item::Int(4)))?;
-    let step = natives.resume(alloc, FnId(13), None, carry, done)?;
+    let step = natives.resume(alloc, FnId(1), None, carry, done)?;
     check_step(rt, alloc, step, Wanted::Answer("!4"), "")
 }
 
@@ -312,11 +346,15 @@ fn natives_are_held_and_called(rt: HostRuntime) -> Result<(), Fail> {
         return Err(AllocError.into());
     };
     holds(&rt, first == FnId(0), "the first number");
-    kit!(alloc, natives, return Err(AllocError.into()));
+    let native: Box<dyn PluginFunc> = Box::new(alloc, KitFn::new(12))?;
+    let Ok(second) = natives.push(alloc, native) else {
+        return Err(AllocError.into());
+    };
+    holds(&rt, second == FnId(1), "the second number");
     let native: Box<dyn PluginFunc> = Box::new(alloc, KitFn::new(1))?;
     let Ok(last) = natives.push(alloc, native) else {
         return Err(AllocError.into());
     };
-    holds(&rt, last == FnId(21), "the last number");
+    holds(&rt, last == FnId(2), "the last number");
     check_table(&rt, alloc, &natives)
 }
