@@ -103,22 +103,23 @@ impl PluginFunc for KitFn {
     }
 }
 
-/// Puts the kit's natives into a table, in the order of their numbers. Where memory ran out, goes on
-/// with the expression `$give_up`, which is to leave the function.
+/// How many natives the kit has.
+pub(crate) const KIT_LEN: usize = 20;
+
+/// Puts the kit's natives into an empty table, in the order of their numbers. Where memory ran out,
+/// goes on with the expression `$give_up`, which is to leave the function.
 macro_rules! kit {
     ($alloc:expr, $natives:ident, $give_up:expr) => {
-        kit!(@numbers $alloc, $natives, $give_up; 0 1 2 3 4 5 6 7 8 9 10 11 12 13 14 15 16 17 18 19)
-    };
-    (@numbers $alloc:expr, $natives:ident, $give_up:expr; $($number:literal)*) => {
-        $(
-            let Ok(made) = Box::new($alloc, KitFn::new($number)) else {
+        while $natives.len() < KIT_LEN {
+            let number = $natives.len() as u32;
+            let Ok(made) = Box::new($alloc, KitFn::new(number)) else {
                 $give_up
             };
             let native: Box<dyn PluginFunc> = made;
             let Ok(_) = $natives.push($alloc, native) else {
                 $give_up
             };
-        )*
+        }
     };
 }
 

@@ -12,7 +12,7 @@ mod tool;
 mod values;
 mod writing;
 
-use crate::kit::{KitFn, kit};
+use crate::kit::{KIT_LEN, KitFn, kit};
 use crate::sink::Writing;
 use crate::source::Reading;
 use crate::tool::run_tool;

@@ -6,7 +6,7 @@ mod printing;
 mod runs;
 mod texts;
 
-use crate::kit::{KitFn, kit};
+use crate::kit::{KIT_LEN, KitFn, kit};
 use crate::sink::Sink;
 use crate::source::Source;
 use crate::tool::{ToolEnd, run_tool};
