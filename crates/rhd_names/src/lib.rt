@@ -1,0 +1,11 @@
+//! Names and tokens of the language.
+#![tactic(auto)]
+
+mod names;
+mod token;
+
+pub use names::{
+    is_anonymous_fn, is_reserved_keyword_or_symbol, is_valid_function_name, is_valid_identifier,
+    make_getter, make_setter,
+};
+pub use token::{OpToken, lookup_symbol_from_syntax};
