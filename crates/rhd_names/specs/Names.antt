@@ -18,10 +18,60 @@ unfoldable pub is_identifier : List ℕ → Bool
 is_identifier name = list_all is_name_byte name && list_any is_ascii_alphabetic name && not (list_any is_ascii_digit (take (letters_begin name) name))
 
 abbrev pub reserved_words : List (List ℕ)
-reserved_words = codes "type_of" ∷ codes "is_shared" ∷ codes "is_def_fn" ∷ codes "is_def_var" ∷ codes "print" ∷ codes "debug" ∷ codes "Fn" ∷ codes "eval" ∷ codes "call" ∷ codes "curry" ∷ codes "this" ∷ codes "var" ∷ codes "static" ∷ codes "goto" ∷ codes "exit" ∷ codes "match" ∷ codes "case" ∷ codes "public" ∷ codes "protected" ∷ codes "new" ∷ codes "use" ∷ codes "with" ∷ codes "module" ∷ codes "package" ∷ codes "super" ∷ codes "spawn" ∷ codes "thread" ∷ codes "go" ∷ codes "sync" ∷ codes "async" ∷ codes "await" ∷ codes "yield" ∷ codes "void" ∷ codes "null" ∷ codes "nil" ∷ codes "default" ∷ []
+reserved_words =
+    codes "type_of"
+    ∷ codes "is_shared"
+    ∷ codes "is_def_fn"
+    ∷ codes "is_def_var"
+    ∷ codes "print"
+    ∷ codes "debug"
+    ∷ codes "Fn"
+    ∷ codes "eval"
+    ∷ codes "call"
+    ∷ codes "curry"
+    ∷ codes "this"
+    ∷ codes "var"
+    ∷ codes "static"
+    ∷ codes "goto"
+    ∷ codes "exit"
+    ∷ codes "match"
+    ∷ codes "case"
+    ∷ codes "public"
+    ∷ codes "protected"
+    ∷ codes "new"
+    ∷ codes "use"
+    ∷ codes "with"
+    ∷ codes "module"
+    ∷ codes "package"
+    ∷ codes "super"
+    ∷ codes "spawn"
+    ∷ codes "thread"
+    ∷ codes "go"
+    ∷ codes "sync"
+    ∷ codes "async"
+    ∷ codes "await"
+    ∷ codes "yield"
+    ∷ codes "void"
+    ∷ codes "null"
+    ∷ codes "nil"
+    ∷ codes "default"
+    ∷ []
 
 abbrev pub reserved_symbols : List (List ℕ)
-reserved_symbols = codes "===" ∷ codes "!==" ∷ codes "->" ∷ codes "<-" ∷ codes ":=" ∷ codes "~" ∷ codes "@" ∷ codes "$" ∷ codes "#" ∷ codes "++" ∷ codes "--" ∷ codes "?" ∷ []
+reserved_symbols =
+    codes "==="
+    ∷ codes "!=="
+    ∷ codes "->"
+    ∷ codes "<-"
+    ∷ codes ":="
+    ∷ codes "~"
+    ∷ codes "@"
+    ∷ codes "$"
+    ∷ codes "#"
+    ∷ codes "++"
+    ∷ codes "--"
+    ∷ codes "?"
+    ∷ []
 
 abbrev pub is_one_of : List ℕ → List (List ℕ) → Bool
 is_one_of name names = list_any (bytes_eq name) names

@@ -1,5 +1,5 @@
 -- THE TABLE OF TOKENS: each token with its text, and which of them are assignments.
-use Rattle.std.specs.Prelude.{ℕ, Bool, true, false, List, [], ◌∷◌, ◌++◌, Option, codes, find}
+use Rattle.std.specs.Prelude.{ℕ, Bool, true, false, List, [], ◌∷◌, Option, codes, find}
 use Rattle.std.specs.Str.{bytes_eq}
 use Rattle.rhd_names.specs.declared.token.OpToken.{OpToken}
 use Rattle.rhd_names.specs.declared.token.OpToken.TheVariants as tokens
@@ -80,20 +80,83 @@ token_text tokens.Elvis = codes "?."
 token_text tokens.QuestionBracket = codes "?["
 token_text tokens.DoubleArrow = codes "=>"
 
-abbrev pub keywords : List OpToken
-keywords = tokens.True ∷ tokens.False ∷ tokens.Let ∷ tokens.Const ∷ tokens.If ∷ tokens.Else ∷ tokens.Switch ∷ tokens.Do ∷ tokens.While ∷ tokens.Until ∷ tokens.Loop ∷ tokens.For ∷ tokens.In ∷ tokens.Fn ∷ tokens.Private ∷ tokens.Import ∷ tokens.Export ∷ tokens.As ∷ tokens.Return ∷ tokens.Throw ∷ tokens.Break ∷ tokens.Continue ∷ tokens.Try ∷ tokens.Catch ∷ tokens.Global ∷ []
-
-abbrev pub operators : List OpToken
-operators = tokens.Plus ∷ tokens.Minus ∷ tokens.Multiply ∷ tokens.Divide ∷ tokens.Modulo ∷ tokens.PowerOf ∷ tokens.LeftShift ∷ tokens.RightShift ∷ tokens.Ampersand ∷ tokens.Pipe ∷ tokens.XOr ∷ tokens.EqualsTo ∷ tokens.NotEqualsTo ∷ tokens.LessThan ∷ tokens.LessThanEqualsTo ∷ tokens.GreaterThan ∷ tokens.GreaterThanEqualsTo ∷ tokens.And ∷ tokens.Or ∷ []
-
-abbrev pub assignments : List OpToken
-assignments = tokens.PlusAssign ∷ tokens.MinusAssign ∷ tokens.MultiplyAssign ∷ tokens.DivideAssign ∷ tokens.ModuloAssign ∷ tokens.PowerOfAssign ∷ tokens.LeftShiftAssign ∷ tokens.RightShiftAssign ∷ tokens.AndAssign ∷ tokens.OrAssign ∷ tokens.XOrAssign ∷ []
-
-abbrev pub symbols : List OpToken
-symbols = tokens.Equals ∷ tokens.Bang ∷ tokens.ExclusiveRange ∷ tokens.InclusiveRange ∷ tokens.DoubleQuestion ∷ tokens.LeftParen ∷ tokens.RightParen ∷ tokens.LeftBrace ∷ tokens.RightBrace ∷ tokens.LeftBracket ∷ tokens.RightBracket ∷ tokens.Comma ∷ tokens.SemiColon ∷ tokens.Colon ∷ tokens.DoubleColon ∷ tokens.Period ∷ tokens.Elvis ∷ tokens.QuestionBracket ∷ tokens.DoubleArrow ∷ []
-
 abbrev pub all_tokens : List OpToken
-all_tokens = keywords ++ operators ++ assignments ++ symbols
+all_tokens =
+    tokens.True
+    ∷ tokens.False
+    ∷ tokens.Let
+    ∷ tokens.Const
+    ∷ tokens.If
+    ∷ tokens.Else
+    ∷ tokens.Switch
+    ∷ tokens.Do
+    ∷ tokens.While
+    ∷ tokens.Until
+    ∷ tokens.Loop
+    ∷ tokens.For
+    ∷ tokens.In
+    ∷ tokens.Fn
+    ∷ tokens.Private
+    ∷ tokens.Import
+    ∷ tokens.Export
+    ∷ tokens.As
+    ∷ tokens.Return
+    ∷ tokens.Throw
+    ∷ tokens.Break
+    ∷ tokens.Continue
+    ∷ tokens.Try
+    ∷ tokens.Catch
+    ∷ tokens.Global
+    ∷ tokens.Plus
+    ∷ tokens.Minus
+    ∷ tokens.Multiply
+    ∷ tokens.Divide
+    ∷ tokens.Modulo
+    ∷ tokens.PowerOf
+    ∷ tokens.LeftShift
+    ∷ tokens.RightShift
+    ∷ tokens.Ampersand
+    ∷ tokens.Pipe
+    ∷ tokens.XOr
+    ∷ tokens.EqualsTo
+    ∷ tokens.NotEqualsTo
+    ∷ tokens.LessThan
+    ∷ tokens.LessThanEqualsTo
+    ∷ tokens.GreaterThan
+    ∷ tokens.GreaterThanEqualsTo
+    ∷ tokens.And
+    ∷ tokens.Or
+    ∷ tokens.PlusAssign
+    ∷ tokens.MinusAssign
+    ∷ tokens.MultiplyAssign
+    ∷ tokens.DivideAssign
+    ∷ tokens.ModuloAssign
+    ∷ tokens.PowerOfAssign
+    ∷ tokens.LeftShiftAssign
+    ∷ tokens.RightShiftAssign
+    ∷ tokens.AndAssign
+    ∷ tokens.OrAssign
+    ∷ tokens.XOrAssign
+    ∷ tokens.Equals
+    ∷ tokens.Bang
+    ∷ tokens.ExclusiveRange
+    ∷ tokens.InclusiveRange
+    ∷ tokens.DoubleQuestion
+    ∷ tokens.LeftParen
+    ∷ tokens.RightParen
+    ∷ tokens.LeftBrace
+    ∷ tokens.RightBrace
+    ∷ tokens.LeftBracket
+    ∷ tokens.RightBracket
+    ∷ tokens.Comma
+    ∷ tokens.SemiColon
+    ∷ tokens.Colon
+    ∷ tokens.DoubleColon
+    ∷ tokens.Period
+    ∷ tokens.Elvis
+    ∷ tokens.QuestionBracket
+    ∷ tokens.DoubleArrow
+    ∷ []
 
 -- the token of a text
 unfoldable pub token_of : List ℕ → Option OpToken
