@@ -1,5 +1,5 @@
 -- WHAT A NAME MAY BE, and the tables of what is reserved.
-use Rattle.std.specs.Prelude.{ℕ, Bool, true, false, not, ◌&&◌, ◌||◌, ◌==◌, List, [], ◌∷◌, take, codes, is_none, nat_eq}
+use Rattle.std.specs.Prelude.{ℕ, Bool, not, ◌&&◌, ◌||◌, ◌==◌, List, [], ◌∷◌, take, codes, is_none, nat_eq}
 use Rattle.std.specs.List.{list_any, list_all, prefix_len, starts_with}
 use Rattle.std.specs.Char.{is_ascii_alphabetic, is_ascii_digit, is_ascii_alphanumeric}
 use Rattle.std.specs.Str.{bytes_eq}

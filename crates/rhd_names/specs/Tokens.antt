@@ -1,6 +1,9 @@
 -- THE TABLE OF TOKENS: each token with its text, and which of them are assignments.
-use Rattle.std.specs.Prelude.{ℕ, Bool, true, false, List, [], ◌∷◌, Option, codes, find}
+use Rattle.std.specs.Prelude.{◌≡◌, ℕ, Bool, true, false, List, [], ◌∷◌, Option, codes, find}
 use Rattle.std.specs.Str.{bytes_eq}
+use Rattle.std.specs.Bool.{Decides}
+use denote.Enum.Bare.{sameb, same_true, true_same}
+use Rattle.rhd_names.specs.contracts.token.OpToken.{the_type}
 use Rattle.rhd_names.specs.declared.token.OpToken.{OpToken}
 use Rattle.rhd_names.specs.declared.token.OpToken.TheVariants as tokens
 
@@ -176,3 +179,10 @@ is_assignment tokens.AndAssign = true
 is_assignment tokens.OrAssign = true
 is_assignment tokens.XOrAssign = true
 is_assignment _ = false
+
+-- `==` on tokens, which decides whether they are one
+abbrev pub token_eq : OpToken → OpToken → Bool
+token_eq = sameb the_type
+
+pub token_eq-Decides : (a b : OpToken) → Decides (token_eq a b) (a ≡ b)
+token_eq-Decides a b = (same_true the_type tt a b, true_same the_type a b)

@@ -3,6 +3,8 @@
 
 mod law;
 mod names;
+#[cfg(test)]
+mod tests;
 mod token;
 
 pub use law::{a_token_is_looked_up_by_its_text, no_token_is_reserved};

@@ -1,4 +1,3 @@
-use Rattle.std.proofs.Common.{◌≡◌}
 use Rattle.rhd_names.proofs.EachToken.{found, text_found}
 use Rattle.rhd_names.proofs.law.a_token_is_looked_up_by_its_text.Goals as goal
 

@@ -1,4 +1,3 @@
-use Rattle.std.proofs.Common.{◌≡◌}
 use Rattle.rhd_names.proofs.EachToken.{not_reserved}
 use Rattle.rhd_names.proofs.law.no_token_is_reserved.Goals as goal
 
