@@ -22,16 +22,40 @@ const WRITTEN: &[(&str, &str)] = &[
     ("[1[2 ]~() \"x\"]", "[1 [2] ~() \"x\"]"),
     ("{b 1 \"a b\"{} a[]}", "{\"a\" [] \"a b\" {} \"b\" 1}"),
     ("fn(f)", "fn(\"f\")"),
-    ("!fn*( \"f\" 18446744073709551615 !1)", "!fn*(\"f\" 18446744073709551615 !1)"),
+    (
+        "!fn*( \"f\" 18446744073709551615 !1)",
+        "!fn*(\"f\" 18446744073709551615 !1)",
+    ),
     ("fn#(f 4294967295[])", "fn#(\"f\" 4294967295 [])"),
     ("custom(7 -1)", "custom(7 -1)"),
 ];
 
 /// Bytes that are no value.
 const BAD: &[&str] = &[
-    "", "1 2", "! 1", "!!1", "%!1", "9223372036854775808", "'ab'", "''", "'''", "\"a", "[1", "1]",
-    "{a 1 \"a\" 2}", "{a}", "fn (f)", "fn()", "fn*(f)", "fn#(f 4294967296)", "custom(1)",
-    "custom (1 2)", "custom(1 2 3)", "$this", "a", "[1\"a\"\"b\"]",
+    "",
+    "1 2",
+    "! 1",
+    "!!1",
+    "%!1",
+    "9223372036854775808",
+    "'ab'",
+    "''",
+    "'''",
+    "\"a",
+    "[1",
+    "1]",
+    "{a 1 \"a\" 2}",
+    "{a}",
+    "fn (f)",
+    "fn()",
+    "fn*(f)",
+    "fn#(f 4294967296)",
+    "custom(1)",
+    "custom (1 2)",
+    "custom(1 2 3)",
+    "$this",
+    "a",
+    "[1\"a\"\"b\"]",
 ];
 
 /// Reads and prints values.
@@ -69,23 +93,44 @@ fn check_variant<T: Variant + Drop>(
 
 /// Curries a pointer, and compares what it shows.
 fn check_pointer(rt: &impl Abort, alloc: Global) -> Result<(), Fail> {
-    let mut ptr = pointer(text_of(alloc, "anon$f")?, Values::new(alloc), FnPtrType::Normal);
+    let mut ptr = pointer(
+        text_of(alloc, "anon$f")?,
+        Values::new(alloc),
+        FnPtrType::Normal,
+    );
     holds(rt, ptr.is_anonymous() && !ptr.is_curried(), "a new pointer");
     ptr.add_curry(alloc, Dynamic::from(Value::Int(1)))?;
     let mut more = Values::new(alloc);
     more.push(Dynamic::from(Value::Int(2)))?;
     ptr.extend(alloc, more)?;
-    holds(rt, ptr.is_curried() && ptr.iter_curry().count() == 2, "two values");
+    holds(
+        rt,
+        ptr.is_curried() && ptr.iter_curry().count() == 2,
+        "two values",
+    );
     if let Some(value) = ptr.curry.get_mut(1) {
         *value = Dynamic::from(Value::Bool(true));
     }
     let shown = format!(in alloc; "{ptr} {}", ptr.typ)?;
     same_bytes(rt, shown.as_bytes(), b"Fn(anon$f) Fn", "a pointer's text");
-    let types = format!(in alloc; "{} {}", FnPtrType::Script { num_params: 1 }, FnPtrType::Native(FnId(2)))?;
+    let types = format!(in alloc;
+        "{} {}",
+        FnPtrType::Script { num_params: 1 },
+        FnPtrType::Native(FnId(2))
+    )?;
     same_bytes(rt, types.as_bytes(), b"Fn* Fn#", "the types' texts");
-    check_value(rt, alloc, &ptr.dup(alloc)?.into_dynamic(), "fn(\"anon$f\" 1 true)")?;
+    check_value(
+        rt,
+        alloc,
+        &ptr.dup(alloc)?.into_dynamic(),
+        "fn(\"anon$f\" 1 true)",
+    )?;
     ptr.set_curry(Values::new(alloc));
-    holds(rt, ptr.fn_name().as_str() == "anon$f" && ptr.curry().len() == 0, "no value");
+    holds(
+        rt,
+        ptr.fn_name().as_str() == "anon$f" && ptr.curry().len() == 0,
+        "no value",
+    );
     Ok(())
 }
 
