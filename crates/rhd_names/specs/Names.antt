@@ -76,7 +76,7 @@ reserved_symbols =
 abbrev pub is_one_of : List ℕ → List (List ℕ) → Bool
 is_one_of name names = list_any (bytes_eq name) names
 
--- what is kept for later use
+-- a reserved word or symbol
 unfoldable pub is_reserved : List ℕ → Bool
 is_reserved name = is_one_of name reserved_words || is_one_of name reserved_symbols
 

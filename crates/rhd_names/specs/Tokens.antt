@@ -8,6 +8,7 @@ use Rattle.rhd_names.specs.declared.token.OpToken.{OpToken}
 use Rattle.rhd_names.specs.declared.token.OpToken.TheVariants as tokens
 
 abbrev pub token_text : OpToken → List ℕ
+-- words
 token_text tokens.True = codes "true"
 token_text tokens.False = codes "false"
 token_text tokens.Let = codes "let"
@@ -33,6 +34,7 @@ token_text tokens.Continue = codes "continue"
 token_text tokens.Try = codes "try"
 token_text tokens.Catch = codes "catch"
 token_text tokens.Global = codes "global"
+-- binary operators
 token_text tokens.Plus = codes "+"
 token_text tokens.Minus = codes "-"
 token_text tokens.Multiply = codes "*"
@@ -52,6 +54,7 @@ token_text tokens.GreaterThan = codes ">"
 token_text tokens.GreaterThanEqualsTo = codes ">="
 token_text tokens.And = codes "&&"
 token_text tokens.Or = codes "||"
+-- assignments
 token_text tokens.PlusAssign = codes "+="
 token_text tokens.MinusAssign = codes "-="
 token_text tokens.MultiplyAssign = codes "*="
@@ -63,6 +66,7 @@ token_text tokens.RightShiftAssign = codes ">>="
 token_text tokens.AndAssign = codes "&="
 token_text tokens.OrAssign = codes "|="
 token_text tokens.XOrAssign = codes "^="
+-- other symbols
 token_text tokens.Equals = codes "="
 token_text tokens.Bang = codes "!"
 token_text tokens.ExclusiveRange = codes ".."
@@ -83,6 +87,7 @@ token_text tokens.Elvis = codes "?."
 token_text tokens.QuestionBracket = codes "?["
 token_text tokens.DoubleArrow = codes "=>"
 
+-- all tokens
 abbrev pub all_tokens : List OpToken
 all_tokens =
     tokens.True
@@ -165,7 +170,7 @@ all_tokens =
 unfoldable pub token_of : List ℕ → Option OpToken
 token_of text = find (λ t. bytes_eq (token_text t) text) all_tokens
 
--- `=` alone is none
+-- an operator and `=`; `=` alone is no such assignment
 abbrev pub is_assignment : OpToken → Bool
 is_assignment tokens.PlusAssign = true
 is_assignment tokens.MinusAssign = true

@@ -1,11 +1,10 @@
 //! Names.
 
-ghost use Rattle.std.specs.Prelude.{◌≡◌, ◌++◌, IfOk, string_bytes, codes};
-ghost use Rattle.std.specs.Prelude.{◌≤◌, length};
+ghost use Rattle.std.specs.Prelude.{◌≡◌, ◌≤◌, ◌++◌, length, IfOk, string_bytes, codes};
 ghost use Rattle.std.specs.List.{list_all, list_any};
 ghost use Rattle.std.specs.Char.{is_ascii_alphabetic, is_ascii_digit};
 ghost use Rattle.std.specs.Str.{bytes_eq};
-ghost use Rattle.rhd_names.specs.Names.{is_name_byte, letters_begin, is_identifier, is_one_of, is_function_name, is_reserved, is_anonymous};
+ghost use Rattle.rhd_names.specs.Names.{is_name_byte, letters_begin, is_identifier, is_function_name, is_reserved, is_anonymous};
 
 use crate::token::lookup_symbol_from_syntax;
 use std::alloc::{AllocError, Global};
@@ -73,6 +72,7 @@ fn has_digit(bytes: &[u8]) -> bool
     bytes.iter().any(|b| b.is_ascii_digit())
 }
 
+/// The place of the first letter, or the end where there is none.
 fn letters_begin(bytes: &[u8]) -> usize
     ensures start { result ≡ letters_begin bytes.now }
     ensures within { result ≤ length bytes.now }
@@ -108,7 +108,7 @@ fn is_one_of(name: &str, names: &[&str]) -> bool
     names.contains(&name)
 }
 
-/// Whether the text is a word or a symbol that is kept for later use.
+/// Whether the text is a reserved word or a reserved symbol.
 #[tactic(auto, unfolding(crate::specs::Names::is_reserved))]
 pub fn is_reserved_keyword_or_symbol(name: &str) -> bool
     ensures { result ≡ is_reserved name.now }
@@ -124,7 +124,7 @@ pub fn is_anonymous_fn(name: &str) -> bool
     name.starts_with("anon$")
 }
 
-/// The name of the function that reads a property.
+/// The name of the function that reads a property, if there is memory for it.
 pub fn make_getter(alloc: Global, name: &str) -> Result<String, AllocError>
     ensures { IfOk result (λ getter. string_bytes getter ≡ codes "get$" ++ name.now) }
 {
@@ -133,7 +133,7 @@ pub fn make_getter(alloc: Global, name: &str) -> Result<String, AllocError>
     Ok(getter)
 }
 
-/// The name of the function that writes a property.
+/// The name of the function that writes a property, if there is memory for it.
 pub fn make_setter(alloc: Global, name: &str) -> Result<String, AllocError>
     ensures { IfOk result (λ setter. string_bytes setter ≡ codes "set$" ++ name.now) }
 {

@@ -1,17 +1,15 @@
 -- Values that were printed are in UTF-8.
-use Rattle.std.proofs.Common.{◌≡◌, ℕ, suc, ◌^◌, ◌<◌, ◌≤◌, Bool, true, false, cond, ltb, List, [], ◌∷◌, ◌++◌, length, get_or, ℤ, pos, negsuc, refl, sym, subst, arith, rules, inl, inr}
+use Rattle.std.proofs.Common.{◌≡◌, ℕ, suc, ◌^◌, ◌<◌, ◌≤◌, Bool, true, false, ltb, List, [], ◌∷◌, ◌++◌, length, get_or, ℤ, pos, negsuc, refl, sym, subst, arith, inl, inr}
 use Rattle.std.specs.Prelude.{codes}
 use Rattle.std.specs.List.{list_all, flat_map}
-use Rattle.std.specs.Char.{is_ascii_digit, IsScalar, encode_utf8}
+use Rattle.std.specs.Char.{IsScalar, encode_utf8}
 use Rattle.std.specs.Str.{IsUtf8, is_utf8}
-use Rattle.std.specs.Str.Parse.{digits_value}
 use Rattle.std.specs.Fmt.{decimal, signed_decimal}
 use Rattle.std.proofs.Math.Utf8.{scalar, scalars, encodes, encode}
 use Rattle.std.proofs.lemmas.Bool.{ne_eqb, ltb-true, cases_lt}
 use Rattle.std.proofs.lemmas.Bool.Decides.{eqb_tells}
 use Rattle.std.proofs.lemmas.Grind.{flat_map-append}
 use Rattle.std.proofs.lemmas.List.{append-nil}
-use Rattle.std.proofs.lemmas.Str.Parse.{IsNumeralModel, numerals_by_value}
 use Rattle.std.proofs.lemmas.Str.{IsUtf8-nil, IsUtf8-append, IsUtf8-encode, IsUtf8-from_ascii, IsUtf8-from_is_utf8, is_utf8-from_IsUtf8, encode_ascii, inside_one}
 use Rattle.std.proofs.lemmas.Fmt.{digits_decimal, IsAscii-from_digits}
 use Rattle.rhd_value.specs.declared.tag.Marks.{Marks}
@@ -25,8 +23,8 @@ use Rattle.rhd_text.specs.Proper.{IsInt, IsType, IsProper, AreProper, HasProper,
 use Rattle.rhd_text.specs.Spans.{value, IsValue}
 use Rattle.rhd_text.proofs.Agrees.{and_parts}
 use Rattle.rhd_text.proofs.NumberLaws.{ascii-cons}
-use Rattle.rhd_text.proofs.AgainWords.{no_space}
-use Rattle.rhd_text.proofs.AgainValues.{value_again}
+use Rattle.rhd_text.proofs.AgainWords.{own, no_space}
+use Rattle.rhd_text.proofs.AgainValues.{sign, value_again}
 
 -- ---- ASCII
 
@@ -43,12 +41,6 @@ two_utf8 : (b c : ℕ) → b < 128 → c < 128 → IsUtf8 (b ∷ (c ∷ []))
 two_utf8 b c small other = IsUtf8-append (b ∷ []) (c ∷ []) (byte_utf8 b small) (byte_utf8 c other)
 
 -- ---- numbers
-
-abbrev AreDigits : List ℕ → Type 0
-AreDigits ds = list_all is_ascii_digit ds ≡ true
-
-own : IsNumeralModel AreDigits (digits_value 10)
-own = numerals_by_value _ (search rules)
 
 decimal_utf8 : (n : ℕ) → n < 2 ^ 64 → IsUtf8 (decimal n)
 decimal_utf8 n fits = IsUtf8-from_ascii (decimal n) (IsAscii-from_digits (decimal n) (own.to (decimal n) (digits_decimal own n fits)))
@@ -117,9 +109,6 @@ text_utf8 : (s : List ℕ) → is_utf8 s ≡ true → IsUtf8 (quoted s)
 text_utf8 s h = quoted_utf8 34 s (omega arith) (IsUtf8-from_is_utf8 s h)
 
 -- ---- values
-
-abbrev sign : ℕ → Bool → List ℕ
-sign c x = cond x (c ∷ []) []
 
 sign_utf8 : (c : ℕ) (x : Bool) → c < 128 → IsUtf8 (sign c x)
 sign_utf8 c true small = byte_utf8 c small

@@ -25,7 +25,7 @@ regroup_entry q a b c d = simp append_assoc
 
 -- ---- marks
 
-abbrev sign : ℕ → Bool → List ℕ
+abbrev pub sign : ℕ → Bool → List ℕ
 sign c x = cond x (c ∷ []) []
 
 mark_again : (x : Bool) (c : ℕ) (rest : List ℕ) → mark c x (sign c x ++ rest) rest

@@ -17,10 +17,10 @@ use Rattle.rhd_text.specs.Proper.{IsInt}
 use Rattle.rhd_text.specs.Spans.{blanks, run, number, number_run, letter, letters_to, quoted_in, quoted_character, word}
 use Rattle.rhd_text.proofs.Agrees.{and_parts}
 
-abbrev AreDigits : List ℕ → Type 0
+abbrev pub AreDigits : List ℕ → Type 0
 AreDigits ds = list_all is_ascii_digit ds ≡ true
 
-own : IsNumeralModel AreDigits (digits_value 10)
+pub own : IsNumeralModel AreDigits (digits_value 10)
 own = numerals_by_value _ (search rules)
 
 pub space : (rest : List ℕ) → blanks (32 ∷ rest) rest

@@ -97,7 +97,7 @@ quoted_in quote s bytes rest = (is_utf8 s ≡ true) × (byte quote ▸ letters_t
 abbrev pub quotation : List ℕ → Span
 quotation = quoted_in 34
 
--- a character: a text of this one between '
+-- a character: a text of it alone between '
 abbrev pub quoted_character : ℕ → Span
 quoted_character c bytes rest = (s : List ℕ) × (chars s ≡ c ∷ []) × quoted_in 39 s bytes rest
 
@@ -127,7 +127,7 @@ words ws = bracket 40 ▸ (each word ws ▸ bracket 41)
 
 -- ---- values
 
--- a mark, or none
+-- a mark, or none; no blank stands after a mark
 abbrev pub mark : ℕ → Bool → Span
 mark b true = byte b
 mark b false = nothing
@@ -164,7 +164,8 @@ pointer_number Normal = nothing
 pointer_number (Script n) = number 64 n
 pointer_number (Native id) = number 32 id.0
 
--- each kind of value, given how the values inside it are written
+-- Each kind of value, given how the values inside it are written. The brackets are ( 40, ) 41, [ 91, ] 93, { 123, } 125;
+-- blanks may stand before and after each of them, but for the first ( after a word
 abbrev pub kind : (Tree → Span) → Kind → Span
 kind element unit = byte 40 ▸ bracket 41
 kind element (boolean b) = run (truth b)
@@ -176,7 +177,7 @@ kind element (object es) = byte 123 ▸ (pairs element (entries_of es) ▸ brack
 kind element (pointer f ts typ) = run (pointer_word typ) ▸ (byte 40 ▸ (word f ▸ (pointer_number typ ▸ (each element (list_of ts) ▸ bracket 41))))
 kind element (custom n z) = run (codes "custom") ▸ (byte 40 ▸ (number 32 n ▸ ((blanks ▸ number_run z) ▸ bracket 41)))
 
--- a value that is so deep at most, where one that has no value inside it is 1 deep
+-- a value that is so deep at most: one with no value inside it is 1 deep, another one deeper than the deepest inside it
 unfoldable pub value_within : ℕ → Tree → Span
 value_within zero t = λ bytes rest. ⊥
 value_within (suc deep) t = blanks ▸ (marks t.marks ▸ kind (value_within deep) t.kind)

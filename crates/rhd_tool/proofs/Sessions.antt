@@ -1,5 +1,5 @@
 -- The replies of a new session.
-use Rattle.std.proofs.Common.{◌≡◌, ◌≤◌, ℕ, List, [], IfOk, length, take, refl, sym, ap, subst, ◌∙◌, arith}
+use Rattle.std.proofs.Common.{◌≡◌, ◌<◌, ◌≤◌, ℕ, List, [], IfOk, length, take, refl, sym, ap, subst, ◌∙◌, arith}
 use Rattle.std.proofs.Math.Seq.{take-length}
 use Rattle.std.specs.Prelude.{Option, None, Some, IfSome, unwrap_or, Result, Ok, Err, IfErr}
 use Rattle.std.proofs.lemmas.Result.{IfOk-weaker}
@@ -24,7 +24,7 @@ all_answered o natives limits bodies commands r world frame after a =
     IfOk-weaker r (λ replies. Answered o (start_world natives limits) start_frame (start_moment bodies) commands replies world frame after) (IsAnswered o natives limits bodies commands) (λ replies h. record { world = world; frame = frame; after = after; answered = h }) a
 
 pub some_answered : {T : Type 0} (o : Objects Bodies) (natives : List NativeInfo) (limits : Limits) (bodies : Bodies) (commands : List Command) (r : Result T Stopped) (world : World) (frame : Frame) (begun : ℕ)
-    → IfErr r (λ s. (after : Moment Bodies) × Answered o (start_world natives limits) start_frame (start_moment bodies) (take (length s.replies) commands) s.replies world frame after × (after.begun ≤ begun))
+    → IfErr r (λ s. (after : Moment Bodies) × Answered o (start_world natives limits) start_frame (start_moment bodies) (take (length s.replies) commands) s.replies world frame after × (after.begun ≤ begun) × (length s.replies < length commands))
     → IfErr r (λ s. IsAnswered o natives limits bodies (take (length s.replies) commands) s.replies)
 some_answered o natives limits bodies commands (Ok x) world frame begun a = tt
 some_answered o natives limits bodies commands (Err s) world frame begun a = record { world = world; frame = frame; after = a.0; answered = a.1 }

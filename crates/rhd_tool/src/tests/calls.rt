@@ -4,4 +4,5 @@ mod bodies;
 mod items;
 mod modules;
 mod natives;
+mod operands;
 mod values;

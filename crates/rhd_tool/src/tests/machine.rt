@@ -101,8 +101,8 @@ const TEXTS: &[(&str, &str)] = &[
         "f - call ! 1 \"f (array)\"\n",
     ),
     (
-        "register f 10\ncall f !%~[() true -0 'a' \"b\" {b 1 a 2}]\ncall f !%[() true -0 'a' \"b\" {b 1 a 2}]\ncall f [fn(g 1) fn*(\"h\" 2) fn#(k 3 %[]) custom(4 -5)]",
-        "ok\nf - call ! 6 \"argument #1 of function 'f'\"\nf global0#10 called = !%[() true 0 'a' \"b\" {\"a\" 2 \"b\" 1}]\nf global0#10 called = [fn(\"g\" 1) fn*(\"h\" 2) fn#(\"k\" 3 %[]) custom(4 -5)]\n",
+        "call f !%~[() true -0 'a' \"b\" {b 1 a 2}]\nref f !%[() true -0 'a' \"b\" {b 1 a 2}]\nref f [fn(g 1) fn*(\"h\" 2) fn#(k 3 %[]) custom(4 -5)]",
+        "f - call ! 6 \"argument #1 of function 'f'\"\nf - call ! 1 \"f (array)\" & !%[() true 0 'a' \"b\" {\"a\" 2 \"b\" 1}]\nf - call ! 1 \"f (array)\" & [fn(\"g\" 1) fn*(\"h\" 2) fn#(\"k\" 3 %[]) custom(4 -5)]\n",
     ),
 ];
 

@@ -224,7 +224,7 @@ fn failed(alloc: Global, level: u32, is_deep: bool) -> Result<CallNode, Fail> {
     } else {
         EvalAltResult::ErrorTooManyOperations(Position::NONE)
     };
-    Ok(CallNode::failed(alloc, call, level, fault))
+    Ok(CallNode::failed(alloc, call, level, fault)?)
 }
 
 /// A call with one more child.

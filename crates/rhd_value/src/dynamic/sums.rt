@@ -22,7 +22,8 @@ fn sizes_of_value(value: &Value) -> Sizes
     ensures { result ≡ sizes_of_kind (kind_view value.now) }
 {
     match value {
-        Value::Unit | Value::Bool(_) | Value::Int(_) | Value::Char(_) | Value::Custom(_, _) => Sizes::NONE,
+        Value::Unit | Value::Bool(_) | Value::Int(_) | Value::Char(_) | Value::Custom(_, _) =>
+            Sizes::NONE,
         Value::Text(text) => Sizes {
             array: 0,
             map: 0,
