@@ -252,7 +252,8 @@ fn modules_and_sessions_answer(rt: HostRuntime) -> Result<(), Fail> {
     check_module(&rt, alloc)?;
     check_shared(&rt, alloc)?;
     let mut natives = Natives::new(alloc);
-    for number in 0..3 {
+    while natives.len() < 3 {
+        let number = natives.len() as u32;
         let native: Box<dyn PluginFunc> = Box::new(alloc, KitFn::new(number))?;
         let Ok(_) = natives.push(alloc, native) else {
             return Err(AllocError.into());
