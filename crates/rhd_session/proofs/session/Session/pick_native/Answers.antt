@@ -1,8 +1,13 @@
-use Rattle.std.proofs.Common.{◌∙◌, ap}
-use Rattle.std.proofs.lemmas.Result.{IfOk-weaker}
+use Rattle.std.proofs.Common.{◌∙◌, ◌≡◌, ap, sym, refl}
+use Rattle.std.specs.Option.{option_or}
+use Rattle.std.specs.Prelude.{Option}
+use Rattle.rhd_session.specs.declared.pick.Pick.{Pick}
+use Rattle.rhd_session.specs.Asks.{builtin}
 use Rattle.rhd_session.specs.Of.{world_of, frame_of}
-use Rattle.rhd_session.specs.Searched.{found}
 use Rattle.rhd_session.proofs.session.Session.pick_native.Goals as goal
 
-pub returns : goal.returns
-returns g c = IfOk-weaker c.found.result _ _ (λ last e. e ∙ ap (found (world_of (λ z. (goal.PluginFunc-dyn g z).info z.1) c.args.self.now).engine (frame_of c.args.self.now)) c.in_ok-key.ensures) c.found.ensures
+pub returns-in-Some : goal.returns-in-Some
+returns-in-Some g c = ?
+
+pub returns-in-None : goal.returns-in-None
+returns-in-None g c = ?
