@@ -73,8 +73,8 @@ free_is : (plan : Plan) (pick : Pick) → is_on_constant plan pick ≡ false →
 free_is plan pick h r = let q : false ≡ true = sym h ∙ is_constant plan pick r in absurd cc
 
 is_free : (plan : Plan) (pick : Pick) → (IsOnConstant plan pick → ⊥) → is_on_constant plan pick ≡ false
-is_free plan pick no =
-    let by : (b : Bool) → is_on_constant plan pick ≡ b → b ≡ false = elim [ true ↦ (λ e. absurd (no (constant_is plan pick e))) | false ↦ (λ e. refl) ]
+is_free plan pick free =
+    let by : (b : Bool) → is_on_constant plan pick ≡ b → b ≡ false = elim [ true ↦ (λ e. absurd (free (constant_is plan pick e))) | false ↦ (λ e. refl) ]
     in by (is_on_constant plan pick) refl
 
 -- a function runs exactly where nothing refuses the call, as the first ask's that is found, unless it isn't for a constant
@@ -98,12 +98,12 @@ first_constant e f level call pick unrefused first on = decided_constant e f lev
 ends_picked : (e : EngineLists) (f : Frame) (level : ℕ) (call : CallRequest) (own : Pick) (pick : Option Pick) (end : End) (b : Bool) → is_on_constant (plan_of call) own ≡ b → refusal e level call ≡ None → pick_of e f (plan_of call) ≡ Some own
     → (if b then ends (Some own) (constant_end (plan_of call)) else runs (plan_of call) own) ≡ ends pick end → EndsAlone e f level call pick end
 ends_picked e f level call own pick end true on unrefused found d =
-    on_constant own cc unrefused (first_is-first (looked e f) own (asks_of call) (sym (pick_asks e f call) ∙ found)) (constant_is (plan_of call) own on) cc
+    on_constant own (cc) unrefused (first_is-first (looked e f) own (asks_of call) (sym (pick_asks e f call) ∙ found)) (constant_is (plan_of call) own on) (cc)
 ends_picked e f level call own pick end false on unrefused found d = absurd cc
 
 ends_by : (e : EngineLists) (f : Frame) (level : ℕ) (call : CallRequest) (r : Option End) (o : Option Pick) (pick : Option Pick) (end : End) → refusal e level call ≡ r → pick_of e f (plan_of call) ≡ o → unless_refused r (decided (plan_of call) o) ≡ ends pick end → EndsAlone e f level call pick end
-ends_by e f level call (Some x) o pick end u is d = is_refused cc (u ∙ (let same : x ≡ end = cc in ap Some same))
-ends_by e f level call None None pick end u is d = isnt_found cc u cc (first_none (looked e f) (asks_of call) (sym (pick_asks e f call) ∙ is))
+ends_by e f level call (Some x) o pick end u is d = is_refused (cc) (u ∙ (let same : x ≡ end = cc in ap Some same))
+ends_by e f level call None None pick end u is d = isnt_found (cc) u (cc) (first_none (looked e f) (asks_of call) (sym (pick_asks e f call) ∙ is))
 ends_by e f level call None (Some own) pick end u is d = ends_picked e f level call own pick end (is_on_constant (plan_of call) own) refl u is d
 
 pub ends_missing : (e : EngineLists) (f : Frame) (level : ℕ) (call : CallRequest) (pick : Option Pick) (end : End) → decision e f level call ≡ ends pick end → EndsAlone e f level call pick end

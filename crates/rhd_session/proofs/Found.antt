@@ -70,10 +70,15 @@ script_is_pick e f call native_only name shape found pick is n s first some =
 
 pub native_is_pick : (e : EngineLists) (f : Frame) (call : CallRequest) (native_only : Bool) (token : Option OpToken) (name : Bytes) (shape : CallShape) (found last : Option Pick) → native_only ≡ only_natives (plan_of call).search → token ≡ token_in (plan_of call).search → name ≡ (plan_of call).name → shape ≡ (plan_of call).shape
     → found ≡ first_of (looked e f) (allowed_asks name native_only shape) → found ≡ None → last ≡ looked e f (native_ask name token shape) → last ≡ pick_of e f (plan_of call)
-native_is_pick e f call native_only token name shape found last is t n s first none native =
+native_is_pick e f call native_only token name shape found last is t n s first none answered =
     let asked : found ≡ first_of (looked e f) (allowed_asks (plan_of call).name (only_natives (plan_of call).search) (plan_of call).shape) = first ∙ (λ i. first_of (looked e f) (allowed_asks (n i) (is i) (s i))) in
-    native ∙ (λ i. looked e f (native_ask (n i) (t i) (s i)))
+    answered ∙ (λ i. looked e f (native_ask (n i) (t i) (s i)))
     ∙ sym (pick_parts e f call ∙ ap (λ (o : Option Pick). option_or o (looked e f (native_ask (plan_of call).name (token_in (plan_of call).search) (plan_of call).shape))) (sym asked ∙ none))
+
+-- what is found under a key, of the libraries and then of the one global module
+pub found_by : (e : EngineLists) (f : Frame) (m : ModuleTree) (libs : List ModuleTree) (key same : Key) (o : Option Pick) → e.globals ≡ m ∷ [] → libs ≡ f.libs → key ≡ same
+    → o ≡ first_of (pick_at key) (libraries libs ++ own_place Global (0, m) ∷ []) → o ≡ found e f same
+found_by e f m libs key same o one l k is = is ∙ (λ i. first_of (pick_at (k i)) (libraries (l i) ++ map (own_place Global) (enumerate_from 0 (sym one i))))
 
 -- the scripts of the type of an object, by their key
 typed_by : (e : EngineLists) (f : Frame) (name : Bytes) (shape : CallShape) (key : Option Key) → key ≡ typed_key name shape → first_of (looked e f) (typed_asks name shape) ≡ option_and_then (found e f) key
@@ -84,8 +89,8 @@ typed_by e f name (Method object args) key is = or_none (found e f (Typed None n
 pub typed_missing : (e : EngineLists) (f : Frame) (name : Bytes) (shape : CallShape) (key : Option Key) → key ≡ typed_key name shape → key ≡ None → ◌≡◌ {A = Option Pick} None (first_of (looked e f) (typed_asks name shape))
 typed_missing e f name shape key is none = sym (typed_by e f name shape key is ∙ ap (option_and_then (found e f)) none)
 
-pub typed_found : (e : EngineLists) (f : Frame) (name : Bytes) (shape : CallShape) (typed : Option Key) (key : Key) (o : Option Pick) → typed ≡ typed_key name shape → typed ≡ Some key → o ≡ found e f key → o ≡ first_of (looked e f) (typed_asks name shape)
-typed_found e f name shape typed key o is some h = h ∙ sym (typed_by e f name shape typed is ∙ ap (option_and_then (found e f)) some)
+pub typed_found : (e : EngineLists) (f : Frame) (name : Bytes) (shape : CallShape) (maybe : Option Key) (key : Key) (o : Option Pick) → maybe ≡ typed_key name shape → maybe ≡ Some key → o ≡ found e f key → o ≡ first_of (looked e f) (typed_asks name shape)
+typed_found e f name shape maybe key o is some h = h ∙ sym (typed_by e f name shape maybe is ∙ ap (option_and_then (found e f)) some)
 
 -- the scripts of a call, where they are allowed: those of an object's type, and then the others
 script_parts : (e : EngineLists) (f : Frame) (name : Bytes) (native_only : Bool) (shape : CallShape) → native_only ≡ false

@@ -30,7 +30,8 @@ use Rattle.rhd_session.specs.Display.{display}
 use Rattle.rhd_session.specs.Plans.{Plan, plan_of}
 use Rattle.rhd_session.specs.Received.{manner_of, has_the_given}
 use Rattle.rhd_session.specs.Ends.{first_at_end, end_of}
-use Rattle.rhd_session.specs.Decisions.{ends, runs, locked_place, refusal, constant_end}
+use Rattle.rhd_session.specs.Decisions.{locked_place, refusal, constant_end}
+use Rattle.rhd_session.specs.Decisions as decisions
 use Rattle.rhd_session.specs.FirstAsks.{EndsAlone, is_refused, isnt_found, on_constant, IsAnsweredFirst, IsOnConstant, missing_end}
 use Rattle.rhd_session.specs.Causes.{IsOwn, IsForNoConstant, IsFirstLocked, NamesLocked, AreWithin, IsTooLarge, IsOfOtherKind, EndsWith, RefusesKind, RefusesSize, RefusesValue, for_kind, for_size, gave_back, GivesBack}
 use Rattle.rhd_session.specs.Entered.{context}
@@ -280,14 +281,14 @@ module _ {B : Type 0} (o : Objects B) (w : World) where
       → seen node ≡ begun_node call level (Some pick) [] [] (constant_end (plan_of call))
   constant_shown pick (not_begun b s) begun u first on = let q : false ≡ true = sym (ap (λ (x : Seen). x.begun) s) ∙ begun in absurd cc
   constant_shown pick (ended {f = f} {level = level} {call = call} {pick = p} {end = end} b d s) begun u first on =
-      let q : ends p end ≡ ends (Some pick) (constant_end (plan_of call)) = sym d ∙ first_constant w.engine f level call pick u first on in
+      let q : decisions.ends p end ≡ decisions.ends (Some pick) (constant_end (plan_of call)) = sym d ∙ first_constant w.engine f level call pick u first on in
       let shown : p ≡ Some pick = cc in
       let same : end ≡ constant_end (plan_of call) = cc in
       s ∙ (λ i. begun_node call level (shown i) [] [] (same i))
   constant_shown pick (finished {f = f} {level = level} {call = call} {plan = plan} {pick = p} b d starts steps e s) begun u first on =
-      let q : runs plan p ≡ ends (Some pick) (constant_end (plan_of call)) = sym d ∙ first_constant w.engine f level call pick u first on in absurd cc
+      let q : decisions.runs plan p ≡ decisions.ends (Some pick) (constant_end (plan_of call)) = sym d ∙ first_constant w.engine f level call pick u first on in absurd cc
   constant_shown pick (cut_short {f = f} {level = level} {call = call} {plan = plan} {pick = p} b d starts steps r s) begun u first on =
-      let q : runs plan p ≡ ends (Some pick) (constant_end (plan_of call)) = sym d ∙ first_constant w.engine f level call pick u first on in absurd cc
+      let q : decisions.runs plan p ≡ decisions.ends (Some pick) (constant_end (plan_of call)) = sym d ∙ first_constant w.engine f level call pick u first on in absurd cc
 
   constant_back : {f : Frame} {level : ℕ} {call : CallRequest} {node : CallNode} {before after : Moment B} {cut : Bool} (name : Bytes) (pos : Position) → Runs o w f level call node before after cut → (seen node).begun ≡ true → IsForNoConstant w.engine f level call (ErrorNonPureMethodCallOnConstant name pos)
       → IsOwn (seen node).end (ErrorNonPureMethodCallOnConstant name pos)

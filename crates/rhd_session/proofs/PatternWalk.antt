@@ -1,10 +1,11 @@
 -- The walk over the places of a pattern, and where no pattern is found.
-use Rattle.std.proofs.Common.{◌≡◌, ◌≤◌, ◌<◌, ℕ, ◌+◌, ◌-◌, Bool, true, false, cond, ◌&&◌, ◌||◌, ◌==◌, List, [], ◌∷◌, ◌++◌, length, map, take, drop, get_or, refl, sym, ap, ◌∙◌, subst, arith, append_assoc}
-use Rattle.std.specs.Prelude.{zero, suc, Option, Some, None, reverse, option_map}
+use Rattle.std.proofs.Common.{◌≡◌, ◌≤◌, ◌<◌, ℕ, ◌+◌, ◌-◌, Bool, true, false, cond, ◌&&◌, ◌||◌, ◌==◌, List, [], ◌∷◌, ◌++◌, length, map, take, drop, get_or, set, refl, sym, ap, ◌∙◌, subst, arith, append_assoc}
+use Rattle.std.specs.Prelude.{zero, suc, Option, Some, None, reverse, option_map, is_some}
 use Rattle.std.specs.List.{list_any, enumerate_from}
 use Rattle.std.specs.Map.{lookup}
 use Rattle.std.specs.Option.{option_or}
-use Rattle.std.proofs.lemmas.List.{reverse-append, take-append-drop}
+use Rattle.std.proofs.lemmas.List.{reverse-append, take-append-drop, length-drop, take_more, take_more_set, drop-set-lt}
+use Rattle.std.proofs.Math.Seq.{drop-cons}
 use Rattle.rhd_value.specs.Tree.{Bytes}
 use Rattle.rhd_value.specs.Firsts.{first_of}
 use Rattle.rhd_value.specs.Same.{tag_eq, tag_eq-Decides, text_eq}
@@ -21,11 +22,12 @@ use Rattle.std.proofs.lemmas.Slice.Eq.{bytes_eq-Decides}
 use Rattle.rhd_session.specs.declared.pick.Layer.{Layer}
 use Rattle.rhd_session.specs.declared.pick.Layer.TheVariants.{Library, Global}
 use Rattle.rhd_session.specs.declared.pick.Pick.{Pick}
-use Rattle.rhd_session.specs.Asks.{native_found}
+use Rattle.rhd_session.specs.Asks.{native, looked, native_found, builtin}
+use Rattle.rhd_names.specs.declared.token.OpToken.{OpToken}
 use Rattle.rhd_session.specs.Engine.{EngineLists, Frame}
-use Rattle.rhd_session.specs.Patterns.{patterns_to}
+use Rattle.rhd_session.specs.Patterns.{patterns_to, patterns}
 use Rattle.rhd_session.specs.Searched.{own_place, pick_at}
-use Rattle.rhd_session.specs.Walks.{first_match, matched}
+use Rattle.rhd_session.specs.Walks.{first_match, matched, native_in}
 
 -- Lists of questions.
 
@@ -134,7 +136,8 @@ prefix_matches : (n : ℕ) (kinds types : List TypeTag) → n ≤ length kinds �
 prefix_matches zero kinds types h = refl
 prefix_matches (suc n) [] types h = absurd (omega arith)
 prefix_matches (suc n) (k ∷ kinds) types h =
-    ap (λ (b : Bool). (b || false) && types_match n (take n kinds ++ types) kinds) (same_tag k) ∙ prefix_matches n kinds types (omega arith)
+    let e : suc n - 1 ≡ n = omega arith in
+    (λ i. (same_tag k i || ((suc n == 0) && tag_eq k Dynamic)) && types_match (e i) (take n kinds ++ types) kinds) ∙ prefix_matches n kinds types (omega arith)
 
 any_parts : (a b : Bool) → (a || b) ≡ false → (a ≡ false) × (b ≡ false)
 any_parts true b h = absurd cc
@@ -172,17 +175,77 @@ no_place layer n name kinds types k (m ∷ ms) matches h =
     or_nones (pick_at (Native None name types) (own_place layer (k, m))) (first_of (λ y. pick_at (Native None name types) (own_place layer y)) (enumerate_from (k + 1) ms))
     (no_own (layer k) n name kinds types k m matches r.0) (no_place layer n name kinds types (k + 1) ms matches r.1)
 
-not_found : (e : EngineLists) (f : Frame) (n : ℕ) (name : Bytes) (kinds types : List TypeTag) → types_match n types kinds ≡ true → matched f.libs e.globals n name kinds ≡ false → native_found e f name types ≡ None
-not_found e f n name kinds types matches h =
-    let r = any_parts (list_any (λ m. may_match m n name kinds) e.globals) (list_any (λ m. may_match m n name kinds) f.libs) h in
+not_found : (libs : List ModuleTree) (m : ModuleTree) (n : ℕ) (name : Bytes) (kinds types : List TypeTag) → types_match n types kinds ≡ true → matched libs (m ∷ []) n name kinds ≡ false → native_in libs m name types ≡ None
+not_found libs m n name kinds types matches h =
+    let r = any_parts (list_any (λ x. may_match x n name kinds) (m ∷ [])) (list_any (λ x. may_match x n name kinds) libs) h in
     let key = Native None name types in
-    of_append (pick_at key) (map (own_place Library) (reverse (enumerate_from 0 f.libs))) (map (own_place Global) (enumerate_from 0 e.globals))
-    ∙ or_nones (first_of (pick_at key) (map (own_place Library) (reverse (enumerate_from 0 f.libs)))) (first_of (pick_at key) (map (own_place Global) (enumerate_from 0 e.globals)))
-    (of_map (pick_at key) (own_place Library) (reverse (enumerate_from 0 f.libs)) ∙ none_reverse (λ y. pick_at key (own_place Library y)) (enumerate_from 0 f.libs) (no_place Library n name kinds types 0 f.libs matches r.1))
-    (of_map (pick_at key) (own_place Global) (enumerate_from 0 e.globals) ∙ no_place Global n name kinds types 0 e.globals matches r.0)
+    of_append (pick_at key) (map (own_place Library) (reverse (enumerate_from 0 libs))) (own_place Global (0, m) ∷ [])
+    ∙ or_nones (first_of (pick_at key) (map (own_place Library) (reverse (enumerate_from 0 libs)))) (first_of (pick_at key) (own_place Global (0, m) ∷ []))
+    (of_map (pick_at key) (own_place Library) (reverse (enumerate_from 0 libs)) ∙ none_reverse (λ y. pick_at key (own_place Library y)) (enumerate_from 0 libs) (no_place Library n name kinds types 0 libs matches r.1))
+    (no_place Global n name kinds types 0 (m ∷ []) matches r.0)
 
 -- no pattern is found where no module may have one
-pub walk_prunes : (e : EngineLists) (f : Frame) (name : Bytes) (kinds : List TypeTag) (place n : ℕ) → place ≤ length kinds → matched f.libs e.globals place name kinds ≡ false → first_match (native_found e f name) (take place kinds) n (drop place kinds) ≡ None
-walk_prunes e f name kinds place n within h =
-    none_matches (native_found e f name) (take place kinds) n (drop place kinds)
-    (λ types m. not_found e f place name kinds (take place kinds ++ types) (prefix_matches place kinds types within ∙ m) h)
+pub walk_prunes : (libs : List ModuleTree) (m : ModuleTree) (name : Bytes) (kinds : List TypeTag) (place n : ℕ) → place ≤ length kinds → matched libs (m ∷ []) place name kinds ≡ false → first_match (native_in libs m name) (take place kinds) n (drop place kinds) ≡ None
+walk_prunes libs m name kinds place n within h =
+    none_matches (native_in libs m name) (take place kinds) n (drop place kinds)
+    (λ types matches. not_found libs m place name kinds (take place kinds ++ types) (prefix_matches place kinds types within ∙ matches) h)
+
+-- the places that a walk has passed
+pub walk_last : (look : List TypeTag → Option Pick) (kinds : List TypeTag) (place : ℕ) (o : Option Pick) → 16 ≤ place → o ≡ look kinds → o ≡ first_match look (take place kinds) (16 - place) (drop place kinds)
+walk_last look kinds place o h is =
+    let z : 16 - place ≡ 0 = omega arith in
+    is ∙ ap look (sym (take-append-drop place kinds)) ∙ sym (walk_ends look (take place kinds) (16 - place) (drop place kinds) z)
+
+pub walk_over : (look : List TypeTag → Option Pick) (kinds : List TypeTag) (place : ℕ) (o : Option Pick) → length kinds ≤ place → o ≡ look kinds → o ≡ first_match look (take place kinds) (16 - place) (drop place kinds)
+walk_over look kinds place o h is =
+    let z : length (drop place kinds) ≡ 0 = omega (arith, length-drop place kinds) in
+    is ∙ ap look (sym (take-append-drop place kinds)) ∙ sym (walk_empty look (take place kinds) (16 - place) (drop place kinds) z)
+
+-- one place on, in a list of which only that place may differ
+on_by : (look : List TypeTag → Option Pick) (kinds : List TypeTag) (place : ℕ) (t : TypeTag) → place < 16 → place < length kinds → t ≡ get_or kinds place t →
+    first_match look (take place kinds) (16 - place) (drop place kinds) ≡ option_or (first_match look (take (place + 1) kinds) (16 - (place + 1)) (drop (place + 1) kinds)) (first_match look (take (place + 1) (set kinds place Dynamic)) (16 - (place + 1)) (drop (place + 1) (set kinds place Dynamic)))
+on_by look kinds place t small within is =
+    let a : 16 - place ≡ suc (15 - place) = omega arith in
+    let b : 15 - place ≡ 16 - (place + 1) = omega arith in
+    let s : suc place ≡ place + 1 = omega arith in
+    let d : drop place kinds ≡ t ∷ drop (place + 1) kinds = drop-cons kinds place t within ∙ (λ i. sym is i ∷ drop (s i) kinds) in
+    let k : take place kinds ++ t ∷ [] ≡ take (place + 1) kinds = sym (take_more kinds place t within ∙ ap (λ (x : TypeTag). take place kinds ++ x ∷ []) (sym is)) in
+    let l : take place kinds ++ Dynamic ∷ [] ≡ take (place + 1) (set kinds place Dynamic) = sym (take_more_set kinds place Dynamic within) in
+    let r : drop (place + 1) kinds ≡ drop (place + 1) (set kinds place Dynamic) = sym (drop-set-lt (place + 1) kinds place Dynamic (omega arith)) in
+    (λ i. first_match look (take place kinds) (a i) (d i)) ∙ walk_step look (take place kinds) (15 - place) t (drop (place + 1) kinds)
+    ∙ (λ i. option_or (first_match look (k i) (b i) (drop (place + 1) kinds)) (first_match look (l i) (b i) (r i)))
+
+-- the walk with the exact type found it, or else that with `Dynamic`
+pub walk_found : (look : List TypeTag → Option Pick) (kinds : List TypeTag) (place : ℕ) (t : TypeTag) (o : Option Pick) → place < 16 → place < length kinds → t ≡ get_or kinds place t
+    → o ≡ first_match look (take (place + 1) kinds) (16 - (place + 1)) (drop (place + 1) kinds) → is_some o ≡ true → o ≡ first_match look (take place kinds) (16 - place) (drop place kinds)
+walk_found look kinds place t None small within is h some = absurd cc
+walk_found look kinds place t (Some pick) small within is h some = sym (on_by look kinds place t small within is ∙ ap (λ (o : Option Pick). option_or o (first_match look (take (place + 1) (set kinds place Dynamic)) (16 - (place + 1)) (drop (place + 1) (set kinds place Dynamic)))) (sym h))
+
+pub walk_passed : (look : List TypeTag → Option Pick) (kinds : List TypeTag) (place : ℕ) (t : TypeTag) (o last : Option Pick) → place < 16 → place < length kinds → t ≡ get_or kinds place t
+    → o ≡ first_match look (take (place + 1) kinds) (16 - (place + 1)) (drop (place + 1) kinds) → is_some o ≡ false
+    → last ≡ first_match look (take (place + 1) (set kinds place Dynamic)) (16 - (place + 1)) (drop (place + 1) (set kinds place Dynamic)) → last ≡ first_match look (take place kinds) (16 - place) (drop place kinds)
+walk_passed look kinds place t (Some pick) last small within is h none e = absurd cc
+walk_passed look kinds place t None last small within is h none e = e ∙ sym (on_by look kinds place t small within is ∙ ap (λ (o : Option Pick). option_or o (first_match look (take (place + 1) (set kinds place Dynamic)) (16 - (place + 1)) (drop (place + 1) (set kinds place Dynamic)))) (sym h))
+
+-- a type is put back
+pub put_back : (kinds : List TypeTag) (place : ℕ) (t : TypeTag) → place < length kinds → t ≡ get_or kinds place t → set (set kinds place Dynamic) place t ≡ kinds
+put_back [] place t h is = absurd (omega arith)
+put_back (k ∷ kinds) zero t h is = ap (λ (x : TypeTag). x ∷ kinds) is
+put_back (k ∷ kinds) (suc place) t h is = ap (λ (ks : List TypeTag). k ∷ ks) (put_back kinds place t (omega arith) is)
+
+-- what the native ask gives, by the walk in one global module
+in_engine : (e : EngineLists) (f : Frame) (m : ModuleTree) (name : Bytes) (types : List TypeTag) → e.globals ≡ m ∷ [] → native_in f.libs m name types ≡ native_found e f name types
+in_engine e f m name types one = (λ i. first_of (pick_at (Native None name types)) (map (own_place Library) (reverse (enumerate_from 0 f.libs)) ++ map (own_place Global) (enumerate_from 0 (sym one i))))
+
+pub walked : (e : EngineLists) (f : Frame) (m : ModuleTree) (name : Bytes) (kinds same : List TypeTag) → e.globals ≡ m ∷ [] → kinds ≡ same → first_match (native_in f.libs m name) [] 16 kinds ≡ first_of (native_found e f name) (patterns same)
+walked e f m name kinds same one k = (λ i. first_of (λ types. in_engine e f m name types one i) (patterns_to 16 (k i)))
+
+pub looked_declared : (e : EngineLists) (f : Frame) (m : ModuleTree) (name : Bytes) (token : Option OpToken) (kinds same : List TypeTag) (o : Option Pick) (pick : Pick) → e.globals ≡ m ∷ [] → kinds ≡ same
+    → o ≡ first_match (native_in f.libs m name) [] 16 kinds → o ≡ Some pick → ◌≡◌ {A = Option Pick} (Some pick) (looked e f (native name same token))
+looked_declared e f m name token kinds same o pick one k is some =
+    sym (ap (λ (x : Option Pick). option_or x (builtin e token same)) (sym (walked e f m name kinds same one k) ∙ sym is ∙ some))
+
+pub looked_built : (e : EngineLists) (f : Frame) (m : ModuleTree) (name : Bytes) (token : Option OpToken) (kinds same : List TypeTag) (o last : Option Pick) → e.globals ≡ m ∷ [] → kinds ≡ same
+    → o ≡ first_match (native_in f.libs m name) [] 16 kinds → o ≡ None → last ≡ builtin e token kinds → last ≡ looked e f (native name same token)
+looked_built e f m name token kinds same o last one k is none built =
+    built ∙ ap (builtin e token) k ∙ sym (ap (λ (x : Option Pick). option_or x (builtin e token same)) (sym (walked e f m name kinds same one k) ∙ sym is ∙ none))

@@ -119,41 +119,21 @@ impl Nodes {
 }
 
 impl CallNode {
-    /// A call that isn't begun, as the budget is spent.
-    pub fn unbegun(alloc: Global, call: CallRequest, level: u32) -> Result<CallNode, OutOfMemory>
-        ensures { IfOk result (λ node. seen node ≡ unbegun_node call level) }
-    {
-        let first_after = given(alloc, &call)?;
-        let pos = position_of(&call);
-        Ok(CallNode {
-            call,
-            level,
-            begun: false,
-            pick: None,
-            carries: Carries::new(alloc),
-            children: Nodes::new(alloc),
-            answer: Err(EvalAltResult::ErrorTooManyOperations(pos)),
-            whose: Whose::Call,
-            first_after,
-            printed: None,
-            refused: None,
-        })
-    }
-
-    /// A call that is begun, and for which nothing runs.
-    pub fn alone(
+    /// A call for which nothing runs.
+    fn alone(
         alloc: Global,
         call: CallRequest,
         level: u32,
+        begun: bool,
         pick: Option<Pick>,
         end: End,
     ) -> CallNode
-        ensures { seen result ≡ begun_node call level pick [] [] end }
+        ensures { seen result ≡ record { call = call; level = level; begun = begun; pick = pick; carries = []; children = []; end = end } }
     {
         CallNode {
             call,
             level,
-            begun: true,
+            begun,
             pick,
             carries: Carries::new(alloc),
             children: Nodes::new(alloc),
@@ -163,6 +143,29 @@ impl CallNode {
             printed: end.printed,
             refused: end.refused,
         }
+    }
+
+    /// A call that isn't begun, as the budget is spent.
+    pub fn unbegun(alloc: Global, call: CallRequest, level: u32) -> Result<CallNode, OutOfMemory>
+        ensures { IfOk result (λ node. seen node ≡ unbegun_node call level) }
+    {
+        let first = given(alloc, &call)?;
+        let fault = EvalAltResult::ErrorTooManyOperations(position_of(&call));
+        let end = failed(first, fault);
+        Ok(CallNode::alone(alloc, call, level, false, None, end))
+    }
+
+    /// A call that is begun, for which nothing runs.
+    pub fn ended(
+        alloc: Global,
+        call: CallRequest,
+        level: u32,
+        pick: Option<Pick>,
+        end: End,
+    ) -> CallNode
+        ensures { seen result ≡ begun_node call level pick [] [] end }
+    {
+        CallNode::alone(alloc, call, level, true, pick, end)
     }
 
     /// A call that ends with a fault of its own, and for which nothing runs.
@@ -176,7 +179,7 @@ impl CallNode {
         ensures { IfOk result (λ node. seen node ≡ begun_node call level pick [] [] (failed (given call) fault)) }
     {
         let first = given(alloc, &call)?;
-        Ok(CallNode::alone(alloc, call, level, pick, failed(first, fault)))
+        Ok(CallNode::ended(alloc, call, level, pick, failed(first, fault)))
     }
 
     /// What the function that asked for the call is told.
