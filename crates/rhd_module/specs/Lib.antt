@@ -3,3 +3,4 @@ pub mod Tree
 pub mod Shown
 pub mod Registered
 pub mod FirstDeclarations
+pub mod Matching

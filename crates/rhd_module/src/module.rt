@@ -5,13 +5,14 @@ ghost use Rattle.std.specs.Option.{option_copied, option_map};
 ghost use Rattle.rhd_module.specs.Tree.{empty_module};
 ghost use Rattle.rhd_module.specs.Shown.{own_decl};
 ghost use Rattle.rhd_module.specs.Registered.{with_decl, script_key, script_decl};
+ghost use Rattle.rhd_module.specs.Matching.{may_match};
 
 use crate::declaration::Declaration;
 use crate::key::Key;
 use crate::registration::{script_declaration, script_key};
 use indexmap::IndexMap;
 use rhd_func::{RhaiFunc, SharedDef};
-use rhd_value::OutOfMemory;
+use rhd_value::{OutOfMemory, Text, TypeTag};
 use std::alloc::{AllocError, Global};
 use std::marker::Model;
 
@@ -58,6 +59,19 @@ impl Module {
             Some(declaration) => Some(&declaration.func),
             None => None,
         }
+    }
+
+    /// Whether a native is declared under this name each of whose types is the argument's kind, or,
+    /// behind the first `exact` ones, `Dynamic`.
+    pub fn may_match(&self, exact: usize, name: &Text, kinds: &[TypeTag]) -> bool
+        ensures { result ≡ may_match self.now exact name.now kinds.now }
+    {
+        for (key, _declaration) in self.declarations.iter() {
+            if key.matches(exact, name, kinds) {
+                return true;
+            }
+        }
+        false
     }
 
     /// Declares a script under its key: an equal key keeps its place, else it goes last.

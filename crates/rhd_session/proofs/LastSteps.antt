@@ -183,7 +183,7 @@ other_unwanted want pos v kind h = ap (λ (o : Option TypeTag). not_wanted o pos
 
 -- how a call ends whose function answered a value, by the two tests
 abbrev pub fits_end : Option Tree → Tree → End
-fits_end first v = record { answer = Ok v; whose = Called; first_after = first; refused = None }
+fits_end first v = record { answer = Ok v; whose = Called; first_after = first; printed = None; refused = None }
 
 abbrev done_from : Option Tree → Tree → Option EvalAltResult → Option EvalAltResult → End
 done_from first v (Some fault) other = refusing first v fault

@@ -4,6 +4,8 @@ pub mod Stepped
 pub mod Found
 pub mod Stack
 pub mod Lists
+pub mod Tables
+pub mod PatternWalk
 pub mod FirstAnswered
 pub mod TreeLaws
 pub mod TreeFaults

@@ -7,7 +7,7 @@ use Rattle.rhd_value.specs.Kinds.{type_name}
 use Rattle.rhd_value.specs.declared.tag.Position.{Position}
 use Rattle.rhd_value.specs.declared.tag.TypeTag.{TypeTag}
 use Rattle.rhd_value.specs.declared.fault.EvalAltResult.{EvalAltResult}
-use Rattle.rhd_value.specs.declared.fault.EvalAltResult.TheVariants.{ErrorFunctionNotFound, ErrorDataRace, ErrorMismatchOutputType, ErrorMismatchDataType, ErrorTooManyOperations, ErrorStackOverflow, ErrorDataTooLarge, ErrorRuntime}
+use Rattle.rhd_value.specs.declared.fault.EvalAltResult.TheVariants.{ErrorFunctionNotFound, ErrorDotExpr, ErrorIndexingType, ErrorParsing, ErrorNonPureMethodCallOnConstant, ErrorDataRace, ErrorMismatchOutputType, ErrorMismatchDataType, ErrorTooManyOperations, ErrorStackOverflow, ErrorDataTooLarge, ErrorRuntime}
 use Rattle.rhd_func.specs.declared.func.RhaiFunc.{RhaiFunc}
 use Rattle.rhd_func.specs.declared.func.RhaiFunc.TheVariants as funcs
 use Rattle.rhd_func.specs.declared.request.Carry.{Carry}
@@ -30,15 +30,16 @@ use Rattle.rhd_session.specs.Display.{display}
 use Rattle.rhd_session.specs.Plans.{Plan, plan_of}
 use Rattle.rhd_session.specs.Received.{manner_of, has_the_given}
 use Rattle.rhd_session.specs.Ends.{first_at_end, end_of}
-use Rattle.rhd_session.specs.Decisions.{locked_place, refusal}
-use Rattle.rhd_session.specs.FirstAsks.{EndsAlone, missing_end}
-use Rattle.rhd_session.specs.Causes.{IsOwn, IsFirstLocked, NamesLocked, AreWithin, IsTooLarge, IsOfOtherKind, EndsWith, RefusesKind, RefusesSize, RefusesValue, for_kind, for_size, gave_back, GivesBack}
+use Rattle.rhd_session.specs.Decisions.{locked_place, refusal, constant_end}
+use Rattle.rhd_session.specs.Decisions as decisions
+use Rattle.rhd_session.specs.FirstAsks.{EndsAlone, is_refused, isnt_found, on_constant, IsAnsweredFirst, IsOnConstant, missing_end}
+use Rattle.rhd_session.specs.Causes.{IsOwn, IsForNoConstant, IsFirstLocked, NamesLocked, AreWithin, IsTooLarge, IsOfOtherKind, EndsWith, RefusesKind, RefusesSize, RefusesValue, for_kind, for_size, gave_back, GivesBack}
 use Rattle.rhd_session.specs.Entered.{context}
 use Rattle.rhd_session.specs.Seen.{Seen, seen, begun_node, unbegun_node, cut_end}
 use Rattle.rhd_session.specs.Steps.{Starts}
 use Rattle.rhd_session.specs.Runs.{Runs, not_begun, ended, finished, cut_short, Steps, received_by}
 use Rattle.rhd_session.proofs.Found.{plan_pos, deep_end, locked_end, refused_where, refusal_is}
-use Rattle.rhd_session.proofs.FirstAnswered.{ends_missing, runs_first}
+use Rattle.rhd_session.proofs.FirstAnswered.{ends_missing, runs_first, first_constant}
 use Rattle.rhd_session.proofs.LastSteps.{EndsBy, fails, is_large, is_other, fits, ends_by, large_ends, other_ends}
 use Rattle.rhd_session.proofs.Locked.{place_first, first_place}
 
@@ -55,10 +56,10 @@ unrefused_parts call limit level false (Some n) e h = absurd cc
 unrefused_parts call limit level false None e h = (ltb-false limit level e, refl)
 
 plan_given : (call : CallRequest) → (plan_of call).given ≡ given call
-plan_given (Named name native_only shape want pos) = refl
+plan_given (Named name token native_only shape want pos) = refl
 
 given_shape : (call : CallRequest) → first_given (plan_of call).shape ≡ given call
-given_shape (Named name native_only shape want pos) = refl
+given_shape (Named name token native_only shape want pos) = refl
 
 -- what of its first argument a function has itself
 copies_native : (func : RhaiFunc) (shape : CallShape) → is_script func ≡ false → is_method func ≡ false → has_the_given (manner_of func) shape ≡ false
@@ -83,6 +84,10 @@ has_object (funcs.Pure id context pure volatile) object args s = absurd cc
 has_object (funcs.Method id context pure volatile) object args s = absurd cc
 has_object (funcs.Script def env) object args s = refl
 
+-- a script may be called on a constant
+no_script : (plan : Plan) (pick : Pick) → is_script pick.func ≡ true → IsOnConstant plan pick → ⊥
+no_script plan pick s on = let q : true ≡ false = sym s ∙ on.native in absurd cc
+
 -- every end of a last step shows the first argument as it is in the end
 ends_first : {limits : Limits} {plan : Plan} {pick : Pick} {step : NativeStep} {end : End} → EndsBy limits plan pick step end → end.first_after ≡ first_at_end plan pick (gave_back step)
 ends_first {plan = plan} {pick = pick} (fails fault back is e) = ap (λ (x : End). x.first_after) e ∙ ap (first_at_end plan pick) (sym (ap gave_back is))
@@ -96,6 +101,10 @@ not_own end e h = cc
 -- faults by their numbers
 abbrev number : EvalAltResult → ℕ
 number (ErrorFunctionNotFound text pos) = 1
+number (ErrorDotExpr text pos) = 2
+number (ErrorIndexingType text pos) = 3
+number (ErrorParsing error pos) = 4
+number (ErrorNonPureMethodCallOnConstant name pos) = 5
 number (ErrorDataRace text pos) = 6
 number (ErrorMismatchOutputType wanted got pos) = 7
 number (ErrorMismatchDataType wanted got pos) = 8
@@ -160,6 +169,7 @@ module _ {B : Type 0} (o : Objects B) (w : World) where
     is_deep : w.engine.limits.level < level → seen node ≡ begun_node call level None [] [] (deep_end call) → ShowsEnd f level call node cut
     is_locked : (n : ℕ) → level ≤ w.engine.limits.level → locked_place (plan_of call).shape ≡ Some n → seen node ≡ begun_node call level None [] [] (locked_end call n) → ShowsEnd f level call node cut
     is_missing : level ≤ w.engine.limits.level → locked_place (plan_of call).shape ≡ None → seen node ≡ begun_node call level None [] [] (missing_end call) → ShowsEnd f level call node cut
+    is_constant : (own : Pick) → level ≤ w.engine.limits.level → locked_place (plan_of call).shape ≡ None → refusal w.engine level call ≡ None → IsAnsweredFirst w.engine f call own → IsOnConstant (plan_of call) own → seen node ≡ begun_node call level (Some own) [] [] (constant_end (plan_of call)) → ShowsEnd f level call node cut
     has_ended : (pick : Pick) (last : NativeStep) → level ≤ w.engine.limits.level → locked_place (plan_of call).shape ≡ None → (seen node).call ≡ call → EndsWith o w f (seen node) pick last → EndsBy w.engine.limits (plan_of (seen node).call) pick last (seen node).end → ShowsEnd f level call node cut
     was_cut : (pick : Pick) → cut ≡ true → level ≤ w.engine.limits.level → locked_place (plan_of call).shape ≡ None → (seen node).begun ≡ true → (seen node).pick ≡ Some pick → (seen node).end ≡ cut_end call → ShowsEnd f level call node cut
 
@@ -185,21 +195,23 @@ module _ {B : Type 0} (o : Objects B) (w : World) where
         ends = subst (λ (p : Plan). end_of w.engine p pick last ≡ Some end) is e;
       })
 
-  alone_by : (f : Frame) (level : ℕ) (call : CallRequest) (node : CallNode) (cut : Bool) (pick : Option Pick) (end : End) → pick ≡ None → EndsAlone w.engine f level call end → seen node ≡ begun_node call level pick [] [] end → ShowsEnd f level call node cut
-  alone_by f level call node cut pick end none (inl refused) s =
+  alone_by : (f : Frame) (level : ℕ) (call : CallRequest) (node : CallNode) (cut : Bool) (pick : Option Pick) (end : End) → EndsAlone w.engine f level call pick end → seen node ≡ begun_node call level pick [] [] end → ShowsEnd f level call node cut
+  alone_by f level call node cut pick end (is_refused none refused) s =
       let by : ((w.engine.limits.level < level) × (end ≡ deep_end call)) ⊎ ((level ≤ w.engine.limits.level) × (n : ℕ) × (locked_place (plan_of call).shape ≡ Some n) × (end ≡ locked_end call n)) → ShowsEnd f level call node cut =
       elim [
         | inl deep ↦ is_deep deep.0 (s ∙ (λ i. begun_node call level (none i) [] [] (deep.1 i)))
         | inr locked ↦ is_locked locked.1 locked.0 locked.2 (s ∙ (λ i. begun_node call level (none i) [] [] (locked.3 i)))
       ] in
       by (refused_parts call w.engine.limits.level level (ltb w.engine.limits.level level) (locked_place (plan_of call).shape) end refl (sym (refusal_is w.engine level call) ∙ refused))
-  alone_by f level call node cut pick end none (inr missing) s =
-      let u = unrefused level call missing.0 in is_missing u.0 u.1 (s ∙ (λ i. begun_node call level (none i) [] [] (missing.1 i)))
+  alone_by f level call node cut pick end (isnt_found none unrefused_is missing un) s =
+      let u = unrefused level call unrefused_is in is_missing u.0 u.1 (s ∙ (λ i. begun_node call level (none i) [] [] (missing i)))
+  alone_by f level call node cut pick end (on_constant own some unrefused_is first on constant) s =
+      let u = unrefused level call unrefused_is in is_constant own u.0 u.1 unrefused_is first on (s ∙ (λ i. begun_node call level (some i) [] [] (constant i)))
 
   pub runs_end : {f : Frame} {level : ℕ} {call : CallRequest} {node : CallNode} {before after : Moment B} {cut : Bool} → Runs o w f level call node before after cut → ShowsEnd f level call node cut
   runs_end (not_begun b s) = isnt_begun s
   runs_end (ended {f = f} {level = level} {call = call} {node = node} {pick = pick} {end = end} b d s) =
-      let m = ends_missing w.engine f level call pick end d in alone_by f level call node false pick end m.0 m.1 s
+      alone_by f level call node false pick end (ends_missing w.engine f level call pick end d) s
   runs_end (finished {f = f} {level = level} {call = call} {node = node} {before = before} {started = started} {after = after} {plan = plan} {pick = pick} {first = first} {last = last} {carries = carries} {children = children} {end = end} b d starts steps e s) =
       let r = runs_first w.engine f level call plan pick d in
       let u = unrefused level call r.0 in
@@ -210,6 +222,12 @@ module _ {B : Type 0} (o : Objects B) (w : World) where
       let u = unrefused level call (runs_first w.engine f level call plan pick d).0 in
       was_cut pick refl u.0 u.1 (ap (λ (x : Seen). x.begun) s) (ap (λ (x : Seen). x.pick) s) (ap (λ (x : Seen). x.end) s)
 
+  -- no last step ends a call with a fault of its own but for its kind or size
+  no_other : {pick : Pick} {last : NativeStep} {plan : Plan} (end : End) (fault : EvalAltResult) → EndsBy w.engine.limits plan pick last end → (number fault ≡ 7 → ⊥) → (number fault ≡ 11 → ⊥) → IsOwn end fault → ⊥
+  no_other {pick} {last} {plan} end fault by kind size h =
+      let one : OwnSize w.engine.limits plan pick last end fault ⊎ OwnKind w.engine.limits plan pick last end fault → ⊥ = elim [ inl r ↦ size (ap number r.says) | inr r ↦ kind (ap number r.says) ]
+      in one (own_last end fault by h)
+
   -- fault 6
   race_only : {f : Frame} {level : ℕ} {call : CallRequest} {node : CallNode} {cut : Bool} (text : Bytes) (pos : Position) → ShowsEnd f level call node cut → (seen node).begun ≡ true → IsOwn (seen node).end (ErrorDataRace text pos)
       → (level ≤ w.engine.limits.level) × NamesLocked call (ErrorDataRace text pos)
@@ -217,6 +235,7 @@ module _ {B : Type 0} (o : Objects B) (w : World) where
   race_only {node = node} text pos (is_deep deep s) begun h = absurd (no_fault (seen node).end (ap (λ (x : Seen). x.end.answer) s) h.1 (λ q. absurd (omega (arith, q))))
   race_only {call = call} {node = node} text pos (is_locked n l place s) begun h = (l, (n, place_first (plan_of call).shape n place, not_own (seen node).end (ap (λ (x : Seen). x.end.answer) s) h.1))
   race_only {node = node} text pos (is_missing l none s) begun h = absurd (no_fault (seen node).end (ap (λ (x : Seen). x.end.answer) s) h.1 (λ q. absurd (omega (arith, q))))
+  race_only {node = node} text pos (is_constant own l none u first on s) begun h = absurd (no_fault (seen node).end (ap (λ (x : Seen). x.end.answer) s) h.1 (λ q. absurd (omega (arith, q))))
   race_only {node = node} text pos (has_ended pick last l none c came by) begun h =
       let no : OwnSize w.engine.limits (plan_of (seen node).call) pick last (seen node).end (ErrorDataRace text pos) ⊎ OwnKind w.engine.limits (plan_of (seen node).call) pick last (seen node).end (ErrorDataRace text pos) → ⊥ =
       elim [ inl r ↦ (let q = ap number r.says in absurd (omega (arith, q))) | inr r ↦ (let q = ap number r.says in absurd (omega (arith, q))) ]
@@ -232,6 +251,7 @@ module _ {B : Type 0} (o : Objects B) (w : World) where
       let same : m ≡ n = cc in
       s ∙ ap (λ (k : ℕ). begun_node call level None [] [] (locked_end call k)) same
   race_shown {call = call} n (is_missing l' none s) begun l first = let q : None ≡ Some n = sym none ∙ first_place (plan_of call).shape n first in absurd cc
+  race_shown {call = call} n (is_constant own l' none u found on s) begun l first = let q : None ≡ Some n = sym none ∙ first_place (plan_of call).shape n first in absurd cc
   race_shown {call = call} n (has_ended pick last l' none c came by) begun l first = let q : None ≡ Some n = sym none ∙ first_place (plan_of call).shape n first in absurd cc
   race_shown {call = call} n (was_cut pick c l' none begun' shown e) begun l first = let q : None ≡ Some n = sym none ∙ first_place (plan_of call).shape n first in absurd cc
 
@@ -244,6 +264,41 @@ module _ {B : Type 0} (o : Objects B) (w : World) where
   pub race_exactly : {f : Frame} {level : ℕ} {call : CallRequest} {node : CallNode} {cut : Bool} (text : Bytes) (pos : Position) → ShowsEnd f level call node cut → (seen node).begun ≡ true
       → IsOwn (seen node).end (ErrorDataRace text pos) ↔ ((level ≤ w.engine.limits.level) × NamesLocked call (ErrorDataRace text pos))
   race_exactly text pos ends begun = (race_only text pos ends begun, race_back text pos ends begun)
+
+  -- fault 5
+  pub constant_only : {f : Frame} {level : ℕ} {call : CallRequest} {node : CallNode} {cut : Bool} (name : Bytes) (pos : Position) → ShowsEnd f level call node cut → (seen node).begun ≡ true → IsOwn (seen node).end (ErrorNonPureMethodCallOnConstant name pos)
+      → IsForNoConstant w.engine f level call (ErrorNonPureMethodCallOnConstant name pos)
+  constant_only name pos (isnt_begun s) begun h = let q : false ≡ true = sym (ap (λ (x : Seen). x.begun) s) ∙ begun in absurd cc
+  constant_only {node = node} name pos (is_deep deep s) begun h = absurd (no_fault (seen node).end (ap (λ (x : Seen). x.end.answer) s) h.1 (λ q. absurd (omega (arith, q))))
+  constant_only {node = node} name pos (is_locked n l place s) begun h = absurd (no_fault (seen node).end (ap (λ (x : Seen). x.end.answer) s) h.1 (λ q. absurd (omega (arith, q))))
+  constant_only {node = node} name pos (is_missing l none s) begun h = absurd (no_fault (seen node).end (ap (λ (x : Seen). x.end.answer) s) h.1 (λ q. absurd (omega (arith, q))))
+  constant_only {node = node} name pos (is_constant own l none u first on s) begun h = record { pick = own; unrefused = u; first = first; on = on; says = not_own (seen node).end (ap (λ (x : Seen). x.end.answer) s) h.1 }
+  constant_only {node = node} name pos (has_ended pick last l none c came by) begun h =
+      absurd (no_other (seen node).end (ErrorNonPureMethodCallOnConstant name pos) by (λ q. absurd (omega (arith, q))) (λ q. absurd (omega (arith, q))) h)
+  constant_only {node = node} name pos (was_cut pick c l none begun' shown e) begun h = absurd (no_fault (seen node).end (ap (λ (x : End). x.answer) e) h.1 (λ q. absurd (omega (arith, q))))
+
+  pub constant_shown : {f : Frame} {level : ℕ} {call : CallRequest} {node : CallNode} {before after : Moment B} {cut : Bool} (pick : Pick) → Runs o w f level call node before after cut → (seen node).begun ≡ true → refusal w.engine level call ≡ None → IsAnsweredFirst w.engine f call pick → IsOnConstant (plan_of call) pick
+      → seen node ≡ begun_node call level (Some pick) [] [] (constant_end (plan_of call))
+  constant_shown pick (not_begun b s) begun u first on = let q : false ≡ true = sym (ap (λ (x : Seen). x.begun) s) ∙ begun in absurd cc
+  constant_shown pick (ended {f = f} {level = level} {call = call} {pick = p} {end = end} b d s) begun u first on =
+      let q : decisions.ends p end ≡ decisions.ends (Some pick) (constant_end (plan_of call)) = sym d ∙ first_constant w.engine f level call pick u first on in
+      let shown : p ≡ Some pick = cc in
+      let same : end ≡ constant_end (plan_of call) = cc in
+      s ∙ (λ i. begun_node call level (shown i) [] [] (same i))
+  constant_shown pick (finished {f = f} {level = level} {call = call} {plan = plan} {pick = p} b d starts steps e s) begun u first on =
+      let q : decisions.runs plan p ≡ decisions.ends (Some pick) (constant_end (plan_of call)) = sym d ∙ first_constant w.engine f level call pick u first on in absurd cc
+  constant_shown pick (cut_short {f = f} {level = level} {call = call} {plan = plan} {pick = p} b d starts steps r s) begun u first on =
+      let q : decisions.runs plan p ≡ decisions.ends (Some pick) (constant_end (plan_of call)) = sym d ∙ first_constant w.engine f level call pick u first on in absurd cc
+
+  constant_back : {f : Frame} {level : ℕ} {call : CallRequest} {node : CallNode} {before after : Moment B} {cut : Bool} (name : Bytes) (pos : Position) → Runs o w f level call node before after cut → (seen node).begun ≡ true → IsForNoConstant w.engine f level call (ErrorNonPureMethodCallOnConstant name pos)
+      → IsOwn (seen node).end (ErrorNonPureMethodCallOnConstant name pos)
+  constant_back name pos r begun h =
+      let s = constant_shown h.pick r begun h.unrefused h.first h.on in
+      (ap (λ (x : Seen). x.end.whose) s, ap (λ (x : Seen). x.end.answer) s ∙ ap Err (sym h.says))
+
+  pub constant_exactly : {f : Frame} {level : ℕ} {call : CallRequest} {node : CallNode} {before after : Moment B} {cut : Bool} (name : Bytes) (pos : Position) → Runs o w f level call node before after cut → (seen node).begun ≡ true
+      → IsOwn (seen node).end (ErrorNonPureMethodCallOnConstant name pos) ↔ IsForNoConstant w.engine f level call (ErrorNonPureMethodCallOnConstant name pos)
+  constant_exactly name pos r begun = (constant_only name pos (runs_end r) begun, constant_back name pos r begun)
 
   -- faults 7 and 11
   kind_of_last : {f : Frame} (node : CallNode) {pick : Pick} {last : NativeStep} {fault : EvalAltResult} → EndsWith o w f (seen node) pick last → OwnKind w.engine.limits (plan_of (seen node).call) pick last (seen node).end fault → RefusesKind o w f (seen node) fault
@@ -276,6 +331,7 @@ module _ {B : Type 0} (o : Objects B) (w : World) where
   kind_only {node = node} wanted got pos (is_deep deep s) h = absurd (no_fault (seen node).end (ap (λ (x : Seen). x.end.answer) s) h.1 (λ q. absurd (omega (arith, q))))
   kind_only {node = node} wanted got pos (is_locked n l place s) h = absurd (no_fault (seen node).end (ap (λ (x : Seen). x.end.answer) s) h.1 (λ q. absurd (omega (arith, q))))
   kind_only {node = node} wanted got pos (is_missing l none s) h = absurd (no_fault (seen node).end (ap (λ (x : Seen). x.end.answer) s) h.1 (λ q. absurd (omega (arith, q))))
+  kind_only {node = node} wanted got pos (is_constant own l none u first on s) h = absurd (no_fault (seen node).end (ap (λ (x : Seen). x.end.answer) s) h.1 (λ q. absurd (omega (arith, q))))
   kind_only {f = f} {node = node} wanted got pos (has_ended pick last l none c came by) h =
       let one : OwnSize w.engine.limits (plan_of (seen node).call) pick last (seen node).end (ErrorMismatchOutputType wanted got pos) ⊎ OwnKind w.engine.limits (plan_of (seen node).call) pick last (seen node).end (ErrorMismatchOutputType wanted got pos) → RefusesKind o w f (seen node) (ErrorMismatchOutputType wanted got pos) =
       elim [ inl r ↦ (let q = ap number r.says in absurd (omega (arith, q))) | inr r ↦ kind_of_last node came r ]
@@ -296,6 +352,7 @@ module _ {B : Type 0} (o : Objects B) (w : World) where
   size_only {node = node} what pos (is_deep deep s) h = absurd (no_fault (seen node).end (ap (λ (x : Seen). x.end.answer) s) h.1 (λ q. absurd (omega (arith, q))))
   size_only {node = node} what pos (is_locked n l place s) h = absurd (no_fault (seen node).end (ap (λ (x : Seen). x.end.answer) s) h.1 (λ q. absurd (omega (arith, q))))
   size_only {node = node} what pos (is_missing l none s) h = absurd (no_fault (seen node).end (ap (λ (x : Seen). x.end.answer) s) h.1 (λ q. absurd (omega (arith, q))))
+  size_only {node = node} what pos (is_constant own l none u first on s) h = absurd (no_fault (seen node).end (ap (λ (x : Seen). x.end.answer) s) h.1 (λ q. absurd (omega (arith, q))))
   size_only {f = f} {node = node} what pos (has_ended pick last l none c came by) h =
       let one : OwnSize w.engine.limits (plan_of (seen node).call) pick last (seen node).end (ErrorDataTooLarge what pos) ⊎ OwnKind w.engine.limits (plan_of (seen node).call) pick last (seen node).end (ErrorDataTooLarge what pos) → RefusesSize o w f (seen node) (ErrorDataTooLarge what pos) =
       elim [ inl r ↦ size_of_last node came r | inr r ↦ (let q = ap number r.says in absurd (omega (arith, q))) ]
@@ -311,18 +368,13 @@ module _ {B : Type 0} (o : Objects B) (w : World) where
       → IsOwn (seen node).end (ErrorDataTooLarge what pos) ↔ RefusesSize o w f (seen node) (ErrorDataTooLarge what pos)
   size_exactly {node = node} what pos ends = (size_only what pos ends, size_back node (ErrorDataTooLarge what pos))
 
-  -- no last step ends a call with a fault of its own but for its kind or size
-  no_other : {pick : Pick} {last : NativeStep} {plan : Plan} (end : End) (fault : EvalAltResult) → EndsBy w.engine.limits plan pick last end → (number fault ≡ 7 → ⊥) → (number fault ≡ 11 → ⊥) → IsOwn end fault → ⊥
-  no_other {pick} {last} {plan} end fault by kind size h =
-      let one : OwnSize w.engine.limits plan pick last end fault ⊎ OwnKind w.engine.limits plan pick last end fault → ⊥ = elim [ inl r ↦ size (ap number r.says) | inr r ↦ kind (ap number r.says) ]
-      in one (own_last end fault by h)
-
   -- fault 9 is that of a spent budget
   pub spends_not : {f : Frame} {level : ℕ} {call : CallRequest} {node : CallNode} {cut : Bool} → ShowsEnd f level call node cut → cut ≡ false → (seen node).begun ≡ true → IsOwn (seen node).end (ErrorTooManyOperations (pos_of call)) → ⊥
   spends_not (isnt_begun s) lasts begun h = let q : false ≡ true = sym (ap (λ (x : Seen). x.begun) s) ∙ begun in absurd cc
   spends_not {node = node} (is_deep deep s) lasts begun h = no_fault (seen node).end (ap (λ (x : Seen). x.end.answer) s) h.1 (λ q. absurd (omega (arith, q)))
   spends_not {node = node} (is_locked n l place s) lasts begun h = no_fault (seen node).end (ap (λ (x : Seen). x.end.answer) s) h.1 (λ q. absurd (omega (arith, q)))
   spends_not {node = node} (is_missing l none s) lasts begun h = no_fault (seen node).end (ap (λ (x : Seen). x.end.answer) s) h.1 (λ q. absurd (omega (arith, q)))
+  spends_not {node = node} (is_constant own l none u first on s) lasts begun h = no_fault (seen node).end (ap (λ (x : Seen). x.end.answer) s) h.1 (λ q. absurd (omega (arith, q)))
   spends_not {call = call} {node = node} (has_ended pick last l none c came by) lasts begun h = no_other (seen node).end (ErrorTooManyOperations (pos_of call)) by (λ q. absurd (omega (arith, q))) (λ q. absurd (omega (arith, q))) h
   spends_not (was_cut pick c l none begun' shown e) lasts begun h = let q : true ≡ false = sym c ∙ lasts in absurd cc
 
@@ -332,6 +384,7 @@ module _ {B : Type 0} (o : Objects B) (w : World) where
   overflows (is_deep deep s) begun h = deep
   overflows {node = node} (is_locked n l place s) begun h = absurd (no_fault (seen node).end (ap (λ (x : Seen). x.end.answer) s) h.1 (λ q. absurd (omega (arith, q))))
   overflows {node = node} (is_missing l none s) begun h = absurd (no_fault (seen node).end (ap (λ (x : Seen). x.end.answer) s) h.1 (λ q. absurd (omega (arith, q))))
+  overflows {node = node} (is_constant own l none u first on s) begun h = absurd (no_fault (seen node).end (ap (λ (x : Seen). x.end.answer) s) h.1 (λ q. absurd (omega (arith, q))))
   overflows {call = call} {node = node} (has_ended pick last l none c came by) begun h = absurd (no_other (seen node).end (ErrorStackOverflow (pos_of call)) by (λ q. absurd (omega (arith, q))) (λ q. absurd (omega (arith, q))) h)
   overflows {node = node} (was_cut pick c l none begun' shown e) begun h = absurd (no_fault (seen node).end (ap (λ (x : End). x.answer) e) h.1 (λ q. absurd (omega (arith, q))))
 
@@ -342,6 +395,7 @@ module _ {B : Type 0} (o : Objects B) (w : World) where
   refused_only value (is_deep deep s) h = let q : None ≡ Some value = sym (ap (λ (x : Seen). x.end.refused) s) ∙ h in absurd cc
   refused_only value (is_locked n l place s) h = let q : None ≡ Some value = sym (ap (λ (x : Seen). x.end.refused) s) ∙ h in absurd cc
   refused_only value (is_missing l none s) h = let q : None ≡ Some value = sym (ap (λ (x : Seen). x.end.refused) s) ∙ h in absurd cc
+  refused_only value (is_constant own l none u first on s) h = let q : None ≡ Some value = sym (ap (λ (x : Seen). x.end.refused) s) ∙ h in absurd cc
   refused_only {f = f} {node = node} value (has_ended pick last l none c came by) h =
       let one : RefusedLast w.engine.limits (plan_of (seen node).call) pick last (seen node).end value → RefusesValue o w f (seen node) value =
       elim [ inl r ↦ for_size (size_of_last node came r.1) r.2 | inr r ↦ for_kind (kind_of_last node came r.1) r.2 ]
@@ -361,6 +415,7 @@ module _ {B : Type 0} (o : Objects B) (w : World) where
   first_alone (is_deep deep s) h = ap (λ (x : Seen). x.end.first_after) s
   first_alone (is_locked n l place s) h = ap (λ (x : Seen). x.end.first_after) s
   first_alone {call = call} (is_missing l none s) h = ap (λ (x : Seen). x.end.first_after) s ∙ plan_given call
+  first_alone (is_constant own l none u first on s) h = let q : Some own ≡ None = sym (ap (λ (x : Seen). x.pick) s) ∙ h in absurd cc
   first_alone (has_ended pick last l none c came by) h = let q : Some pick ≡ None = sym came.shown ∙ h in absurd cc
   first_alone (was_cut pick c l none begun shown e) h = let q : Some pick ≡ None = sym shown ∙ h in absurd cc
 
@@ -370,32 +425,43 @@ module _ {B : Type 0} (o : Objects B) (w : World) where
     came : EndsWith o w f (seen node) pick last
     first : (seen node).end.first_after ≡ first_at_end (plan_of call) pick (gave_back last)
 
-  ran_first : {f : Frame} {level : ℕ} {call : CallRequest} {node : CallNode} {cut : Bool} (pick : Pick) → ShowsEnd f level call node cut → cut ≡ false → (seen node).pick ≡ Some pick → RanFirst f call node pick
+  ran_first : {f : Frame} {level : ℕ} {call : CallRequest} {node : CallNode} {cut : Bool} (pick : Pick) → ShowsEnd f level call node cut → cut ≡ false → (seen node).pick ≡ Some pick → RanFirst f call node pick ⊎ (IsOnConstant (plan_of call) pick × ((seen node).end.first_after ≡ given call))
   ran_first pick (isnt_begun s) lasts h = let q : None ≡ Some pick = sym (ap (λ (x : Seen). x.pick) s) ∙ h in absurd cc
   ran_first pick (is_deep deep s) lasts h = let q : None ≡ Some pick = sym (ap (λ (x : Seen). x.pick) s) ∙ h in absurd cc
   ran_first pick (is_locked n l place s) lasts h = let q : None ≡ Some pick = sym (ap (λ (x : Seen). x.pick) s) ∙ h in absurd cc
   ran_first pick (is_missing l none s) lasts h = let q : None ≡ Some pick = sym (ap (λ (x : Seen). x.pick) s) ∙ h in absurd cc
+  ran_first {call = call} pick (is_constant own l none u first on s) lasts h =
+      let q : Some own ≡ Some pick = sym (ap (λ (x : Seen). x.pick) s) ∙ h in
+      let same : own ≡ pick = cc in inr (subst (IsOnConstant (plan_of call)) same on, ap (λ (x : Seen). x.end.first_after) s ∙ plan_given call)
   ran_first {f = f} {call = call} {node = node} pick (has_ended own last l none c came by) lasts h =
       let q : Some own ≡ Some pick = sym came.shown ∙ h in
       let same : own ≡ pick = cc in
-      record {
+      inl (record {
         last = last;
         came = subst (λ (x : Pick). EndsWith o w f (seen node) x last) same came;
         first = ends_first by ∙ (λ i. first_at_end (plan_of (c i)) (same i) (gave_back last));
-      }
+      })
   ran_first pick (was_cut own c l none begun shown e) lasts h = let q : true ≡ false = sym c ∙ lasts in absurd cc
 
   pub first_copied : {f : Frame} {level : ℕ} {call : CallRequest} {node : CallNode} {cut : Bool} (pick : Pick) → ShowsEnd f level call node cut → cut ≡ false → (seen node).pick ≡ Some pick → has_the_given (manner_of pick.func) (plan_of call).shape ≡ false
       → (seen node).end.first_after ≡ given call
-  first_copied {call = call} pick ends lasts h copy =
-      let r = ran_first pick ends lasts h in
-      r.first ∙ ap (λ (b : Bool). if b then gave_back r.last else (plan_of call).given) copy ∙ plan_given call
+  first_copied {f} {call = call} {node = node} pick ends lasts h copy =
+      let by : RanFirst f call node pick ⊎ (IsOnConstant (plan_of call) pick × ((seen node).end.first_after ≡ given call)) → (seen node).end.first_after ≡ given call =
+      elim [
+        | inl r ↦ r.first ∙ ap (λ (b : Bool). if b then gave_back r.last else (plan_of call).given) copy ∙ plan_given call
+        | inr r ↦ r.1
+      ] in
+      by (ran_first pick ends lasts h)
 
-  pub first_itself : {f : Frame} {level : ℕ} {call : CallRequest} {node : CallNode} {cut : Bool} (pick : Pick) → ShowsEnd f level call node cut → cut ≡ false → (seen node).pick ≡ Some pick → has_the_given (manner_of pick.func) (plan_of call).shape ≡ true
+  pub first_itself : {f : Frame} {level : ℕ} {call : CallRequest} {node : CallNode} {cut : Bool} (pick : Pick) → ShowsEnd f level call node cut → cut ≡ false → (seen node).pick ≡ Some pick → (IsOnConstant (plan_of call) pick → ⊥) → has_the_given (manner_of pick.func) (plan_of call).shape ≡ true
       → GivesBack o w f (seen node) pick
-  first_itself {call = call} pick ends lasts h itself =
-      let r = ran_first pick ends lasts h in
-      (r.last, r.came, r.first ∙ ap (λ (b : Bool). if b then gave_back r.last else (plan_of call).given) itself)
+  first_itself {f} {call = call} {node = node} pick ends lasts h free itself =
+      let by : RanFirst f call node pick ⊎ (IsOnConstant (plan_of call) pick × ((seen node).end.first_after ≡ given call)) → GivesBack o w f (seen node) pick =
+      elim [
+        | inl r ↦ (r.last, r.came, r.first ∙ ap (λ (b : Bool). if b then gave_back r.last else (plan_of call).given) itself)
+        | inr r ↦ absurd (free r.0)
+      ] in
+      by (ran_first pick ends lasts h)
 
   -- by the function and the shape
   pub native_leaves : {f : Frame} {level : ℕ} {call : CallRequest} {node : CallNode} {cut : Bool} (pick : Pick) → ShowsEnd f level call node cut → cut ≡ false → (seen node).pick ≡ Some pick → is_script pick.func ≡ false → is_method pick.func ≡ false
@@ -407,10 +473,10 @@ module _ {B : Type 0} (o : Objects B) (w : World) where
   script_leaves {call = call} pick first args ends lasts h s is =
       first_copied pick ends lasts h (ap (has_the_given (manner_of pick.func)) is ∙ copies_script pick.func first args s) ∙ sym (given_shape call) ∙ ap first_given is
 
-  pub method_gives : {f : Frame} {level : ℕ} {call : CallRequest} {node : CallNode} {cut : Bool} (pick : Pick) (first : Tree) → ShowsEnd f level call node cut → cut ≡ false → (seen node).pick ≡ Some pick → is_method pick.func ≡ true → given call ≡ Some first
+  pub method_gives : {f : Frame} {level : ℕ} {call : CallRequest} {node : CallNode} {cut : Bool} (pick : Pick) (first : Tree) → ShowsEnd f level call node cut → cut ≡ false → (seen node).pick ≡ Some pick → is_method pick.func ≡ true → (IsOnConstant (plan_of call) pick → ⊥) → given call ≡ Some first
       → GivesBack o w f (seen node) pick
-  method_gives {call = call} pick first ends lasts h m is = first_itself pick ends lasts h (has_in_method pick.func (plan_of call).shape first m (given_shape call ∙ is))
+  method_gives {call = call} pick first ends lasts h m free is = first_itself pick ends lasts h free (has_in_method pick.func (plan_of call).shape first m (given_shape call ∙ is))
 
   pub object_gives : {f : Frame} {level : ℕ} {call : CallRequest} {node : CallNode} {cut : Bool} (pick : Pick) (object : Tree) (args : List Tree) → ShowsEnd f level call node cut → cut ≡ false → (seen node).pick ≡ Some pick → is_script pick.func ≡ true
       → (plan_of call).shape ≡ Method object args → GivesBack o w f (seen node) pick
-  object_gives pick object args ends lasts h s is = first_itself pick ends lasts h (ap (has_the_given (manner_of pick.func)) is ∙ has_object pick.func object args s)
+  object_gives {call = call} pick object args ends lasts h s is = first_itself pick ends lasts h (no_script (plan_of call) pick s) (ap (has_the_given (manner_of pick.func)) is ∙ has_object pick.func object args s)

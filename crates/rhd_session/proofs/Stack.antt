@@ -18,7 +18,7 @@ use Rattle.rhd_session.specs.declared.machine.Outcome.{Outcome}
 use Rattle.rhd_session.specs.declared.machine.Outcome.TheVariants.{Waiting, Finished}
 use Rattle.rhd_session.specs.declared.machine.Hand.{Hand}
 use Rattle.rhd_session.specs.declared.machine.Hand.TheVariants.{Asked, Answered}
-use Rattle.rhd_session.specs.Held.{func_held, all_held}
+use Rattle.rhd_session.specs.Held.{func_held, all_held, builtins_held}
 use Rattle.rhd_session.specs.Nodes.{nodes_in}
 use Rattle.rhd_session.specs.Plans.{Plan, plan_of}
 use Rattle.rhd_session.specs.declared.ends.End.{End}
@@ -219,14 +219,14 @@ module _ {B : Type 0} (o : Objects B) (w : World) where
 
   -- the function of the top is held
   pub top_held : (stack : List Suspended) (frame : Suspended) (base : Frame) (call : CallRequest) (before after : Moment B) (hand : Hand) (n : ℕ) →
-      all_held n w.engine.globals ≡ true → all_held n base.libs ≡ true → Going o w (stack ++ frame ∷ []) base call before hand after → func_held n frame.work.pick.func ≡ true
-  top_held stack frame base call before after hand n globals libs g =
+      all_held n w.engine.globals ≡ true → all_held n base.libs ≡ true → builtins_held n w.engine.builtins ≡ true → Going o w (stack ++ frame ∷ []) base call before hand after → func_held n frame.work.pick.func ≡ true
+  top_held stack frame base call before after hand n globals libs bs g =
       let q = opened_at stack frame base g.f call g.waited before g.mid g.waits in
       open_held q.opened libs
     where
       open_held : {f inner : Frame} {level : ℕ} {own waited : CallRequest} {begun mid : Moment B} → Open o w f level own frame inner waited begun mid → all_held n f.libs ≡ true → func_held n frame.work.pick.func ≡ true
       open_held (function_waits {f = f} {level = level} {call = own} {plan = plan} {pick = pick} k b d s steps) libs' =
-          ap (λ (x : Kept). func_held n x.pick.func) k ∙ runs_is_held w.engine f level own plan pick n globals libs' d
+          ap (λ (x : Kept). func_held n x.pick.func) k ∙ runs_is_held w.engine f level own plan pick n globals libs' bs d
 
   -- a call that waits is closed
   cut_opened : {f inner : Frame} {level : ℕ} {own waited : CallRequest} {frame : Suspended} {child node : CallNode} {begun mid after : Moment B} →

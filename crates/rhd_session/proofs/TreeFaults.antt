@@ -20,7 +20,7 @@ use Rattle.rhd_session.specs.Runs.{Runs, not_begun, ended, finished, cut_short}
 use Rattle.rhd_session.specs.Trees.{InTree, is_root, frame_at}
 use Rattle.rhd_session.proofs.Found.{runs_within, decided_deep, deep_end, locked_end, refused_where, refusal_is, deep_refused}
 use Rattle.rhd_session.proofs.NodeEnds.{runs_end, spends_not, overflows}
-use Rattle.rhd_session.proofs.FirstAnswered.{first_runs, shows_first, shows_missing, shows_unbegun}
+use Rattle.rhd_session.proofs.FirstAnswered.{ends_pick, runs_pick, shows_first, shows_missing, shows_unbegun}
 use Rattle.rhd_session.proofs.TreeLaws.{tree_runs, runs_begun}
 
 not_deep : (call : CallRequest) (n : ℕ) → locked_end call n ≡ deep_end call → ⊥
@@ -83,21 +83,16 @@ module _ {B : Type 0} (o : Objects B) (w : World) where
   -- a call that is begun has a pick exactly where nothing refuses it, and that is the first that is found
   first_shown : {f : Frame} {level : ℕ} {call : CallRequest} {node : CallNode} {before after : Moment B} {cut : Bool} (pick : Pick) → Runs o w f level call node before after cut → (seen node).begun ≡ true → (refusal w.engine level call ≡ None) × IsAnsweredFirst w.engine f call pick → (seen node).pick ≡ Some pick
   first_shown pick (not_begun b s) begun h = let q : false ≡ true = sym (ap (λ (x : Seen). x.begun) s) ∙ begun in absurd cc
-  first_shown pick (ended {f = f} {level = level} {call = call} {pick = p} {end = end} b d s) begun h =
-      let q : ends p end ≡ runs (plan_of call) pick = sym d ∙ first_runs w.engine f level call (plan_of call) pick (h.0, refl, h.1) in absurd cc
-  first_shown pick (finished {f = f} {level = level} {call = call} {plan = plan} {pick = p} b d starts steps e s) begun h =
-      let q : runs plan p ≡ runs (plan_of call) pick = sym d ∙ first_runs w.engine f level call (plan_of call) pick (h.0, refl, h.1) in
-      let same : p ≡ pick = cc in ap (λ (x : Seen). x.pick) s ∙ ap Some same
-  first_shown pick (cut_short {f = f} {level = level} {call = call} {plan = plan} {pick = p} b d starts steps r s) begun h =
-      let q : runs plan p ≡ runs (plan_of call) pick = sym d ∙ first_runs w.engine f level call (plan_of call) pick (h.0, refl, h.1) in
-      let same : p ≡ pick = cc in ap (λ (x : Seen). x.pick) s ∙ ap Some same
+  first_shown pick (ended {f = f} {level = level} {call = call} {pick = p} {end = end} b d s) begun h = ap (λ (x : Seen). x.pick) s ∙ ends_pick w.engine f level call pick p end h d
+  first_shown pick (finished {f = f} {level = level} {call = call} {plan = plan} {pick = p} b d starts steps e s) begun h = ap (λ (x : Seen). x.pick) s ∙ ap Some (runs_pick w.engine f level call pick plan p h d)
+  first_shown pick (cut_short {f = f} {level = level} {call = call} {plan = plan} {pick = p} b d starts steps r s) begun h = ap (λ (x : Seen). x.pick) s ∙ ap Some (runs_pick w.engine f level call pick plan p h d)
 
   -- so has each call of a tree, by the frame in which it is asked for
   pub tree_picked : {node root : CallNode} (inside : InTree node root) {f : Frame} {level : ℕ} {call : CallRequest} {before after : Moment B} {cut : Bool} (pick : Pick) → Runs o w f level call root before after cut → (seen node).begun ≡ true →
       ((seen node).pick ≡ Some pick) ↔ ((refusal w.engine (seen node).level (seen node).call ≡ None) × IsAnsweredFirst w.engine (frame_at f inside) (seen node).call pick)
   tree_picked inside pick r begun = (λ h. shows_first pick (tree_runs o w inside r).3 h, λ h. first_shown pick (tree_runs o w inside r).3 begun h)
 
-  pub tree_alone : {node root : CallNode} (inside : InTree node root) {f : Frame} {level : ℕ} {call : CallRequest} {before after : Moment B} {cut : Bool} → Runs o w f level call root before after cut → (seen node).begun ≡ true → (seen node).pick ≡ None → EndsAlone w.engine (frame_at f inside) (seen node).level (seen node).call (seen node).end
+  pub tree_alone : {node root : CallNode} (inside : InTree node root) {f : Frame} {level : ℕ} {call : CallRequest} {before after : Moment B} {cut : Bool} → Runs o w f level call root before after cut → (seen node).begun ≡ true → (seen node).pick ≡ None → EndsAlone w.engine (frame_at f inside) (seen node).level (seen node).call None (seen node).end
   tree_alone inside r begun h = shows_missing (tree_runs o w inside r).3 begun h
 
   pub tree_unbegun : {node root : CallNode} (inside : InTree node root) {f : Frame} {level : ℕ} {call : CallRequest} {before after : Moment B} {cut : Bool} → Runs o w f level call root before after cut → (seen node).begun ≡ false → seen node ≡ unbegun_node (seen node).call (seen node).level

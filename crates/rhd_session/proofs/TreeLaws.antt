@@ -26,7 +26,8 @@ use Rattle.rhd_session.specs.Trees.{InTree, is_root, is_below, frame_at, RunsAt,
 use Rattle.rhd_session.specs.Requests.{Requests, no_more, the_last, one_then, ShowsRequests}
 use Rattle.rhd_session.proofs.Found.{runs_within, runs_plan}
 use Rattle.rhd_session.proofs.Stepped.{starts_begun, resumes_begun}
-use Rattle.rhd_session.proofs.FirstAnswered.{ends_missing}
+use Rattle.rhd_session.specs.FirstAsks.{IsOnConstant}
+use Rattle.rhd_session.proofs.FirstAnswered.{ends_missing, constant_of, runs_first}
 
 -- how many calls were begun, of a node with the trees of its children
 row_count : (n : _) (row : Row_of-CallNode n) → begun_in_row row ≡ sum_by begun_in (items-the_row-CallNode n row)
@@ -37,11 +38,11 @@ nodes_count : (nodes : Nodes) → begun_in_nodes nodes ≡ sum_by begun_in (node
 nodes_count (Nodes' shape row) = row_count _ row ∙ ap (sum_by begun_in) (sym (nodes_in_row shape row))
 
 pub parts_count : (node : CallNode) → begun_in node ≡ (if (seen node).begun then 1 else 0) + sum_by begun_in (seen node).children
-parts_count (CallNode' call level begun pick carries children answer whose after refused) =
-    let b : (seen (CallNode' call level begun pick carries children answer whose after refused)).begun ≡ begun = search (rules, the_lemmas) in
-    let ns : (out-CallNode (CallNode' call level begun pick carries children answer whose after refused)).children ≡ children = search (rules, the_lemmas) in
+parts_count (CallNode' call level begun pick carries children answer whose after printed refused) =
+    let b : (seen (CallNode' call level begun pick carries children answer whose after printed refused)).begun ≡ begun = search (rules, the_lemmas) in
+    let ns : (out-CallNode (CallNode' call level begun pick carries children answer whose after printed refused)).children ≡ children = search (rules, the_lemmas) in
     ap (λ k. (if begun then 1 else 0) + k) (nodes_count children) ∙ ap (λ (x : Bool). (if x then 1 else 0) + sum_by begun_in (nodes_in children)) (sym b)
-    ∙ ap (λ (x : Nodes). (if (seen (CallNode' call level begun pick carries children answer whose after refused)).begun then 1 else 0) + sum_by begun_in (nodes_in x)) (sym ns)
+    ∙ ap (λ (x : Nodes). (if (seen (CallNode' call level begun pick carries children answer whose after printed refused)).begun then 1 else 0) + sum_by begun_in (nodes_in x)) (sym ns)
 
 begun_count : (node : CallNode) {call : CallRequest} {level : ℕ} {pick : Option Pick} {carries : List Carry} {children : List CallNode} {end : End} → seen node ≡ begun_node call level pick carries children end → begun_in node ≡ 1 + sum_by begun_in children
 begun_count node s = parts_count node ∙ ap (λ (x : Seen). (if x.begun then 1 else 0) + sum_by begun_in x.children) s
@@ -164,16 +165,16 @@ module _ {B : Type 0} (o : Objects B) (w : World) where
       (subst (λ (x : Plan). (before : Moment B) × (step : NativeStep) × (after : Moment B) × Starts o (context f level x) p.func (received_by x p) before step after × Requests o w f level call x p step carries children end cut) is (from, first, to, starts, requests)))
 
   -- the children of a node with a pick are its requests
-  pub runs_requests : {f : Frame} {level : ℕ} {call : CallRequest} {node : CallNode} {before after : Moment B} {cut : Bool} (pick : Pick) → Runs o w f level call node before after cut → (seen node).pick ≡ Some pick → ShowsRequests o w f (seen node) pick cut
-  runs_requests pick (not_begun b s) h = let q : None ≡ Some pick = sym (ap (λ (x : Seen). x.pick) s) ∙ h in absurd cc
-  runs_requests pick (ended {f = f} {level = level} {call = call} {pick = p} {end = end} b d s) h =
-      let q : None ≡ Some pick = sym (ends_missing w.engine f level call p end d).0 ∙ sym (ap (λ (x : Seen). x.pick) s) ∙ h in absurd cc
-  runs_requests pick (finished {f = f} {level = level} {call = call} {node = node} {plan = plan} {pick = p} {first = first} {carries = carries} {children = children} {end = end} b d starts steps e s) h =
+  pub runs_requests : {f : Frame} {level : ℕ} {call : CallRequest} {node : CallNode} {before after : Moment B} {cut : Bool} (pick : Pick) → Runs o w f level call node before after cut → (seen node).pick ≡ Some pick → (IsOnConstant (plan_of call) pick → ⊥) → ShowsRequests o w f (seen node) pick cut
+  runs_requests pick (not_begun b s) h free = let q : None ≡ Some pick = sym (ap (λ (x : Seen). x.pick) s) ∙ h in absurd cc
+  runs_requests pick (ended {f = f} {level = level} {call = call} {pick = p} {end = end} b d s) h free =
+      absurd (free (constant_of w.engine f level call p end pick (ends_missing w.engine f level call p end d) (sym (ap (λ (x : Seen). x.pick) s) ∙ h)))
+  runs_requests pick (finished {f = f} {level = level} {call = call} {node = node} {plan = plan} {pick = p} {first = first} {carries = carries} {children = children} {end = end} b d starts steps e s) h free =
       shows_by f level call node plan p pick first carries children end false _ _ (runs_plan w.engine f level call plan p d) s h starts
       (subst (λ (ks : List Carry). Requests o w f level call plan p first ks children end false) (append-nil carries)
       (subst (λ (ns : List CallNode). Requests o w f level call plan p first (carries ++ []) ns end false) (append-nil children)
       (steps_requests steps (no_more e))))
-  runs_requests pick (cut_short {f = f} {level = level} {call = call} {node = node} {child = child} {plan = plan} {pick = p} {first = first} {carries = carries} {carry = carry} {children = children} b d starts steps r s) h =
+  runs_requests pick (cut_short {f = f} {level = level} {call = call} {node = node} {child = child} {plan = plan} {pick = p} {first = first} {carries = carries} {carry = carry} {children = children} b d starts steps r s) h free =
       shows_by f level call node plan p pick first (carries ++ carry ∷ []) (children ++ child ∷ []) (cut_end call) true _ _ (runs_plan w.engine f level call plan p d) s h starts
       (steps_requests steps (the_last (ap (λ (c : CallRequest). Ask c carry) (sym (runs_shows r).0)) (runs_cut r refl) refl))
 
@@ -183,6 +184,17 @@ module _ {B : Type 0} (o : Objects B) (w : World) where
   runs_alone (ended b d s) h = (ap (λ (x : Seen). x.carries) s, ap (λ (x : Seen). x.children) s)
   runs_alone (finished {pick = p} b d starts steps e s) h = let q : Some p ≡ None = sym (ap (λ (x : Seen). x.pick) s) ∙ h in absurd cc
   runs_alone (cut_short {pick = p} b d starts steps r s) h = let q : Some p ≡ None = sym (ap (λ (x : Seen). x.pick) s) ∙ h in absurd cc
+
+  -- nor are there any of a function that isn't for a constant
+  pub runs_constant : {f : Frame} {level : ℕ} {call : CallRequest} {node : CallNode} {before after : Moment B} {cut : Bool} (pick : Pick) → Runs o w f level call node before after cut → (seen node).pick ≡ Some pick → IsOnConstant (plan_of call) pick → ((seen node).carries ≡ []) × ((seen node).children ≡ [])
+  runs_constant pick (not_begun b s) h on = (ap (λ (x : Seen). x.carries) s, ap (λ (x : Seen). x.children) s)
+  runs_constant pick (ended b d s) h on = (ap (λ (x : Seen). x.carries) s, ap (λ (x : Seen). x.children) s)
+  runs_constant pick (finished {f = f} {level = level} {call = call} {plan = plan} {pick = p} b d starts steps e s) h on =
+      let q : Some p ≡ Some pick = sym (ap (λ (x : Seen). x.pick) s) ∙ h in
+      let same : p ≡ pick = cc in absurd ((runs_first w.engine f level call plan p d).3 (subst (IsOnConstant (plan_of call)) (sym same) on))
+  runs_constant pick (cut_short {f = f} {level = level} {call = call} {plan = plan} {pick = p} b d starts steps r s) h on =
+      let q : Some p ≡ Some pick = sym (ap (λ (x : Seen). x.pick) s) ∙ h in
+      let same : p ≡ pick = cc in absurd ((runs_first w.engine f level call plan p d).3 (subst (IsOnConstant (plan_of call)) (sym same) on))
 
   -- a child of a call at this level in this frame runs by itself
   abbrev pub RunsUnder : Frame → ℕ → CallNode → Type 0

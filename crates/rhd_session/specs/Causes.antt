@@ -7,7 +7,7 @@ use Rattle.rhd_value.specs.declared.tag.Sizes.{Sizes}
 use Rattle.rhd_value.specs.declared.tag.TypeTag.{TypeTag}
 use Rattle.rhd_value.specs.declared.tag.TypeTag.TheVariants as tags
 use Rattle.rhd_value.specs.declared.fault.EvalAltResult.{EvalAltResult}
-use Rattle.rhd_value.specs.declared.fault.EvalAltResult.TheVariants.{ErrorDataRace, ErrorMismatchOutputType, ErrorDataTooLarge}
+use Rattle.rhd_value.specs.declared.fault.EvalAltResult.TheVariants.{ErrorNonPureMethodCallOnConstant, ErrorDataRace, ErrorMismatchOutputType, ErrorDataTooLarge}
 use Rattle.rhd_func.specs.declared.request.CallRequest.{CallRequest}
 use Rattle.rhd_func.specs.declared.request.CallShape.{CallShape}
 use Rattle.rhd_func.specs.declared.request.CallShape.TheVariants.{Plain, ByRef, Method}
@@ -15,7 +15,7 @@ use Rattle.rhd_func.specs.declared.request.NativeStep.{NativeStep}
 use Rattle.rhd_func.specs.declared.request.NativeStep.TheVariants.{Done, Failed, Ask}
 use Rattle.rhd_func.specs.Funcs.{is_script}
 use Rattle.rhd_func.specs.Shapes.{pos_of}
-use Rattle.rhd_session.specs.Engine.{Frame}
+use Rattle.rhd_session.specs.Engine.{EngineLists, Frame}
 use Rattle.rhd_session.specs.World.{World, Objects, Moment}
 use Rattle.rhd_session.specs.declared.ends.End.{End}
 use Rattle.rhd_session.specs.declared.limits.Limits.{Limits}
@@ -24,7 +24,8 @@ use Rattle.rhd_session.specs.declared.pick.Pick.{Pick}
 use Rattle.rhd_session.specs.Display.{display}
 use Rattle.rhd_session.specs.Plans.{Plan, plan_of}
 use Rattle.rhd_session.specs.Ends.{first_at_end, end_of}
-use Rattle.rhd_session.specs.Decisions.{locked_text}
+use Rattle.rhd_session.specs.Decisions.{locked_text, refusal}
+use Rattle.rhd_session.specs.FirstAsks.{IsAnsweredFirst, IsOnConstant}
 use Rattle.rhd_session.specs.Entered.{context}
 use Rattle.rhd_session.specs.Seen.{Seen}
 use Rattle.rhd_session.specs.Steps.{Starts}
@@ -60,6 +61,14 @@ IsFirstLocked shape n = IsLocked shape n × ((m : ℕ) → m < n → IsLocked sh
 -- the fault that names the first of them
 abbrev pub NamesLocked : CallRequest → EvalAltResult → Type 0
 NamesLocked call fault = (n : ℕ) × IsFirstLocked (plan_of call).shape n × (fault ≡ ErrorDataRace (locked_text (plan_of call).name n) (pos_of call))
+
+-- Nothing refuses the call, and the function of the first ask that is found isn't for a constant; the fault has the name.
+pub record IsForNoConstant (e : EngineLists) (f : Frame) (level : ℕ) (call : CallRequest) (fault : EvalAltResult) : Type 0 where
+  pub pick : Pick
+  pub unrefused : refusal e level call ≡ None
+  pub first : IsAnsweredFirst e f call pick
+  pub on : IsOnConstant (plan_of call) pick
+  pub says : fault ≡ ErrorNonPureMethodCallOnConstant (plan_of call).name (plan_of call).pos
 
 -- no count of a value passes its limit
 abbrev pub IsWithin : Limits → Sizes → Type 0

@@ -25,11 +25,11 @@ use Rattle.rhd_session.specs.Received.{manner_of, first_after}
 
 -- a fault of the call itself, where no value was refused
 abbrev pub failed : Option Tree → EvalAltResult → End
-failed first fault = record { answer = Err fault; whose = Call; first_after = first; refused = None }
+failed first fault = record { answer = Err fault; whose = Call; first_after = first; printed = None; refused = None }
 
 -- a fault of the call itself, which refuses this value
 abbrev pub refusing : Option Tree → Tree → EvalAltResult → End
-refusing first v fault = record { answer = Err fault; whose = Call; first_after = first; refused = Some v }
+refusing first v fault = record { answer = Err fault; whose = Call; first_after = first; printed = None; refused = Some v }
 
 -- The value isn't of the wanted kind. A call that wants no kind, or the kind of any value, takes each.
 abbrev pub not_wanted : Option TypeTag → Position → Tree → Option EvalAltResult
@@ -40,7 +40,7 @@ not_wanted (Some want) pos v = where_holds (not (tag_eq want (tag_of v))) (Error
 -- a value that is tested for the wanted kind alone
 abbrev pub accepted : Plan → Whose → Option Tree → Tree → End
 accepted plan whose first v = elim (not_wanted plan.want plan.pos v) as (λ _. End) [
-  | None ↦ record { answer = Ok v; whose = whose; first_after = first; refused = None }
+  | None ↦ record { answer = Ok v; whose = whose; first_after = first; printed = None; refused = None }
   | Some fault ↦ refusing first v fault
 ]
 
@@ -80,7 +80,7 @@ done limits plan pick back v = elim (unfit limits plan pick back v) as (λ _. En
 
 -- its own fault is handed on unchanged
 abbrev pub handed_on : Plan → Pick → Option Tree → EvalAltResult → End
-handed_on plan pick back fault = record { answer = Err fault; whose = Called; first_after = first_at_end plan pick back; refused = None }
+handed_on plan pick back fault = record { answer = Err fault; whose = Called; first_after = first_at_end plan pick back; printed = None; refused = None }
 
 -- how a call ends with the last step of its function; a request is no end
 unfoldable pub end_of : EngineLists → Plan → Pick → NativeStep → Option End

@@ -15,7 +15,7 @@ abbrev pub natives_of : {X : Type 0} {F : X → Type 0} → Session X F → Nati
 natives_of session = session.natives
 
 unfoldable pub world_of : {X : Type 0} {F : X → Type 0} → ((x : X) × F x → NativeInfo) → Session X F → World
-world_of info session = record { engine = record { globals = session.global ∷ []; natives = infos_of info session.natives; limits = session.limits }; modules = session.modules.items }
+world_of info session = record { engine = record { globals = session.global ∷ []; natives = infos_of info session.natives; builtins = session.builtins; limits = session.limits; printers = session.printers }; modules = session.modules.items }
 
 -- the frame in which its commands are done
 abbrev pub frame_of : {X : Type 0} {F : X → Type 0} → Session X F → Frame

@@ -9,12 +9,12 @@ ghost use Rattle.rhd_session.specs.World.{Moment, moment};
 ghost use Rattle.rhd_session.specs.Objects.{objects_of};
 ghost use Rattle.rhd_value.specs.Firsts.{first_of};
 ghost use Rattle.rhd_session.specs.Held.{func_held};
-ghost use Rattle.rhd_session.specs.Asks.{looked, allowed_asks, typed_asks, native_ask};
+ghost use Rattle.rhd_session.specs.Asks.{looked, allowed_asks, typed_asks};
 ghost use Rattle.rhd_session.specs.Searched.{found};
 ghost use Rattle.rhd_session.specs.Plans.{plan_of};
 ghost use Rattle.rhd_session.specs.NotFound.{not_found};
 ghost use Rattle.rhd_session.specs.Ends.{failed};
-ghost use Rattle.rhd_session.specs.Decisions.{refusal, decision, runs, pick_of};
+ghost use Rattle.rhd_session.specs.Decisions.{refusal, decision, runs, pick_of, is_on_constant, constant_end};
 ghost use Rattle.rhd_session.specs.Seen.{seen, begun_node, done_of};
 ghost use Rattle.rhd_session.specs.Entered.{context, entered};
 ghost use Rattle.rhd_session.specs.Steps.{Starts, Resumes};
@@ -25,10 +25,10 @@ use crate::display::signature;
 use crate::machine::{Hand, Outcome, Suspended, Work, cut, joined, put, settle};
 use crate::node::{CallNode, Carries, Nodes};
 use crate::pick::Pick;
-use crate::plan::{name_of, native_only_of, position_of, shape_of};
-use crate::received::{Received, context, context_if, receive};
+use crate::plan::{name_of, native_only_of, position_of, shape_of, token_of};
+use crate::received::{Received, context, context_if, receive, receives_constant};
 use crate::refusal::refusal;
-use crate::search::{find, native_key_of, script_key_of, typed_key_of};
+use crate::search::{find, script_key_of, typed_key_of};
 use crate::session::Session;
 use rhd_func::{
     Bodies, CallDone, CallRequest, CallShape, Carry, NativeCallContext, NativeStep, RhaiFunc,
@@ -136,14 +136,15 @@ impl Session {
     {
         match refusal(alloc, self.limits, level, &call)? {
             Some(fault) => {
-                let node = CallNode::failed(alloc, call, level, fault)?;
+                let node = CallNode::failed(alloc, call, level, None, fault)?;
                 Ok(Outcome::Finished(node))
             }
             None => self.begin_unrefused(alloc, call, level, bodies),
         }
     }
 
-    /// Begins a call that nothing refuses: it isn't found, or its function takes its first step.
+    /// Begins a call that nothing refuses: it isn't found, or its function isn't for a constant, or
+    /// takes its first step.
     fn begin_unrefused<B: Bodies>(
         &self,
         alloc: Global,
@@ -154,13 +155,18 @@ impl Session {
         ensures { (n begun : ℕ) → begun < self.now.limits.budget → refusal (world_of info self.now).engine level call ≡ None → IfOk result (λ outcome. Comes_to (objects_of allows_call allows_resume B.allows_start B.allows_next (natives_of self.now)) (world_of info self.now) (entered (frame_of self.now) n) level call outcome (moment begun bodies.old) (moment (begun + 1) bodies.new)) }
     {
         match self.pick(alloc, &call)? {
-            Some(pick) => self.begin_picked(alloc, call, level, pick, bodies),
+            Some(pick) => {
+                if on_constant(&call, &pick) {
+                    return Ok(Outcome::Finished(constant(alloc, call, level, pick)?));
+                }
+                self.begin_picked(alloc, call, level, pick, bodies)
+            }
             None => Ok(Outcome::Finished(missing(alloc, call, level)?)),
         }
     }
 
     /// The function that a call means: of the scripts, where they are allowed, and then of the
-    /// natives.
+    /// natives and built-ins.
     fn pick(&self, alloc: Global, call: &CallRequest) -> Result<Option<Pick>, OutOfMemory>
         ensures pick { IfOk result (λ pick. pick ≡ pick_of (world_of info self.now).engine (frame_of self.now) (plan_of call.now)) }
         ensures held { IfOk result (λ pick. IfSome pick (λ p. func_held (length (natives_of self.now).items.items) p.func ≡ true)) }
@@ -169,7 +175,7 @@ impl Session {
         let shape = shape_of(call);
         match self.pick_script(alloc, name, native_only_of(call), shape)? {
             Some(pick) => Ok(Some(pick)),
-            None => self.pick_native(alloc, name, shape),
+            None => self.pick_native(alloc, name, token_of(call), shape),
         }
     }
 
@@ -210,21 +216,8 @@ impl Session {
         }
     }
 
-    /// The native that a call means.
-    fn pick_native(
-        &self,
-        alloc: Global,
-        name: &Text,
-        shape: &CallShape,
-    ) -> Result<Option<Pick>, OutOfMemory>
-        ensures { IfOk result (λ pick. pick ≡ looked (world_of info self.now).engine (frame_of self.now) (native_ask name.now shape.now)) }
-    {
-        let key = native_key_of(alloc, name, shape)?;
-        self.found(alloc, &key)
-    }
-
     /// What is found under a key.
-    fn found(&self, alloc: Global, key: &Key) -> Result<Option<Pick>, OutOfMemory>
+    pub(crate) fn found(&self, alloc: Global, key: &Key) -> Result<Option<Pick>, OutOfMemory>
         ensures { IfOk result (λ pick. pick ≡ found (world_of info self.now).engine (frame_of self.now) key.now) }
     {
         find(alloc, &self.libraries, &self.global, key)
@@ -383,5 +376,27 @@ fn missing(alloc: Global, call: CallRequest, level: u32) -> Result<CallNode, Out
 {
     let signature = signature(alloc, name_of(&call), shape_of(&call))?;
     let fault = EvalAltResult::ErrorFunctionNotFound(signature, position_of(&call));
-    CallNode::failed(alloc, call, level, fault)
+    CallNode::failed(alloc, call, level, None, fault)
+}
+
+/// Whether a native or built-in that isn't pure receives a read-only first argument.
+fn on_constant(call: &CallRequest, pick: &Pick) -> bool
+    ensures { result ≡ is_on_constant (plan_of call.now) pick.now }
+{
+    !pick.func.is_script()
+        && (!pick.func.is_pure() && receives_constant(&pick.func, shape_of(call)))
+}
+
+/// The node of a call whose function isn't for a constant.
+fn constant(
+    alloc: Global,
+    call: CallRequest,
+    level: u32,
+    pick: Pick,
+) -> Result<CallNode, OutOfMemory>
+    ensures { IfOk result (λ node. seen node ≡ begun_node call level (Some pick) [] [] (constant_end (plan_of call))) }
+{
+    let name = name_of(&call).dup(alloc)?;
+    let fault = EvalAltResult::ErrorNonPureMethodCallOnConstant(name, position_of(&call));
+    CallNode::failed(alloc, call, level, Some(pick), fault)
 }

@@ -23,6 +23,8 @@ pub struct End {
     pub whose: Whose,
     /// The first argument by reference, or the object, as it is after the call.
     pub first_after: Option<Dynamic>,
+    /// The text that is printed, if one is.
+    pub printed: Option<Text>,
     /// The value that the call refuses, where it does.
     pub refused: Option<Dynamic>,
 }
@@ -35,6 +37,7 @@ pub fn failed(first: Option<Dynamic>, fault: EvalAltResult) -> End
         answer: Err(fault),
         whose: Whose::Call,
         first_after: first,
+        printed: None,
         refused: None,
     }
 }
@@ -47,6 +50,7 @@ fn refusing(first: Option<Dynamic>, value: Dynamic, fault: EvalAltResult) -> End
         answer: Err(fault),
         whose: Whose::Call,
         first_after: first,
+        printed: None,
         refused: Some(value),
     }
 }
@@ -161,6 +165,7 @@ fn accepted(
             answer: Ok(value),
             whose,
             first_after: first,
+            printed: None,
             refused: None,
         }),
     }
@@ -198,6 +203,7 @@ pub fn handed_on(
         answer: Err(fault),
         whose: Whose::Called,
         first_after: first_after(alloc, &pick.func, shape_of(call), back)?,
+        printed: None,
         refused: None,
     })
 }

@@ -2,9 +2,11 @@
 
 ghost use Rattle.std.specs.Prelude.{◌≡◌, ◌↔◌, ◌+◌, ◌<◌, ◌≤◌, ℕ, Bool, true, false, if◌then◌else◌, List, [], length, Option, Some, None, Err};
 ghost use Rattle.std.specs.List.{Contains, sum_by};
-ghost use Rattle.rhd_value.specs.declared.fault.EvalAltResult.TheVariants.{ErrorDataRace, ErrorMismatchOutputType, ErrorTooManyOperations, ErrorStackOverflow, ErrorDataTooLarge};
+ghost use Rattle.rhd_value.specs.declared.fault.EvalAltResult.TheVariants.{ErrorNonPureMethodCallOnConstant, ErrorDataRace, ErrorMismatchOutputType, ErrorTooManyOperations, ErrorStackOverflow, ErrorDataTooLarge};
 ghost use Rattle.rhd_value.specs.declared.tag.Position.{Position};
 ghost use Rattle.rhd_value.specs.Tree.{Bytes, Tree};
+ghost use Rattle.rhd_value.specs.declared.tag.TypeTag.{TypeTag};
+ghost use Rattle.rhd_names.specs.declared.token.OpToken.{OpToken};
 ghost use Rattle.rhd_func.specs.declared.request.CallRequest.{CallRequest};
 ghost use Rattle.rhd_func.specs.declared.request.CallShape.{CallShape};
 ghost use Rattle.rhd_func.specs.declared.request.CallShape.TheVariants.{ByRef, Method};
@@ -19,9 +21,10 @@ ghost use Rattle.rhd_session.specs.Searched.{found};
 ghost use Rattle.rhd_session.specs.Plans.{Plan, plan_of};
 ghost use Rattle.rhd_session.specs.declared.ends.End.{End};
 ghost use Rattle.rhd_session.specs.Ends.{failed};
-ghost use Rattle.rhd_session.specs.Decisions.{ends, runs, locked_place, locked_text, refusal, decision};
-ghost use Rattle.rhd_session.specs.Causes.{IsOwn, IsFirstLocked, NamesLocked, RefusesKind, RefusesSize, RefusesValue, GivesBack};
-ghost use Rattle.rhd_session.specs.FirstAsks.{IsAnsweredFirst, EndsAlone, IsOfFirstPlace};
+ghost use Rattle.rhd_session.specs.Decisions.{ends, runs, locked_place, locked_text, refusal, decision, constant_end};
+ghost use Rattle.rhd_session.specs.Causes.{IsOwn, IsForNoConstant, IsFirstLocked, NamesLocked, RefusesKind, RefusesSize, RefusesValue, GivesBack};
+ghost use Rattle.rhd_session.specs.FirstAsks.{IsAnsweredFirst, IsOnConstant, EndsAlone, IsOfFirstPlace, IsOfFirstPattern};
+ghost use Rattle.rhd_session.specs.Asks.{native, looked};
 ghost use Rattle.rhd_session.specs.World.{Moment};
 ghost use Rattle.rhd_session.specs.Objects.{objects_of};
 ghost use Rattle.rhd_session.specs.Of.{natives_of, world_of};
@@ -34,18 +37,21 @@ use crate::session::Session;
 use rhd_func::Bodies;
 
 /// A function runs exactly where nothing refuses the call and it is what the first ask of the call
-/// that is found gives; without one, a call ends exactly as it is refused, or where no ask is found.
+/// that is found gives, unless that may change its first argument and this is a constant. Nothing
+/// runs exactly where the call is refused, or no ask is found, or for such a constant. A native is
+/// asked for by each pattern in turn, in all modules, and then among the built-ins.
 pub fn a_call_is_answered_by_the_first_declaration()
-    ensures runs { (e : EngineLists) (f : Frame) (level : ℕ) (call : CallRequest) (plan : Plan) (pick : Pick) → (decision e f level call ≡ runs plan pick) ↔ ((refusal e level call ≡ None) × (plan ≡ plan_of call) × IsAnsweredFirst e f call pick) }
-    ensures ends { (e : EngineLists) (f : Frame) (level : ℕ) (call : CallRequest) (pick : Option Pick) (end : End) → (decision e f level call ≡ ends pick end) ↔ ((pick ≡ None) × EndsAlone e f level call end) }
+    ensures runs { (e : EngineLists) (f : Frame) (level : ℕ) (call : CallRequest) (plan : Plan) (pick : Pick) → (decision e f level call ≡ runs plan pick) ↔ ((refusal e level call ≡ None) × (plan ≡ plan_of call) × IsAnsweredFirst e f call pick × (IsOnConstant (plan_of call) pick → ⊥)) }
+    ensures ends { (e : EngineLists) (f : Frame) (level : ℕ) (call : CallRequest) (pick : Option Pick) (end : End) → (decision e f level call ≡ ends pick end) ↔ EndsAlone e f level call pick end }
     ensures place { (e : EngineLists) (f : Frame) (key : Key) (pick : Pick) → (found e f key ≡ Some pick) ↔ IsOfFirstPlace e f key pick }
+    ensures pattern { (e : EngineLists) (f : Frame) (name : Bytes) (kinds : List TypeTag) (token : Option OpToken) (pick : Pick) → (looked e f (native name kinds token) ≡ Some pick) ↔ IsOfFirstPattern e f name kinds token pick }
 {}
 
 /// What a session's node shows: the function of the first ask that is found, where nothing refuses
 /// the call; or why nothing ran; or that the budget was spent before it.
 pub fn a_node_shows_the_first_declaration<B: Bodies>(session: &Session)
     ensures shown { (f : Frame) (level : ℕ) (call : CallRequest) (node : CallNode) (before after : Moment B) (cut : Bool) (pick : Pick) → Runs (objects_of allows_call allows_resume B.allows_start B.allows_next (natives_of session.now)) (world_of info session.now) f level call node before after cut → (seen node).pick ≡ Some pick → (refusal (world_of info session.now).engine level call ≡ None) × IsAnsweredFirst (world_of info session.now).engine f call pick }
-    ensures alone { (f : Frame) (level : ℕ) (call : CallRequest) (node : CallNode) (before after : Moment B) (cut : Bool) → Runs (objects_of allows_call allows_resume B.allows_start B.allows_next (natives_of session.now)) (world_of info session.now) f level call node before after cut → (seen node).begun ≡ true → (seen node).pick ≡ None → EndsAlone (world_of info session.now).engine f level call (seen node).end }
+    ensures alone { (f : Frame) (level : ℕ) (call : CallRequest) (node : CallNode) (before after : Moment B) (cut : Bool) → Runs (objects_of allows_call allows_resume B.allows_start B.allows_next (natives_of session.now)) (world_of info session.now) f level call node before after cut → (seen node).begun ≡ true → (seen node).pick ≡ None → EndsAlone (world_of info session.now).engine f level call None (seen node).end }
     ensures unbegun { (f : Frame) (level : ℕ) (call : CallRequest) (node : CallNode) (before after : Moment B) (cut : Bool) → Runs (objects_of allows_call allows_resume B.allows_start B.allows_next (natives_of session.now)) (world_of info session.now) f level call node before after cut → (seen node).begun ≡ false → (before.begun ≡ (world_of info session.now).engine.limits.budget) × (after ≡ before) × (seen node ≡ unbegun_node call level) }
 {}
 
@@ -68,10 +74,12 @@ pub fn a_spent_budget_ends_the_tree<B: Bodies>(session: &Session)
 {}
 
 /// The children of a node are the requests of its function, in order, each with that very request,
-/// and the function goes on with each answer. Without a function there are none.
+/// and the function goes on with each answer. Without a function there are none, nor are there any
+/// of a function that isn't for a constant.
 pub fn the_children_of_a_node_are_its_requests<B: Bodies>(session: &Session)
-    ensures shown { (f : Frame) (level : ℕ) (call : CallRequest) (node : CallNode) (before after : Moment B) (cut : Bool) (pick : Pick) → Runs (objects_of allows_call allows_resume B.allows_start B.allows_next (natives_of session.now)) (world_of info session.now) f level call node before after cut → (seen node).pick ≡ Some pick → ShowsRequests (objects_of allows_call allows_resume B.allows_start B.allows_next (natives_of session.now)) (world_of info session.now) f (seen node) pick cut }
+    ensures shown { (f : Frame) (level : ℕ) (call : CallRequest) (node : CallNode) (before after : Moment B) (cut : Bool) (pick : Pick) → Runs (objects_of allows_call allows_resume B.allows_start B.allows_next (natives_of session.now)) (world_of info session.now) f level call node before after cut → (seen node).pick ≡ Some pick → (IsOnConstant (plan_of call) pick → ⊥) → ShowsRequests (objects_of allows_call allows_resume B.allows_start B.allows_next (natives_of session.now)) (world_of info session.now) f (seen node) pick cut }
     ensures alone { (f : Frame) (level : ℕ) (call : CallRequest) (node : CallNode) (before after : Moment B) (cut : Bool) → Runs (objects_of allows_call allows_resume B.allows_start B.allows_next (natives_of session.now)) (world_of info session.now) f level call node before after cut → (seen node).pick ≡ None → ((seen node).carries ≡ []) × ((seen node).children ≡ []) }
+    ensures constant { (f : Frame) (level : ℕ) (call : CallRequest) (node : CallNode) (before after : Moment B) (cut : Bool) (pick : Pick) → Runs (objects_of allows_call allows_resume B.allows_start B.allows_next (natives_of session.now)) (world_of info session.now) f level call node before after cut → (seen node).pick ≡ Some pick → IsOnConstant (plan_of call) pick → ((seen node).carries ≡ []) × ((seen node).children ≡ []) }
     ensures as_many { (f : Frame) (level : ℕ) (call : CallRequest) (node : CallNode) (before after : Moment B) (cut : Bool) → Runs (objects_of allows_call allows_resume B.allows_start B.allows_next (natives_of session.now)) (world_of info session.now) f level call node before after cut → length (seen node).carries ≡ length (seen node).children }
 {}
 
@@ -86,7 +94,7 @@ pub fn each_call_of_a_tree_runs_by_itself<B: Bodies>(session: &Session)
 /// its frame, exactly where nothing refuses the call. Without a pick it is refused, or isn't found.
 pub fn each_call_of_a_tree_shows_the_first_declaration<B: Bodies>(session: &Session)
     ensures shown { (f : Frame) (level : ℕ) (call : CallRequest) (root node : CallNode) (before after : Moment B) (cut : Bool) (inside : InTree node root) (pick : Pick) → Runs (objects_of allows_call allows_resume B.allows_start B.allows_next (natives_of session.now)) (world_of info session.now) f level call root before after cut → (seen node).begun ≡ true → ((seen node).pick ≡ Some pick) ↔ ((refusal (world_of info session.now).engine (seen node).level (seen node).call ≡ None) × IsAnsweredFirst (world_of info session.now).engine (frame_at f inside) (seen node).call pick) }
-    ensures alone { (f : Frame) (level : ℕ) (call : CallRequest) (root node : CallNode) (before after : Moment B) (cut : Bool) (inside : InTree node root) → Runs (objects_of allows_call allows_resume B.allows_start B.allows_next (natives_of session.now)) (world_of info session.now) f level call root before after cut → (seen node).begun ≡ true → (seen node).pick ≡ None → EndsAlone (world_of info session.now).engine (frame_at f inside) (seen node).level (seen node).call (seen node).end }
+    ensures alone { (f : Frame) (level : ℕ) (call : CallRequest) (root node : CallNode) (before after : Moment B) (cut : Bool) (inside : InTree node root) → Runs (objects_of allows_call allows_resume B.allows_start B.allows_next (natives_of session.now)) (world_of info session.now) f level call root before after cut → (seen node).begun ≡ true → (seen node).pick ≡ None → EndsAlone (world_of info session.now).engine (frame_at f inside) (seen node).level (seen node).call None (seen node).end }
     ensures unbegun { (f : Frame) (level : ℕ) (call : CallRequest) (root node : CallNode) (before after : Moment B) (cut : Bool) → Runs (objects_of allows_call allows_resume B.allows_start B.allows_next (natives_of session.now)) (world_of info session.now) f level call root before after cut → InTree node root → (seen node).begun ≡ false → seen node ≡ unbegun_node (seen node).call (seen node).level }
 {}
 
@@ -107,6 +115,14 @@ pub fn a_locked_argument_ends_the_call<B: Bodies>(session: &Session)
     ensures shown { (f : Frame) (level : ℕ) (call : CallRequest) (node : CallNode) (before after : Moment B) (cut : Bool) (n : ℕ) → Runs (objects_of allows_call allows_resume B.allows_start B.allows_next (natives_of session.now)) (world_of info session.now) f level call node before after cut → (seen node).begun ≡ true → level ≤ (world_of info session.now).engine.limits.level → IsFirstLocked (plan_of call).shape n → seen node ≡ begun_node call level None [] [] (failed (given call) (ErrorDataRace (locked_text (plan_of call).name n) (pos_of call))) }
 {}
 
+/// A call ends with a fault for a constant of its own exactly where nothing refuses it and the first
+/// ask that is found gives a native or built-in that isn't pure, and that receives a read-only first
+/// argument. The node shows the function, and nothing runs.
+pub fn a_constant_ends_the_call<B: Bodies>(session: &Session)
+    ensures ends { (f : Frame) (level : ℕ) (call : CallRequest) (node : CallNode) (before after : Moment B) (cut : Bool) (name : Bytes) (pos : Position) → Runs (objects_of allows_call allows_resume B.allows_start B.allows_next (natives_of session.now)) (world_of info session.now) f level call node before after cut → (seen node).begun ≡ true → IsOwn (seen node).end (ErrorNonPureMethodCallOnConstant name pos) ↔ IsForNoConstant (world_of info session.now).engine f level call (ErrorNonPureMethodCallOnConstant name pos) }
+    ensures shown { (f : Frame) (level : ℕ) (call : CallRequest) (node : CallNode) (before after : Moment B) (cut : Bool) (pick : Pick) → Runs (objects_of allows_call allows_resume B.allows_start B.allows_next (natives_of session.now)) (world_of info session.now) f level call node before after cut → (seen node).begun ≡ true → refusal (world_of info session.now).engine level call ≡ None → IsAnsweredFirst (world_of info session.now).engine f call pick → IsOnConstant (plan_of call) pick → seen node ≡ begun_node call level (Some pick) [] [] (constant_end (plan_of call)) }
+{}
+
 /// A call ends with a mismatch of its own exactly where its function ended with a value, no limit
 /// was passed, and the value isn't of the wanted kind; or with a size of its own exactly where a
 /// limit was passed, by the value or by the first argument that a native had. The node shows the
@@ -123,6 +139,6 @@ pub fn a_call_shows_its_first_argument<B: Bodies>(session: &Session)
     ensures alone { (f : Frame) (level : ℕ) (call : CallRequest) (node : CallNode) (before after : Moment B) (cut : Bool) → Runs (objects_of allows_call allows_resume B.allows_start B.allows_next (natives_of session.now)) (world_of info session.now) f level call node before after cut → (seen node).pick ≡ None → (seen node).end.first_after ≡ given call }
     ensures by_value { (f : Frame) (level : ℕ) (call : CallRequest) (node : CallNode) (before after : Moment B) (pick : Pick) → Runs (objects_of allows_call allows_resume B.allows_start B.allows_next (natives_of session.now)) (world_of info session.now) f level call node before after false → (seen node).pick ≡ Some pick → is_script pick.func ≡ false → is_method pick.func ≡ false → (seen node).end.first_after ≡ given call }
     ensures script { (f : Frame) (level : ℕ) (call : CallRequest) (node : CallNode) (before after : Moment B) (pick : Pick) (first : Tree) (args : List Tree) → Runs (objects_of allows_call allows_resume B.allows_start B.allows_next (natives_of session.now)) (world_of info session.now) f level call node before after false → (seen node).pick ≡ Some pick → is_script pick.func ≡ true → (plan_of call).shape ≡ ByRef first args → (seen node).end.first_after ≡ Some first }
-    ensures method { (f : Frame) (level : ℕ) (call : CallRequest) (node : CallNode) (before after : Moment B) (pick : Pick) (first : Tree) → Runs (objects_of allows_call allows_resume B.allows_start B.allows_next (natives_of session.now)) (world_of info session.now) f level call node before after false → (seen node).pick ≡ Some pick → is_method pick.func ≡ true → given call ≡ Some first → GivesBack (objects_of allows_call allows_resume B.allows_start B.allows_next (natives_of session.now)) (world_of info session.now) f (seen node) pick }
+    ensures method { (f : Frame) (level : ℕ) (call : CallRequest) (node : CallNode) (before after : Moment B) (pick : Pick) (first : Tree) → Runs (objects_of allows_call allows_resume B.allows_start B.allows_next (natives_of session.now)) (world_of info session.now) f level call node before after false → (seen node).pick ≡ Some pick → is_method pick.func ≡ true → (IsOnConstant (plan_of call) pick → ⊥) → given call ≡ Some first → GivesBack (objects_of allows_call allows_resume B.allows_start B.allows_next (natives_of session.now)) (world_of info session.now) f (seen node) pick }
     ensures object { (f : Frame) (level : ℕ) (call : CallRequest) (node : CallNode) (before after : Moment B) (pick : Pick) (object : Tree) (args : List Tree) → Runs (objects_of allows_call allows_resume B.allows_start B.allows_next (natives_of session.now)) (world_of info session.now) f level call node before after false → (seen node).pick ≡ Some pick → is_script pick.func ≡ true → (plan_of call).shape ≡ Method object args → GivesBack (objects_of allows_call allows_resume B.allows_start B.allows_next (natives_of session.now)) (world_of info session.now) f (seen node) pick }
 {}

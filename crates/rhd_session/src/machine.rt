@@ -86,6 +86,7 @@ fn end_call(work: Work, end: End) -> CallNode
         answer: end.answer,
         whose: end.whose,
         first_after: end.first_after,
+        printed: end.printed,
         refused: end.refused,
     }
 }
@@ -136,6 +137,7 @@ fn closed(work: Work) -> CallNode
         answer: Err(EvalAltResult::ErrorTooManyOperations(pos)),
         whose: Whose::Call,
         first_after: None,
+        printed: None,
         refused: None,
     }
 }

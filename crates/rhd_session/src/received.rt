@@ -5,7 +5,7 @@ ghost use Rattle.std.specs.Option.{option_copied};
 ghost use Rattle.rhd_value.specs.Tree.{copied};
 ghost use Rattle.rhd_value.specs.Firsts.{first_and_rest};
 ghost use Rattle.rhd_func.specs.Shapes.{first_given, given};
-ghost use Rattle.rhd_session.specs.Received.{received, manner_of, has_the_given, first_after};
+ghost use Rattle.rhd_session.specs.Received.{received, manner_of, has_the_given, first_after, first_received, is_read_only};
 ghost use Rattle.rhd_session.specs.Entered.{context, context_if};
 ghost use Rattle.rhd_session.specs.Plans.{Plan};
 ghost use Rattle.rhd_session.specs.Start.{start_frame};
@@ -29,6 +29,22 @@ pub fn has_the_given(func: &RhaiFunc, shape: &CallShape) -> bool
         CallShape::Plain(_) => false,
         CallShape::ByRef(_, _) => func.is_method(),
         CallShape::Method(_, _) => func.is_method() || func.is_script(),
+    }
+}
+
+/// Whether the first that a function receives is read-only.
+pub fn receives_constant(func: &RhaiFunc, shape: &CallShape) -> bool
+    ensures { result ≡ is_read_only (first_received (received (manner_of func.now) shape.now)) }
+{
+    match shape {
+        CallShape::Plain(args) => match args.as_slice() {
+            [] => false,
+            [first, ..] => first.is_read_only(),
+        },
+        CallShape::ByRef(first, _) => func.is_method() && first.is_read_only(),
+        CallShape::Method(object, _) => {
+            (func.is_method() || func.is_script()) && object.is_read_only()
+        }
     }
 }
 

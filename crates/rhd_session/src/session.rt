@@ -3,13 +3,14 @@
 
 ghost use Rattle.std.specs.Prelude.{◌≡◌, ◌≤◌, ◌<◌, ◌+◌, ◌^◌, [], true, IfOk, OnErr, IfErr, length, take};
 ghost use Rattle.rhd_session.specs.World.{Moment};
-ghost use Rattle.rhd_session.specs.Held.{names_held, all_held};
+ghost use Rattle.rhd_session.specs.Held.{names_held, all_held, builtins_held};
 ghost use Rattle.rhd_session.specs.Objects.{infos_of, objects_of};
 ghost use Rattle.rhd_session.specs.Start.{start_world, start_frame};
 ghost use Rattle.rhd_session.specs.Answered.{Replied, Answered};
 
+use crate::builtins::Builtins;
 use crate::command::Command;
-use crate::limits::Limits;
+use crate::limits::{Limits, Printers};
 use crate::reply::{Replies, Reply, Stopped};
 use rhd_func::{Bodies, Natives};
 use rhd_module::{Module, SharedModule};
@@ -23,11 +24,14 @@ pub struct Session {
     pub(crate) global: Module,
     pub(crate) modules: Vec<SharedModule>,
     pub(crate) libraries: Vec<SharedModule>,
+    pub(crate) builtins: Builtins,
     pub(crate) limits: Limits,
+    pub(crate) printers: Printers,
     begun: u64,
     ghost held: { names_held (length natives.items.items) global ≡ true },
     ghost modules_held: { all_held (length natives.items.items) modules.items ≡ true },
     ghost libraries_held: { all_held (length natives.items.items) libraries.items ≡ true },
+    ghost builtins_held: { builtins_held (length natives.items.items) builtins ≡ true },
     ghost limited: { limits.level ≤ 1000 },
     ghost within: { begun ≤ limits.budget },
 }
@@ -35,12 +39,19 @@ pub struct Session {
 impl Session {
     ghost use Rattle.rhd_session.specs.Of.{natives_of, world_of, frame_of, modules_of, calls_begun_of, moment_of};
 
-    /// A session in which nothing is registered.
+    /// A session in which nothing is registered. Its built-ins are held by the natives.
     #[tactic(auto, unfolding(crate::specs::Of::world_of))]
-    pub fn new(alloc: Global, natives: Natives, limits: Limits) -> Result<Session, OutOfMemory>
-        requires { limits.level ≤ 1000 }
+    pub fn new(
+        alloc: Global,
+        natives: Natives,
+        limits: Limits,
+        builtins: Builtins,
+        printers: Printers,
+    ) -> Result<Session, OutOfMemory>
+        requires level { limits.level ≤ 1000 }
+        requires builtins { builtins_held (length natives.items.items) builtins ≡ true }
         ensures natives { IfOk result (λ session. natives_of session ≡ natives) }
-        ensures world { IfOk result (λ session. world_of info session ≡ start_world (infos_of info natives) limits) }
+        ensures world { IfOk result (λ session. world_of info session ≡ start_world (infos_of info natives) limits builtins printers) }
         ensures frame { IfOk result (λ session. frame_of session ≡ start_frame) }
         ensures modules { IfOk result (λ session. modules_of session ≡ []) }
         ensures begun { IfOk result (λ session. calls_begun_of session ≡ 0) }
@@ -50,7 +61,9 @@ impl Session {
             global: Module::new(alloc),
             modules: Vec::new(alloc),
             libraries: Vec::new(alloc),
+            builtins,
             limits,
+            printers,
             begun: 0,
         })
     }

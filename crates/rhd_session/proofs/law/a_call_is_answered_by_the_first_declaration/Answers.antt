@@ -1,5 +1,5 @@
 use Rattle.rhd_session.specs.Searched.{searched}
-use Rattle.rhd_session.proofs.FirstAnswered.{runs_first, first_runs, ends_missing, missing_ends, first_is-first, is-first_first}
+use Rattle.rhd_session.proofs.FirstAnswered.{runs_first, first_runs, ends_missing, missing_ends, first_is-first, is-first_first, looked_first, first_looked}
 use Rattle.rhd_session.proofs.law.a_call_is_answered_by_the_first_declaration.Goals as goal
 
 pub returns-clause-runs : goal.returns-clause-runs
@@ -10,3 +10,6 @@ returns-clause-ends c = λ e f level call pick end. (ends_missing e f level call
 
 pub returns-clause-place : goal.returns-clause-place
 returns-clause-place c = λ e f key pick. (first_is-first _ pick (searched e f), is-first_first _ pick (searched e f))
+
+pub returns-clause-pattern : goal.returns-clause-pattern
+returns-clause-pattern c = λ e f name kinds token pick. (looked_first e f name kinds token pick, first_looked e f name kinds token pick)

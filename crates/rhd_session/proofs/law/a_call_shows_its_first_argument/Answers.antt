@@ -12,7 +12,7 @@ pub returns-clause-script : goal.returns-clause-script
 returns-clause-script g c = λ f level call node before after pick first args r h s is. script_leaves _ _ pick first args (runs_end _ _ r) refl h s is
 
 pub returns-clause-method : goal.returns-clause-method
-returns-clause-method g c = λ f level call node before after pick first r h m is. method_gives _ _ pick first (runs_end _ _ r) refl h m is
+returns-clause-method g c = λ f level call node before after pick first r h m free is. method_gives _ _ pick first (runs_end _ _ r) refl h m free is
 
 pub returns-clause-object : goal.returns-clause-object
 returns-clause-object g c = λ f level call node before after pick object args r h s is. object_gives _ _ pick object args (runs_end _ _ r) refl h s is

@@ -2,14 +2,20 @@ use Rattle.std.proofs.Common.{◌∙◌, sym}
 use Rattle.rhd_session.specs.Of.{world_of, frame_of}
 use Rattle.rhd_session.specs.Runs.{ended}
 use Rattle.rhd_session.specs.Waits.{it_is_answered}
-use Rattle.rhd_session.proofs.Found.{pick_entered, decided_runs, decided_ends}
+use Rattle.rhd_session.proofs.Found.{pick_entered, decided_runs, decided_constant, decided_ends}
 use Rattle.rhd_session.proofs.session.Session.begin_unrefused.Goals as goal
 
-pub returns-in-Some : goal.returns-in-Some
+pub returns-then-on_constant : goal.returns-then-on_constant
 unfolding world_of
-returns-in-Some g c = λ n begun within unrefused.
+returns-then-on_constant g c = λ n begun within unrefused.
     let pick = sym c.in-Some.is ∙ c.in_ok-pick.ensures.pick ∙ sym (pick_entered (world_of (λ z. (goal.PluginFunc-dyn g z).info z.1) c.args.self.now).engine (frame_of c.args.self.now) n c.args.call) in
-    c.begin_picked.ensures n begun within (decided_runs _ _ c.args.level c.args.call c.in-Some.pick unrefused pick)
+    it_is_answered (ended within (decided_constant _ _ c.args.level c.args.call c.in-Some.pick unrefused pick (sym c.on_constant.ensures ∙ c.if-on_constant.true)) c.in_ok-constant-in-Some.ensures)
+
+pub returns-else-on_constant : goal.returns-else-on_constant
+unfolding world_of
+returns-else-on_constant g c = λ n begun within unrefused.
+    let pick = sym c.in-Some.is ∙ c.in_ok-pick.ensures.pick ∙ sym (pick_entered (world_of (λ z. (goal.PluginFunc-dyn g z).info z.1) c.args.self.now).engine (frame_of c.args.self.now) n c.args.call) in
+    c.begin_picked.ensures n begun within (decided_runs _ _ c.args.level c.args.call c.in-Some.pick unrefused pick (sym c.on_constant.ensures ∙ c.if-on_constant.false))
 
 pub returns-in_ok-missing-in-None : goal.returns-in_ok-missing-in-None
 unfolding world_of

@@ -61,7 +61,7 @@ pub answer-requires : goal.answer-requires
 unfolding world_of
 answer-requires g c =
     let going = rw (c.in-Answered.is, c.in-Some.ensures.items) at c.loop-hand.invariant.going in
-    top_held _ _ c.pop.new.self.items c.in-Some.frame (frame_of c.args.self.now) c.args.call (moment c.args.begun.now c.args.bodies.now) (moment c.loop-hand.begun c.loop-hand.bodies) _ _ (both _ _ c.args.self.now.held refl) c.args.self.now.libraries_held going
+    top_held _ _ c.pop.new.self.items c.in-Some.frame (frame_of c.args.self.now) c.args.call (moment c.args.begun.now c.args.bodies.now) (moment c.loop-hand.begun c.loop-hand.bodies) _ _ (both _ _ c.args.self.now.held refl) c.args.self.now.libraries_held c.args.self.now.builtins_held going
 
 pub loop-hand-preserved : goal.loop-hand-preserved
 loop-hand-preserved g c =
