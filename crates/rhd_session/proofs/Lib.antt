@@ -1,1 +1,14 @@
-pub mod Tables
+pub mod Registers
+pub mod HeldLaws
+pub mod Stepped
+pub mod Found
+pub mod Stack
+pub mod Lists
+pub mod FirstAnswered
+pub mod TreeLaws
+pub mod TreeFaults
+pub mod TreePlants
+pub mod Places
+pub mod Locked
+pub mod LastSteps
+pub mod NodeEnds

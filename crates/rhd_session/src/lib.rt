@@ -1,16 +1,34 @@
 //! A session: commands in, replies out, where the reply to a call shows what answered it.
 #![tactic(auto)]
 
-mod builtins;
+mod calls;
 mod command;
+mod declaring;
+mod display;
+mod ends;
+mod law;
 mod limits;
+mod machine;
 mod node;
 mod pick;
+mod plan;
+mod received;
+mod refusal;
 mod reply;
+mod search;
+mod session;
 
-pub use builtins::{Builtins, Operator};
 pub use command::{Command, Commands, ModuleId};
-pub use limits::{Limits, Printers};
+pub use law::{
+    a_call_is_answered_by_the_first_declaration, a_call_shows_its_first_argument,
+    a_locked_argument_ends_the_call, a_node_shows_the_first_declaration,
+    a_spent_budget_ends_the_tree, a_value_is_refused_for_its_kind_or_size,
+    each_call_of_a_tree_runs_by_itself, each_call_of_a_tree_shows_the_first_declaration,
+    the_calls_begun_are_counted_by_the_tree, the_children_of_a_node_are_its_requests,
+    the_level_of_a_call_is_limited,
+};
+pub use limits::Limits;
 pub use node::{CallNode, Carries, Nodes, Whose};
 pub use pick::{Layer, Pick};
 pub use reply::{Replies, Reply, Stopped};
+pub use session::Session;

@@ -1,11 +1,17 @@
 //! The tree of a call.
 
-ghost use Rattle.std.specs.Prelude.{◌≡◌, ◌++◌, ◌∷◌, [], if◌then◌else◌, is_ok};
+ghost use Rattle.std.specs.Prelude.{◌≡◌, ◌++◌, ◌∷◌, [], if◌then◌else◌, is_ok, None, Some, IfOk};
+ghost use Rattle.rhd_session.specs.Ends.{failed};
+ghost use Rattle.rhd_func.specs.Shapes.{given};
 ghost use Rattle.rhd_session.specs.Nodes.{nodes_in};
+ghost use Rattle.rhd_session.specs.Seen.{seen, begun_node, unbegun_node, done_of};
 
+use crate::ends::{End, failed};
 use crate::pick::Pick;
-use rhd_func::{CallRequest, Carry};
-use rhd_value::{Dynamic, EvalAltResult, OutOfMemory, Text};
+use crate::plan::position_of;
+use crate::received::given;
+use rhd_func::{CallDone, CallRequest, Carry};
+use rhd_value::{Dynamic, EvalAltResult, OutOfMemory};
 use std::alloc::Global;
 use std::marker::Model;
 
@@ -16,8 +22,6 @@ pub enum Whose {
     Call,
     /// That of the function that was picked.
     Called,
-    /// That of the host, where no function was found.
-    Host,
 }
 
 /// What a function kept while it waited, for each call that it asked for, in order.
@@ -81,8 +85,6 @@ pub struct CallNode {
     pub whose: Whose,
     /// The first argument by reference, or the object, as it is after the call.
     pub first_after: Option<Dynamic>,
-    /// The text that was printed, where one was.
-    pub printed: Option<Text>,
     /// The value that the call refused, where it did.
     pub refused: Option<Dynamic>,
 }
@@ -109,5 +111,73 @@ impl Nodes {
     {
         self.items.push(node)?;
         Ok(())
+    }
+}
+
+impl CallNode {
+    /// A call that isn't begun, as the budget is spent.
+    pub fn unbegun(alloc: Global, call: CallRequest, level: u32) -> Result<CallNode, OutOfMemory>
+        ensures { IfOk result (λ node. seen node ≡ unbegun_node call level) }
+    {
+        let first_after = given(alloc, &call)?;
+        let pos = position_of(&call);
+        Ok(CallNode {
+            call,
+            level,
+            begun: false,
+            pick: None,
+            carries: Carries::new(alloc),
+            children: Nodes::new(alloc),
+            answer: Err(EvalAltResult::ErrorTooManyOperations(pos)),
+            whose: Whose::Call,
+            first_after,
+            refused: None,
+        })
+    }
+
+    /// A call that is begun, and for which nothing runs.
+    fn alone(alloc: Global, call: CallRequest, level: u32, end: End) -> CallNode
+        ensures { seen result ≡ begun_node call level None [] [] end }
+    {
+        CallNode {
+            call,
+            level,
+            begun: true,
+            pick: None,
+            carries: Carries::new(alloc),
+            children: Nodes::new(alloc),
+            answer: end.answer,
+            whose: end.whose,
+            first_after: end.first_after,
+            refused: end.refused,
+        }
+    }
+
+    /// A call that ends with a fault of its own, and for which nothing runs.
+    pub fn failed(
+        alloc: Global,
+        call: CallRequest,
+        level: u32,
+        fault: EvalAltResult,
+    ) -> Result<CallNode, OutOfMemory>
+        ensures { IfOk result (λ node. seen node ≡ begun_node call level None [] [] (failed (given call) fault)) }
+    {
+        let first = given(alloc, &call)?;
+        Ok(CallNode::alone(alloc, call, level, failed(first, fault)))
+    }
+
+    /// What the function that asked for the call is told.
+    pub fn done(&self, alloc: Global) -> Result<CallDone, OutOfMemory>
+        ensures { IfOk result (λ done. done ≡ done_of self.now) }
+    {
+        let answer = match &self.answer {
+            Ok(value) => Ok(value.dup(alloc)?),
+            Err(fault) => Err(fault.dup(alloc)?),
+        };
+        let first = match &self.first_after {
+            Some(value) => Some(value.dup(alloc)?),
+            None => None,
+        };
+        Ok(CallDone { answer, first })
     }
 }

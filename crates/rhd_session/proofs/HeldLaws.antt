@@ -1,0 +1,147 @@
+-- The natives that modules name stay held, and what a key finds is held.
+use Rattle.std.proofs.Common.{◌≡◌, ◌<◌, ℕ, ◌+◌, Bool, true, false, cond, ◌&&◌, List, [], ◌∷◌, ◌++◌, length, map, refl, sym, ap, ◌∙◌}
+use Rattle.std.specs.Prelude.{zero, suc, Option, Some, None, Result, Ok, Err, OnOk, OnErr, slice_get, slice_set, reverse, option_map}
+use Rattle.std.specs.List.{list_all, enumerate_from}
+use Rattle.std.specs.Map.{lookup}
+use Rattle.std.specs.Option.{option_or}
+use Rattle.std.proofs.lemmas.Option.{slice_get_within}
+use Rattle.std.proofs.lemmas.Bool.{ltb-true, lt-ltb}
+use Rattle.std.proofs.lemmas.List.{reverse-append, append-nil}
+use Rattle.std.proofs.lemmas.List.Folds.{list_all-append}
+use Rattle.rhd_value.specs.declared.tag.FnId.{FnId}
+use Rattle.rhd_value.specs.Firsts.{first_of}
+use Rattle.rhd_func.specs.declared.func.RhaiFunc.{RhaiFunc}
+use Rattle.rhd_func.specs.Funcs.{native_of}
+use Rattle.rhd_module.specs.declared.key.Key.{Key}
+use Rattle.rhd_module.specs.declared.declaration.Declaration.{Declaration}
+use Rattle.rhd_module.specs.Keys.{key_eq}
+use Rattle.rhd_module.specs.Tree.{ModuleTree, Pairs}
+use Rattle.rhd_module.specs.Shown.{own_decl}
+use Rattle.rhd_module.specs.Registered.{put, with_decl}
+use Rattle.rhd_session.specs.Held.{is_below, func_held, names_held, all_held}
+use Rattle.rhd_session.specs.declared.pick.Layer.{Layer}
+use Rattle.rhd_session.specs.declared.pick.Layer.TheVariants.{Library, Global}
+use Rattle.rhd_session.specs.declared.pick.Pick.{Pick}
+use Rattle.rhd_session.specs.Engine.{EngineLists, Frame}
+use Rattle.rhd_session.specs.Searched.{Place, own_place, global_modules, pick_at, found}
+
+abbrev is_held : ℕ → Declaration → Bool
+is_held n d = func_held n d.func
+
+abbrev pairs_held : ℕ → Pairs → Bool
+pairs_held n ps = list_all (λ p. is_held n p.1) ps
+
+pub both : (a b : Bool) → a ≡ true → b ≡ true → (a && b) ≡ true
+both true true p q = refl
+both true false p q = q
+both false b p q = p
+
+pub parts : (a b : Bool) → (a && b) ≡ true → (a ≡ true) × (b ≡ true)
+parts true b e = (refl, e)
+parts false b e = absurd cc
+
+put_step : (n : ℕ) (k : Key) (d : Declaration) (p : Key × Declaration) (ps : Pairs) (same : Bool) → is_held n d ≡ true → pairs_held n (p ∷ ps) ≡ true → pairs_held n (put k d ps) ≡ true
+    → pairs_held n (cond same ((p.0, d) ∷ ps) (p ∷ put k d ps)) ≡ true
+put_step n k d p ps true h all ih = both (is_held n d) (pairs_held n ps) h (parts (is_held n p.1) (pairs_held n ps) all).1
+put_step n k d p ps false h all ih = both (is_held n p.1) (pairs_held n (put k d ps)) (parts (is_held n p.1) (pairs_held n ps) all).0 ih
+
+put_held : (n : ℕ) (k : Key) (d : Declaration) (ps : Pairs) → is_held n d ≡ true → pairs_held n ps ≡ true → pairs_held n (put k d ps) ≡ true
+put_held n k d [] h all = both (is_held n d) true h refl
+put_held n k d (p ∷ ps) h all = put_step n k d p ps (key_eq k p.0) h all (put_held n k d ps h (parts (is_held n p.1) (pairs_held n ps) all).1)
+
+-- a held native is put in
+pub stays_held : (n : ℕ) (k : Key) (d : Declaration) (m : ModuleTree) → func_held n d.func ≡ true → names_held n m ≡ true → names_held n (with_decl k d m) ≡ true
+stays_held n k d m h all = put_held n k d m.own.eager h all
+
+-- whether or not a held native is put in
+pub stays_either : {E : Type 0} (r : Result (Unit {0}) E) (n : ℕ) (k : Key) (d : Declaration) (old new : ModuleTree) → OnOk r (new ≡ with_decl k d old) → OnErr r (new ≡ old)
+    → func_held n d.func ≡ true → names_held n old ≡ true → names_held n new ≡ true
+stays_either (Ok u) n k d old new ok err h all = ap (names_held n) ok ∙ stays_held n k d old h all
+stays_either (Err e) n k d old new ok err h all = ap (names_held n) err ∙ all
+
+-- the native of a number that is held is below the number of natives
+pub holds_number : {N : Type 0} (items : List N) (func : RhaiFunc) (id : FnId) (native : N) → native_of func ≡ Some id → slice_get items id.0 ≡ Some native → func_held (length items) func ≡ true
+holds_number items func id native e some = ap (is_below (length items)) e ∙ lt-ltb id.0 (length items) (slice_get_within items id.0 native some)
+
+pub number_held : (n : ℕ) (func : RhaiFunc) (id : FnId) → native_of func ≡ Some id → func_held n func ≡ true → id.0 < n
+number_held n func id e h = ltb-true id.0 n (sym (ap (is_below n) e) ∙ h)
+
+pub on_err : {T E : Type 0} (r : Result T E) (P : Type 0) → P → OnErr r P
+on_err (Ok x) P p = tt
+on_err (Err e) P p = p
+
+-- Lists of modules.
+
+pub all_push : (n : ℕ) (ms : List ModuleTree) (m : ModuleTree) → all_held n ms ≡ true → names_held n m ≡ true → all_held n (ms ++ m ∷ []) ≡ true
+all_push n ms m all h = list_all-append (names_held n) ms (m ∷ []) ∙ both (all_held n ms) (names_held n m && true) all (both (names_held n m) true h refl)
+
+pub all_at : (n : ℕ) (ms : List ModuleTree) (i : ℕ) (m : ModuleTree) → all_held n ms ≡ true → slice_get ms i ≡ Some m → names_held n m ≡ true
+all_at n [] i m all e = absurd cc
+all_at n (x ∷ ms) zero m all e = let same : x ≡ m = cc in ap (names_held n) (sym same) ∙ (parts (names_held n x) (all_held n ms) all).0
+all_at n (x ∷ ms) (suc i) m all e = all_at n ms i m (parts (names_held n x) (all_held n ms) all).1 e
+
+pub all_set : (n : ℕ) (ms : List ModuleTree) (i : ℕ) (m : ModuleTree) → all_held n ms ≡ true → names_held n m ≡ true → all_held n (slice_set ms i m) ≡ true
+all_set n [] i m all h = refl
+all_set n (x ∷ ms) zero m all h = both (names_held n m) (all_held n ms) h (parts (names_held n x) (all_held n ms) all).1
+all_set n (x ∷ ms) (suc i) m all h = both (names_held n x) (all_held n (slice_set ms i m)) (parts (names_held n x) (all_held n ms) all).0 (all_set n ms i m (parts (names_held n x) (all_held n ms) all).1 h)
+
+-- What a key finds.
+
+found_step : (n : ℕ) (key : Key) (p : Key × Declaration) (ps : Pairs) (d : Declaration) (same : Bool) → pairs_held n (p ∷ ps) ≡ true → (pairs_held n ps ≡ true → lookup (key_eq key) ps ≡ Some d → is_held n d ≡ true)
+    → cond same (Some p.1) (lookup (key_eq key) ps) ≡ Some d → is_held n d ≡ true
+found_step n key p ps d true all ih e = let q : p.1 ≡ d = cc in ap (is_held n) (sym q) ∙ (parts (is_held n p.1) (pairs_held n ps) all).0
+found_step n key p ps d false all ih e = ih (parts (is_held n p.1) (pairs_held n ps) all).1 e
+
+found_held : (n : ℕ) (key : Key) (ps : Pairs) (d : Declaration) → pairs_held n ps ≡ true → lookup (key_eq key) ps ≡ Some d → is_held n d ≡ true
+found_held n key [] d all e = absurd cc
+found_held n key (p ∷ ps) d all e = found_step n key p ps d (key_eq key p.0) all (found_held n key ps d) e
+
+there_held : (n : ℕ) (m : ModuleTree) (key : Key) (d : Declaration) → names_held n m ≡ true → own_decl m key ≡ Some d → func_held n d.func ≡ true
+unfolding own_decl
+there_held n m key d all e = found_held n key m.own.eager d all e
+
+-- numbered modules, each of which names held natives
+abbrev numbered_held : ℕ → List (ℕ × ModuleTree) → Bool
+numbered_held n ys = list_all (λ y. names_held n y.1) ys
+
+enumerated : (n k : ℕ) (ms : List ModuleTree) → numbered_held n (enumerate_from k ms) ≡ all_held n ms
+enumerated n k [] = refl
+enumerated n k (m ∷ ms) = ap (λ (b : Bool). names_held n m && b) (enumerated n (k + 1) ms)
+
+commutes : (a b : Bool) → (b && (a && true)) ≡ (a && b)
+commutes true true = refl
+commutes true false = refl
+commutes false true = refl
+commutes false false = refl
+
+reversed : (n : ℕ) (ys : List (ℕ × ModuleTree)) → numbered_held n (reverse ys) ≡ numbered_held n ys
+reversed n [] = refl
+reversed n (y ∷ ys) =
+    ap (numbered_held n) (reverse-append (y ∷ []) ys) ∙ list_all-append (λ (z : ℕ × ModuleTree). names_held n z.1) (reverse ys) (y ∷ [])
+    ∙ ap (λ (b : Bool). b && (names_held n y.1 && true)) (reversed n ys) ∙ commutes (names_held n y.1) (numbered_held n ys)
+
+pick_held : (n : ℕ) (layer : Layer) (o : Option Declaration) (pick : Pick) → ((d : Declaration) → o ≡ Some d → func_held n d.func ≡ true) → option_map (λ d. record { layer = layer; func = d.func }) o ≡ Some pick → func_held n pick.func ≡ true
+pick_held n layer None pick h e = absurd cc
+pick_held n layer (Some d) pick h e = let same : record { layer = layer; func = d.func } ≡ pick = cc in ap (λ (p : Pick). func_held n p.func) (sym same) ∙ h d refl
+
+first_held : (n : ℕ) (layer : ℕ → Layer) (key : Key) (pick : Pick) (ys : List (ℕ × ModuleTree)) (more : List Place) → numbered_held n ys ≡ true
+    → (first_of (pick_at key) more ≡ Some pick → func_held n pick.func ≡ true)
+    → first_of (pick_at key) (map (own_place layer) ys ++ more) ≡ Some pick → func_held n pick.func ≡ true
+first_held n layer key pick [] more all rest e = rest e
+first_held n layer key pick ((i, m) ∷ ys) more all rest e =
+    let own = parts (names_held n m) (numbered_held n ys) all in
+    let by : (o : Option Pick) → pick_at key (own_place layer (i, m)) ≡ o → option_or o (first_of (pick_at key) (map (own_place layer) ys ++ more)) ≡ Some pick → func_held n pick.func ≡ true =
+    elim [
+      | None ↦ (λ q r. first_held n layer key pick ys more own.1 rest r)
+      | Some p ↦ (λ q r. let same : p ≡ pick = cc in pick_held n (layer i) (own_decl m key) pick (λ d h. there_held n m key d own.0 h) (q ∙ ap Some same))
+    ] in
+    by (pick_at key (own_place layer (i, m))) refl e
+
+none_held : (n : ℕ) (key : Key) (pick : Pick) → first_of (pick_at key) [] ≡ Some pick → func_held n pick.func ≡ true
+none_held n key pick e = absurd cc
+
+-- what a key finds is held
+pub found_is_held : (n : ℕ) (e : EngineLists) (f : Frame) (key : Key) (pick : Pick) → all_held n e.globals ≡ true → all_held n f.libs ≡ true → found e f key ≡ Some pick → func_held n pick.func ≡ true
+found_is_held n e f key pick globals libs is =
+    first_held n Library key pick (reverse (enumerate_from 0 f.libs)) (global_modules e) (reversed n (enumerate_from 0 f.libs) ∙ enumerated n 0 f.libs ∙ libs)
+    (λ r. first_held n Global key pick (enumerate_from 0 e.globals) [] (enumerated n 0 e.globals ∙ globals) (none_held n key pick) (ap (first_of (pick_at key)) (append-nil (global_modules e)) ∙ r)) is

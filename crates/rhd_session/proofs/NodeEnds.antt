@@ -1,0 +1,416 @@
+-- How each call of a tree ends.
+use Rattle.std.proofs.Common.{◌≡◌, ℕ, ◌<◌, ◌≤◌, Bool, true, false, ltb, List, [], refl, sym, ap, ◌∙◌, subst, ◌⊎◌, inl, inr, arith}
+use Rattle.std.specs.Prelude.{◌↔◌, if◌then◌else◌, Option, None, Some, Err}
+use Rattle.std.proofs.lemmas.Bool.{ltb-true, ltb-false}
+use Rattle.rhd_value.specs.Tree.{Bytes, Tree}
+use Rattle.rhd_value.specs.Kinds.{type_name}
+use Rattle.rhd_value.specs.declared.tag.Position.{Position}
+use Rattle.rhd_value.specs.declared.tag.TypeTag.{TypeTag}
+use Rattle.rhd_value.specs.declared.fault.EvalAltResult.{EvalAltResult}
+use Rattle.rhd_value.specs.declared.fault.EvalAltResult.TheVariants.{ErrorFunctionNotFound, ErrorDataRace, ErrorMismatchOutputType, ErrorMismatchDataType, ErrorTooManyOperations, ErrorStackOverflow, ErrorDataTooLarge, ErrorRuntime}
+use Rattle.rhd_func.specs.declared.func.RhaiFunc.{RhaiFunc}
+use Rattle.rhd_func.specs.declared.func.RhaiFunc.TheVariants as funcs
+use Rattle.rhd_func.specs.declared.request.Carry.{Carry}
+use Rattle.rhd_func.specs.declared.request.CallRequest.{CallRequest}
+use Rattle.rhd_func.specs.declared.request.CallRequest.TheVariants.{Named}
+use Rattle.rhd_func.specs.declared.request.CallShape.{CallShape}
+use Rattle.rhd_func.specs.declared.request.CallShape.TheVariants.{Plain, ByRef, Method}
+use Rattle.rhd_func.specs.declared.request.NativeStep.{NativeStep}
+use Rattle.rhd_func.specs.declared.request.NativeStep.TheVariants.{Done}
+use Rattle.rhd_func.specs.Funcs.{is_method, is_script}
+use Rattle.rhd_func.specs.Shapes.{first_given, given, pos_of}
+use Rattle.rhd_session.specs.Engine.{Frame}
+use Rattle.rhd_session.specs.World.{World, Objects, Moment}
+use Rattle.rhd_session.specs.declared.ends.End.{End}
+use Rattle.rhd_session.specs.declared.limits.Limits.{Limits}
+use Rattle.rhd_session.specs.declared.node.CallNode.{CallNode}
+use Rattle.rhd_session.specs.declared.node.Whose.TheVariants.{Call, Called}
+use Rattle.rhd_session.specs.declared.pick.Pick.{Pick}
+use Rattle.rhd_session.specs.Display.{display}
+use Rattle.rhd_session.specs.Plans.{Plan, plan_of}
+use Rattle.rhd_session.specs.Received.{manner_of, has_the_given}
+use Rattle.rhd_session.specs.Ends.{first_at_end, end_of}
+use Rattle.rhd_session.specs.Decisions.{locked_place, refusal}
+use Rattle.rhd_session.specs.FirstAsks.{EndsAlone, missing_end}
+use Rattle.rhd_session.specs.Causes.{IsOwn, IsFirstLocked, NamesLocked, AreWithin, IsTooLarge, IsOfOtherKind, EndsWith, RefusesKind, RefusesSize, RefusesValue, for_kind, for_size, gave_back, GivesBack}
+use Rattle.rhd_session.specs.Entered.{context}
+use Rattle.rhd_session.specs.Seen.{Seen, seen, begun_node, unbegun_node, cut_end}
+use Rattle.rhd_session.specs.Steps.{Starts}
+use Rattle.rhd_session.specs.Runs.{Runs, not_begun, ended, finished, cut_short, Steps, received_by}
+use Rattle.rhd_session.proofs.Found.{plan_pos, deep_end, locked_end, refused_where, refusal_is}
+use Rattle.rhd_session.proofs.FirstAnswered.{ends_missing, runs_first}
+use Rattle.rhd_session.proofs.LastSteps.{EndsBy, fails, is_large, is_other, fits, ends_by, large_ends, other_ends}
+use Rattle.rhd_session.proofs.Locked.{place_first, first_place}
+
+-- a call is refused for its level, or else for a locked argument
+refused_parts : (call : CallRequest) (limit level : ℕ) (deep : Bool) (locked : Option ℕ) (end : End) → ltb limit level ≡ deep → refused_where call deep locked ≡ Some end
+    → ((limit < level) × (end ≡ deep_end call)) ⊎ ((level ≤ limit) × (n : ℕ) × (locked ≡ Some n) × (end ≡ locked_end call n))
+refused_parts call limit level true locked end e h = inl (ltb-true limit level e, cc)
+refused_parts call limit level false (Some n) end e h = inr (ltb-false limit level e, n, refl, cc)
+refused_parts call limit level false None end e h = absurd cc
+
+unrefused_parts : (call : CallRequest) (limit level : ℕ) (deep : Bool) (locked : Option ℕ) → ltb limit level ≡ deep → refused_where call deep locked ≡ None → (level ≤ limit) × (locked ≡ None)
+unrefused_parts call limit level true locked e h = absurd cc
+unrefused_parts call limit level false (Some n) e h = absurd cc
+unrefused_parts call limit level false None e h = (ltb-false limit level e, refl)
+
+plan_given : (call : CallRequest) → (plan_of call).given ≡ given call
+plan_given (Named name native_only shape want pos) = refl
+
+given_shape : (call : CallRequest) → first_given (plan_of call).shape ≡ given call
+given_shape (Named name native_only shape want pos) = refl
+
+-- what of its first argument a function has itself
+copies_native : (func : RhaiFunc) (shape : CallShape) → is_script func ≡ false → is_method func ≡ false → has_the_given (manner_of func) shape ≡ false
+copies_native (funcs.Pure id context pure volatile) shape s m = refl
+copies_native (funcs.Method id context pure volatile) shape s m = absurd cc
+copies_native (funcs.Script def env) shape s m = absurd cc
+
+copies_script : (func : RhaiFunc) (first : Tree) (args : List Tree) → is_script func ≡ true → has_the_given (manner_of func) (ByRef first args) ≡ false
+copies_script (funcs.Pure id context pure volatile) first args s = absurd cc
+copies_script (funcs.Method id context pure volatile) first args s = absurd cc
+copies_script (funcs.Script def env) first args s = refl
+
+has_in_method : (func : RhaiFunc) (shape : CallShape) (first : Tree) → is_method func ≡ true → first_given shape ≡ Some first → has_the_given (manner_of func) shape ≡ true
+has_in_method (funcs.Pure id context pure volatile) shape first m h = absurd cc
+has_in_method (funcs.Method id context pure volatile) (Plain args) first m h = absurd cc
+has_in_method (funcs.Method id context pure volatile) (ByRef a args) first m h = refl
+has_in_method (funcs.Method id context pure volatile) (Method a args) first m h = refl
+has_in_method (funcs.Script def env) shape first m h = absurd cc
+
+has_object : (func : RhaiFunc) (object : Tree) (args : List Tree) → is_script func ≡ true → has_the_given (manner_of func) (Method object args) ≡ true
+has_object (funcs.Pure id context pure volatile) object args s = absurd cc
+has_object (funcs.Method id context pure volatile) object args s = absurd cc
+has_object (funcs.Script def env) object args s = refl
+
+-- every end of a last step shows the first argument as it is in the end
+ends_first : {limits : Limits} {plan : Plan} {pick : Pick} {step : NativeStep} {end : End} → EndsBy limits plan pick step end → end.first_after ≡ first_at_end plan pick (gave_back step)
+ends_first {plan = plan} {pick = pick} (fails fault back is e) = ap (λ (x : End). x.first_after) e ∙ ap (first_at_end plan pick) (sym (ap gave_back is))
+ends_first {plan = plan} {pick = pick} (is_large v back what is l e) = ap (λ (x : End). x.first_after) e ∙ ap (first_at_end plan pick) (sym (ap gave_back is))
+ends_first {plan = plan} {pick = pick} (is_other v back kind is within other e) = ap (λ (x : End). x.first_after) e ∙ ap (first_at_end plan pick) (sym (ap gave_back is))
+ends_first {plan = plan} {pick = pick} (fits v back is within wanted e) = ap (λ (x : End). x.first_after) e ∙ ap (first_at_end plan pick) (sym (ap gave_back is))
+
+not_own : {fault own : EvalAltResult} (end : End) → end.answer ≡ Err own → end.answer ≡ Err fault → fault ≡ own
+not_own end e h = cc
+
+-- faults by their numbers
+abbrev number : EvalAltResult → ℕ
+number (ErrorFunctionNotFound text pos) = 1
+number (ErrorDataRace text pos) = 6
+number (ErrorMismatchOutputType wanted got pos) = 7
+number (ErrorMismatchDataType wanted got pos) = 8
+number (ErrorTooManyOperations pos) = 9
+number (ErrorStackOverflow pos) = 10
+number (ErrorDataTooLarge text pos) = 11
+number (ErrorRuntime text pos) = 15
+
+no_fault : {fault own : EvalAltResult} (end : End) → end.answer ≡ Err own → end.answer ≡ Err fault → (number fault ≡ number own → ⊥) → ⊥
+no_fault end e h n = n (ap number (not_own end e h))
+
+is_called : (end : End) {fault : EvalAltResult} → end.whose ≡ Called → IsOwn end fault → ⊥
+is_called end e h = let q : Called ≡ Call = sym e ∙ h.0 in absurd cc
+
+-- a last step with which the call ends by a fault of its own
+record OwnSize (limits : Limits) (plan : Plan) (pick : Pick) (step : NativeStep) (end : End) (fault : EvalAltResult) : Type 0 where
+  value : Tree
+  back : Option Tree
+  what : Bytes
+  step_is : step ≡ Done value back
+  large : IsTooLarge limits plan pick back value what
+  says : fault ≡ ErrorDataTooLarge what plan.pos
+  refused : end.refused ≡ Some value
+
+record OwnKind (limits : Limits) (plan : Plan) (pick : Pick) (step : NativeStep) (end : End) (fault : EvalAltResult) : Type 0 where
+  value : Tree
+  back : Option Tree
+  kind : TypeTag
+  step_is : step ≡ Done value back
+  within : AreWithin limits plan pick back value
+  other : IsOfOtherKind plan.want kind value
+  says : fault ≡ ErrorMismatchOutputType (type_name kind) (display value) plan.pos
+  refused : end.refused ≡ Some value
+
+own_last : {limits : Limits} {plan : Plan} {pick : Pick} {step : NativeStep} (end : End) (fault : EvalAltResult) → EndsBy limits plan pick step end → IsOwn end fault → OwnSize limits plan pick step end fault ⊎ OwnKind limits plan pick step end fault
+own_last end fault (fails own back is e) h = absurd (is_called end (ap (λ (x : End). x.whose) e) h)
+own_last end fault (is_large v back what is l e) h =
+    inl (record { value = v; back = back; what = what; step_is = is; large = l; says = not_own end (ap (λ (x : End). x.answer) e) h.1; refused = ap (λ (x : End). x.refused) e })
+own_last end fault (is_other v back kind is within other e) h =
+    inr (record { value = v; back = back; kind = kind; step_is = is; within = within; other = other; says = not_own end (ap (λ (x : End). x.answer) e) h.1; refused = ap (λ (x : End). x.refused) e })
+own_last end fault (fits v back is within wanted e) h = absurd (is_called end (ap (λ (x : End). x.whose) e) h)
+
+-- a last step with which the call refuses a value
+abbrev RefusedLast : Limits → Plan → Pick → NativeStep → End → Tree → Type 0
+RefusedLast limits plan pick step end value =
+    ((fault : EvalAltResult) × (r : OwnSize limits plan pick step end fault) × (r.value ≡ value)) ⊎ ((fault : EvalAltResult) × (r : OwnKind limits plan pick step end fault) × (r.value ≡ value))
+
+refused_last : {limits : Limits} {plan : Plan} {pick : Pick} {step : NativeStep} {end : End} (value : Tree) → EndsBy limits plan pick step end → end.refused ≡ Some value → RefusedLast limits plan pick step end value
+refused_last value (fails own back is e) h = let q : None ≡ Some value = sym (ap (λ (x : End). x.refused) e) ∙ h in absurd cc
+refused_last {plan = plan} value (is_large v back what is l e) h =
+    let q : Some v ≡ Some value = sym (ap (λ (x : End). x.refused) e) ∙ h in
+    inl (ErrorDataTooLarge what plan.pos, record { value = v; back = back; what = what; step_is = is; large = l; says = refl; refused = ap (λ (x : End). x.refused) e }, cc)
+refused_last {plan = plan} value (is_other v back kind is within other e) h =
+    let q : Some v ≡ Some value = sym (ap (λ (x : End). x.refused) e) ∙ h in
+    inr (ErrorMismatchOutputType (type_name kind) (display v) plan.pos, record { value = v; back = back; kind = kind; step_is = is; within = within; other = other; says = refl; refused = ap (λ (x : End). x.refused) e }, cc)
+refused_last value (fits v back is within wanted e) h = let q : None ≡ Some value = sym (ap (λ (x : End). x.refused) e) ∙ h in absurd cc
+
+module _ {B : Type 0} (o : Objects B) (w : World) where
+  -- the ways in which a call may end
+  pub data ShowsEnd (f : Frame) (level : ℕ) (call : CallRequest) (node : CallNode) (cut : Bool) : Type 0 where
+    isnt_begun : seen node ≡ unbegun_node call level → ShowsEnd f level call node cut
+    is_deep : w.engine.limits.level < level → seen node ≡ begun_node call level None [] [] (deep_end call) → ShowsEnd f level call node cut
+    is_locked : (n : ℕ) → level ≤ w.engine.limits.level → locked_place (plan_of call).shape ≡ Some n → seen node ≡ begun_node call level None [] [] (locked_end call n) → ShowsEnd f level call node cut
+    is_missing : level ≤ w.engine.limits.level → locked_place (plan_of call).shape ≡ None → seen node ≡ begun_node call level None [] [] (missing_end call) → ShowsEnd f level call node cut
+    has_ended : (pick : Pick) (last : NativeStep) → level ≤ w.engine.limits.level → locked_place (plan_of call).shape ≡ None → (seen node).call ≡ call → EndsWith o w f (seen node) pick last → EndsBy w.engine.limits (plan_of (seen node).call) pick last (seen node).end → ShowsEnd f level call node cut
+    was_cut : (pick : Pick) → cut ≡ true → level ≤ w.engine.limits.level → locked_place (plan_of call).shape ≡ None → (seen node).begun ≡ true → (seen node).pick ≡ Some pick → (seen node).end ≡ cut_end call → ShowsEnd f level call node cut
+
+  -- nothing refuses a call whose function runs
+  unrefused : (level : ℕ) (call : CallRequest) → refusal w.engine level call ≡ None → (level ≤ w.engine.limits.level) × (locked_place (plan_of call).shape ≡ None)
+  unrefused level call h = unrefused_parts call w.engine.limits.level level (ltb w.engine.limits.level level) (locked_place (plan_of call).shape) refl (sym (refusal_is w.engine level call) ∙ h)
+
+  ended_by : (f : Frame) (level : ℕ) (call : CallRequest) (node : CallNode) (plan : Plan) (pick : Pick) (first last : NativeStep) (carries : List Carry) (children : List CallNode) (end : End) (from to till : Moment B) →
+      plan ≡ plan_of call → seen node ≡ begun_node call level (Some pick) carries children end →
+      Starts o (context f level plan) pick.func (received_by plan pick) from first to →
+      Steps o w f level plan pick first carries children last to till →
+      end_of w.engine plan pick last ≡ Some end → EndsWith o w f (seen node) pick last
+  ended_by f level call node plan pick first last carries children end from to till is s starts steps e =
+      subst (λ (x : Seen). EndsWith o w f x pick last) (sym s)
+      (record {
+        before = from;
+        started = to;
+        after = till;
+        first = first;
+        shown = refl;
+        starts = subst (λ (p : Plan). Starts o (context f level p) pick.func (received_by p pick) from first to) is starts;
+        steps = subst (λ (p : Plan). Steps o w f level p pick first carries children last to till) is steps;
+        ends = subst (λ (p : Plan). end_of w.engine p pick last ≡ Some end) is e;
+      })
+
+  alone_by : (f : Frame) (level : ℕ) (call : CallRequest) (node : CallNode) (cut : Bool) (pick : Option Pick) (end : End) → pick ≡ None → EndsAlone w.engine f level call end → seen node ≡ begun_node call level pick [] [] end → ShowsEnd f level call node cut
+  alone_by f level call node cut pick end none (inl refused) s =
+      let by : ((w.engine.limits.level < level) × (end ≡ deep_end call)) ⊎ ((level ≤ w.engine.limits.level) × (n : ℕ) × (locked_place (plan_of call).shape ≡ Some n) × (end ≡ locked_end call n)) → ShowsEnd f level call node cut =
+      elim [
+        | inl deep ↦ is_deep deep.0 (s ∙ (λ i. begun_node call level (none i) [] [] (deep.1 i)))
+        | inr locked ↦ is_locked locked.1 locked.0 locked.2 (s ∙ (λ i. begun_node call level (none i) [] [] (locked.3 i)))
+      ] in
+      by (refused_parts call w.engine.limits.level level (ltb w.engine.limits.level level) (locked_place (plan_of call).shape) end refl (sym (refusal_is w.engine level call) ∙ refused))
+  alone_by f level call node cut pick end none (inr missing) s =
+      let u = unrefused level call missing.0 in is_missing u.0 u.1 (s ∙ (λ i. begun_node call level (none i) [] [] (missing.1 i)))
+
+  pub runs_end : {f : Frame} {level : ℕ} {call : CallRequest} {node : CallNode} {before after : Moment B} {cut : Bool} → Runs o w f level call node before after cut → ShowsEnd f level call node cut
+  runs_end (not_begun b s) = isnt_begun s
+  runs_end (ended {f = f} {level = level} {call = call} {node = node} {pick = pick} {end = end} b d s) =
+      let m = ends_missing w.engine f level call pick end d in alone_by f level call node false pick end m.0 m.1 s
+  runs_end (finished {f = f} {level = level} {call = call} {node = node} {before = before} {started = started} {after = after} {plan = plan} {pick = pick} {first = first} {last = last} {carries = carries} {children = children} {end = end} b d starts steps e s) =
+      let r = runs_first w.engine f level call plan pick d in
+      let u = unrefused level call r.0 in
+      has_ended pick last u.0 u.1 (ap (λ (x : Seen). x.call) s) (ended_by f level call node plan pick first last carries children end _ started after r.1 s starts steps e)
+      (subst (λ (p : Plan). EndsBy w.engine.limits p pick last (seen node).end) (r.1 ∙ ap plan_of (sym (ap (λ (x : Seen). x.call) s)))
+      (subst (λ (x : End). EndsBy w.engine.limits plan pick last x) (sym (ap (λ (x : Seen). x.end) s)) (ends_by w.engine plan pick last end e)))
+  runs_end (cut_short {f = f} {level = level} {call = call} {plan = plan} {pick = pick} b d starts steps r s) =
+      let u = unrefused level call (runs_first w.engine f level call plan pick d).0 in
+      was_cut pick refl u.0 u.1 (ap (λ (x : Seen). x.begun) s) (ap (λ (x : Seen). x.pick) s) (ap (λ (x : Seen). x.end) s)
+
+  -- fault 6
+  race_only : {f : Frame} {level : ℕ} {call : CallRequest} {node : CallNode} {cut : Bool} (text : Bytes) (pos : Position) → ShowsEnd f level call node cut → (seen node).begun ≡ true → IsOwn (seen node).end (ErrorDataRace text pos)
+      → (level ≤ w.engine.limits.level) × NamesLocked call (ErrorDataRace text pos)
+  race_only text pos (isnt_begun s) begun h = let q : false ≡ true = sym (ap (λ (x : Seen). x.begun) s) ∙ begun in absurd cc
+  race_only {node = node} text pos (is_deep deep s) begun h = absurd (no_fault (seen node).end (ap (λ (x : Seen). x.end.answer) s) h.1 (λ q. absurd (omega (arith, q))))
+  race_only {call = call} {node = node} text pos (is_locked n l place s) begun h = (l, (n, place_first (plan_of call).shape n place, not_own (seen node).end (ap (λ (x : Seen). x.end.answer) s) h.1))
+  race_only {node = node} text pos (is_missing l none s) begun h = absurd (no_fault (seen node).end (ap (λ (x : Seen). x.end.answer) s) h.1 (λ q. absurd (omega (arith, q))))
+  race_only {node = node} text pos (has_ended pick last l none c came by) begun h =
+      let no : OwnSize w.engine.limits (plan_of (seen node).call) pick last (seen node).end (ErrorDataRace text pos) ⊎ OwnKind w.engine.limits (plan_of (seen node).call) pick last (seen node).end (ErrorDataRace text pos) → ⊥ =
+      elim [ inl r ↦ (let q = ap number r.says in absurd (omega (arith, q))) | inr r ↦ (let q = ap number r.says in absurd (omega (arith, q))) ]
+      in absurd (no (own_last (seen node).end (ErrorDataRace text pos) by h))
+  race_only {node = node} text pos (was_cut pick c l none begun' shown e) begun h = absurd (no_fault (seen node).end (ap (λ (x : End). x.answer) e) h.1 (λ q. absurd (omega (arith, q))))
+
+  pub race_shown : {f : Frame} {level : ℕ} {call : CallRequest} {node : CallNode} {cut : Bool} (n : ℕ) → ShowsEnd f level call node cut → (seen node).begun ≡ true → level ≤ w.engine.limits.level → IsFirstLocked (plan_of call).shape n
+      → seen node ≡ begun_node call level None [] [] (locked_end call n)
+  race_shown n (isnt_begun s) begun l first = let q : false ≡ true = sym (ap (λ (x : Seen). x.begun) s) ∙ begun in absurd cc
+  race_shown n (is_deep deep s) begun l first = absurd (omega arith)
+  race_shown {level = level} {call = call} n (is_locked m l' place s) begun l first =
+      let q : Some m ≡ Some n = sym place ∙ first_place (plan_of call).shape n first in
+      let same : m ≡ n = cc in
+      s ∙ ap (λ (k : ℕ). begun_node call level None [] [] (locked_end call k)) same
+  race_shown {call = call} n (is_missing l' none s) begun l first = let q : None ≡ Some n = sym none ∙ first_place (plan_of call).shape n first in absurd cc
+  race_shown {call = call} n (has_ended pick last l' none c came by) begun l first = let q : None ≡ Some n = sym none ∙ first_place (plan_of call).shape n first in absurd cc
+  race_shown {call = call} n (was_cut pick c l' none begun' shown e) begun l first = let q : None ≡ Some n = sym none ∙ first_place (plan_of call).shape n first in absurd cc
+
+  race_back : {f : Frame} {level : ℕ} {call : CallRequest} {node : CallNode} {cut : Bool} (text : Bytes) (pos : Position) → ShowsEnd f level call node cut → (seen node).begun ≡ true → (level ≤ w.engine.limits.level) × NamesLocked call (ErrorDataRace text pos)
+      → IsOwn (seen node).end (ErrorDataRace text pos)
+  race_back text pos ends begun h =
+      let s = race_shown h.1.0 ends begun h.0 h.1.1 in
+      (ap (λ (x : Seen). x.end.whose) s, ap (λ (x : Seen). x.end.answer) s ∙ ap Err (sym h.1.2))
+
+  pub race_exactly : {f : Frame} {level : ℕ} {call : CallRequest} {node : CallNode} {cut : Bool} (text : Bytes) (pos : Position) → ShowsEnd f level call node cut → (seen node).begun ≡ true
+      → IsOwn (seen node).end (ErrorDataRace text pos) ↔ ((level ≤ w.engine.limits.level) × NamesLocked call (ErrorDataRace text pos))
+  race_exactly text pos ends begun = (race_only text pos ends begun, race_back text pos ends begun)
+
+  -- faults 7 and 11
+  kind_of_last : {f : Frame} (node : CallNode) {pick : Pick} {last : NativeStep} {fault : EvalAltResult} → EndsWith o w f (seen node) pick last → OwnKind w.engine.limits (plan_of (seen node).call) pick last (seen node).end fault → RefusesKind o w f (seen node) fault
+  kind_of_last {f} node {pick} came r = record {
+    pick = pick;
+    back = r.back;
+    value = r.value;
+    kind = r.kind;
+    ended = subst (λ (x : NativeStep). EndsWith o w f (seen node) pick x) r.step_is came;
+    within = r.within;
+    other = r.other;
+    says = r.says ∙ ap (λ (p : Position). ErrorMismatchOutputType (type_name r.kind) (display r.value) p) (plan_pos (seen node).call);
+    refused = r.refused;
+  }
+
+  size_of_last : {f : Frame} (node : CallNode) {pick : Pick} {last : NativeStep} {fault : EvalAltResult} → EndsWith o w f (seen node) pick last → OwnSize w.engine.limits (plan_of (seen node).call) pick last (seen node).end fault → RefusesSize o w f (seen node) fault
+  size_of_last {f} node {pick} came r = record {
+    pick = pick;
+    back = r.back;
+    value = r.value;
+    what = r.what;
+    ended = subst (λ (x : NativeStep). EndsWith o w f (seen node) pick x) r.step_is came;
+    large = r.large;
+    says = r.says ∙ ap (λ (p : Position). ErrorDataTooLarge r.what p) (plan_pos (seen node).call);
+    refused = r.refused;
+  }
+
+  kind_only : {f : Frame} {level : ℕ} {call : CallRequest} {node : CallNode} {cut : Bool} (wanted got : Bytes) (pos : Position) → ShowsEnd f level call node cut → IsOwn (seen node).end (ErrorMismatchOutputType wanted got pos) → RefusesKind o w f (seen node) (ErrorMismatchOutputType wanted got pos)
+  kind_only {node = node} wanted got pos (isnt_begun s) h = absurd (no_fault (seen node).end (ap (λ (x : Seen). x.end.answer) s) h.1 (λ q. absurd (omega (arith, q))))
+  kind_only {node = node} wanted got pos (is_deep deep s) h = absurd (no_fault (seen node).end (ap (λ (x : Seen). x.end.answer) s) h.1 (λ q. absurd (omega (arith, q))))
+  kind_only {node = node} wanted got pos (is_locked n l place s) h = absurd (no_fault (seen node).end (ap (λ (x : Seen). x.end.answer) s) h.1 (λ q. absurd (omega (arith, q))))
+  kind_only {node = node} wanted got pos (is_missing l none s) h = absurd (no_fault (seen node).end (ap (λ (x : Seen). x.end.answer) s) h.1 (λ q. absurd (omega (arith, q))))
+  kind_only {f = f} {node = node} wanted got pos (has_ended pick last l none c came by) h =
+      let one : OwnSize w.engine.limits (plan_of (seen node).call) pick last (seen node).end (ErrorMismatchOutputType wanted got pos) ⊎ OwnKind w.engine.limits (plan_of (seen node).call) pick last (seen node).end (ErrorMismatchOutputType wanted got pos) → RefusesKind o w f (seen node) (ErrorMismatchOutputType wanted got pos) =
+      elim [ inl r ↦ (let q = ap number r.says in absurd (omega (arith, q))) | inr r ↦ kind_of_last node came r ]
+      in one (own_last (seen node).end (ErrorMismatchOutputType wanted got pos) by h)
+  kind_only {node = node} wanted got pos (was_cut pick c l none begun shown e) h = absurd (no_fault (seen node).end (ap (λ (x : End). x.answer) e) h.1 (λ q. absurd (omega (arith, q))))
+
+  kind_back : {f : Frame} (node : CallNode) (fault : EvalAltResult) → RefusesKind o w f (seen node) fault → IsOwn (seen node).end fault
+  kind_back node fault r =
+      let e = other_ends w.engine (plan_of (seen node).call) r.pick r.value r.back r.kind (seen node).end r.within r.other r.ended.ends in
+      (ap (λ (x : End). x.whose) e, ap (λ (x : End). x.answer) e ∙ ap (λ (p : Position). Err (ErrorMismatchOutputType (type_name r.kind) (display r.value) p)) (plan_pos (seen node).call) ∙ ap Err (sym r.says))
+
+  pub kind_exactly : {f : Frame} {level : ℕ} {call : CallRequest} {node : CallNode} {cut : Bool} (wanted got : Bytes) (pos : Position) → ShowsEnd f level call node cut
+      → IsOwn (seen node).end (ErrorMismatchOutputType wanted got pos) ↔ RefusesKind o w f (seen node) (ErrorMismatchOutputType wanted got pos)
+  kind_exactly {node = node} wanted got pos ends = (kind_only wanted got pos ends, kind_back node (ErrorMismatchOutputType wanted got pos))
+
+  size_only : {f : Frame} {level : ℕ} {call : CallRequest} {node : CallNode} {cut : Bool} (what : Bytes) (pos : Position) → ShowsEnd f level call node cut → IsOwn (seen node).end (ErrorDataTooLarge what pos) → RefusesSize o w f (seen node) (ErrorDataTooLarge what pos)
+  size_only {node = node} what pos (isnt_begun s) h = absurd (no_fault (seen node).end (ap (λ (x : Seen). x.end.answer) s) h.1 (λ q. absurd (omega (arith, q))))
+  size_only {node = node} what pos (is_deep deep s) h = absurd (no_fault (seen node).end (ap (λ (x : Seen). x.end.answer) s) h.1 (λ q. absurd (omega (arith, q))))
+  size_only {node = node} what pos (is_locked n l place s) h = absurd (no_fault (seen node).end (ap (λ (x : Seen). x.end.answer) s) h.1 (λ q. absurd (omega (arith, q))))
+  size_only {node = node} what pos (is_missing l none s) h = absurd (no_fault (seen node).end (ap (λ (x : Seen). x.end.answer) s) h.1 (λ q. absurd (omega (arith, q))))
+  size_only {f = f} {node = node} what pos (has_ended pick last l none c came by) h =
+      let one : OwnSize w.engine.limits (plan_of (seen node).call) pick last (seen node).end (ErrorDataTooLarge what pos) ⊎ OwnKind w.engine.limits (plan_of (seen node).call) pick last (seen node).end (ErrorDataTooLarge what pos) → RefusesSize o w f (seen node) (ErrorDataTooLarge what pos) =
+      elim [ inl r ↦ size_of_last node came r | inr r ↦ (let q = ap number r.says in absurd (omega (arith, q))) ]
+      in one (own_last (seen node).end (ErrorDataTooLarge what pos) by h)
+  size_only {node = node} what pos (was_cut pick c l none begun shown e) h = absurd (no_fault (seen node).end (ap (λ (x : End). x.answer) e) h.1 (λ q. absurd (omega (arith, q))))
+
+  size_back : {f : Frame} (node : CallNode) (fault : EvalAltResult) → RefusesSize o w f (seen node) fault → IsOwn (seen node).end fault
+  size_back node fault r =
+      let e = large_ends w.engine (plan_of (seen node).call) r.pick r.value r.back r.what (seen node).end r.large r.ended.ends in
+      (ap (λ (x : End). x.whose) e, ap (λ (x : End). x.answer) e ∙ ap (λ (p : Position). Err (ErrorDataTooLarge r.what p)) (plan_pos (seen node).call) ∙ ap Err (sym r.says))
+
+  pub size_exactly : {f : Frame} {level : ℕ} {call : CallRequest} {node : CallNode} {cut : Bool} (what : Bytes) (pos : Position) → ShowsEnd f level call node cut
+      → IsOwn (seen node).end (ErrorDataTooLarge what pos) ↔ RefusesSize o w f (seen node) (ErrorDataTooLarge what pos)
+  size_exactly {node = node} what pos ends = (size_only what pos ends, size_back node (ErrorDataTooLarge what pos))
+
+  -- no last step ends a call with a fault of its own but for its kind or size
+  no_other : {pick : Pick} {last : NativeStep} {plan : Plan} (end : End) (fault : EvalAltResult) → EndsBy w.engine.limits plan pick last end → (number fault ≡ 7 → ⊥) → (number fault ≡ 11 → ⊥) → IsOwn end fault → ⊥
+  no_other {pick} {last} {plan} end fault by kind size h =
+      let one : OwnSize w.engine.limits plan pick last end fault ⊎ OwnKind w.engine.limits plan pick last end fault → ⊥ = elim [ inl r ↦ size (ap number r.says) | inr r ↦ kind (ap number r.says) ]
+      in one (own_last end fault by h)
+
+  -- fault 9 is that of a spent budget
+  pub spends_not : {f : Frame} {level : ℕ} {call : CallRequest} {node : CallNode} {cut : Bool} → ShowsEnd f level call node cut → cut ≡ false → (seen node).begun ≡ true → IsOwn (seen node).end (ErrorTooManyOperations (pos_of call)) → ⊥
+  spends_not (isnt_begun s) lasts begun h = let q : false ≡ true = sym (ap (λ (x : Seen). x.begun) s) ∙ begun in absurd cc
+  spends_not {node = node} (is_deep deep s) lasts begun h = no_fault (seen node).end (ap (λ (x : Seen). x.end.answer) s) h.1 (λ q. absurd (omega (arith, q)))
+  spends_not {node = node} (is_locked n l place s) lasts begun h = no_fault (seen node).end (ap (λ (x : Seen). x.end.answer) s) h.1 (λ q. absurd (omega (arith, q)))
+  spends_not {node = node} (is_missing l none s) lasts begun h = no_fault (seen node).end (ap (λ (x : Seen). x.end.answer) s) h.1 (λ q. absurd (omega (arith, q)))
+  spends_not {call = call} {node = node} (has_ended pick last l none c came by) lasts begun h = no_other (seen node).end (ErrorTooManyOperations (pos_of call)) by (λ q. absurd (omega (arith, q))) (λ q. absurd (omega (arith, q))) h
+  spends_not (was_cut pick c l none begun' shown e) lasts begun h = let q : true ≡ false = sym c ∙ lasts in absurd cc
+
+  -- and fault 10 that of a level above the limit
+  pub overflows : {f : Frame} {level : ℕ} {call : CallRequest} {node : CallNode} {cut : Bool} → ShowsEnd f level call node cut → (seen node).begun ≡ true → IsOwn (seen node).end (ErrorStackOverflow (pos_of call)) → w.engine.limits.level < level
+  overflows (isnt_begun s) begun h = let q : false ≡ true = sym (ap (λ (x : Seen). x.begun) s) ∙ begun in absurd cc
+  overflows (is_deep deep s) begun h = deep
+  overflows {node = node} (is_locked n l place s) begun h = absurd (no_fault (seen node).end (ap (λ (x : Seen). x.end.answer) s) h.1 (λ q. absurd (omega (arith, q))))
+  overflows {node = node} (is_missing l none s) begun h = absurd (no_fault (seen node).end (ap (λ (x : Seen). x.end.answer) s) h.1 (λ q. absurd (omega (arith, q))))
+  overflows {call = call} {node = node} (has_ended pick last l none c came by) begun h = absurd (no_other (seen node).end (ErrorStackOverflow (pos_of call)) by (λ q. absurd (omega (arith, q))) (λ q. absurd (omega (arith, q))) h)
+  overflows {node = node} (was_cut pick c l none begun' shown e) begun h = absurd (no_fault (seen node).end (ap (λ (x : End). x.answer) e) h.1 (λ q. absurd (omega (arith, q))))
+
+  -- a node shows a refused value in these two cases alone
+  refused_only : {f : Frame} {level : ℕ} {call : CallRequest} {node : CallNode} {cut : Bool} (value : Tree) → ShowsEnd f level call node cut → (seen node).end.refused ≡ Some value → RefusesValue o w f (seen node) value
+  unfolding size_of_last kind_of_last
+  refused_only value (isnt_begun s) h = let q : None ≡ Some value = sym (ap (λ (x : Seen). x.end.refused) s) ∙ h in absurd cc
+  refused_only value (is_deep deep s) h = let q : None ≡ Some value = sym (ap (λ (x : Seen). x.end.refused) s) ∙ h in absurd cc
+  refused_only value (is_locked n l place s) h = let q : None ≡ Some value = sym (ap (λ (x : Seen). x.end.refused) s) ∙ h in absurd cc
+  refused_only value (is_missing l none s) h = let q : None ≡ Some value = sym (ap (λ (x : Seen). x.end.refused) s) ∙ h in absurd cc
+  refused_only {f = f} {node = node} value (has_ended pick last l none c came by) h =
+      let one : RefusedLast w.engine.limits (plan_of (seen node).call) pick last (seen node).end value → RefusesValue o w f (seen node) value =
+      elim [ inl r ↦ for_size (size_of_last node came r.1) r.2 | inr r ↦ for_kind (kind_of_last node came r.1) r.2 ]
+      in one (refused_last value by h)
+  refused_only value (was_cut pick c l none begun shown e) h = let q : None ≡ Some value = sym (ap (λ (x : End). x.refused) e) ∙ h in absurd cc
+
+  refused_back : {f : Frame} (node : CallNode) (value : Tree) → RefusesValue o w f (seen node) value → (seen node).end.refused ≡ Some value
+  refused_back node value (for_kind r e) = r.refused ∙ ap Some e
+  refused_back node value (for_size r e) = r.refused ∙ ap Some e
+
+  pub refused_exactly : {f : Frame} {level : ℕ} {call : CallRequest} {node : CallNode} {cut : Bool} (value : Tree) → ShowsEnd f level call node cut → ((seen node).end.refused ≡ Some value) ↔ RefusesValue o w f (seen node) value
+  refused_exactly {node = node} value ends = (refused_only value ends, refused_back node value)
+
+  -- the first argument
+  pub first_alone : {f : Frame} {level : ℕ} {call : CallRequest} {node : CallNode} {cut : Bool} → ShowsEnd f level call node cut → (seen node).pick ≡ None → (seen node).end.first_after ≡ given call
+  first_alone (isnt_begun s) h = ap (λ (x : Seen). x.end.first_after) s
+  first_alone (is_deep deep s) h = ap (λ (x : Seen). x.end.first_after) s
+  first_alone (is_locked n l place s) h = ap (λ (x : Seen). x.end.first_after) s
+  first_alone {call = call} (is_missing l none s) h = ap (λ (x : Seen). x.end.first_after) s ∙ plan_given call
+  first_alone (has_ended pick last l none c came by) h = let q : Some pick ≡ None = sym came.shown ∙ h in absurd cc
+  first_alone (was_cut pick c l none begun shown e) h = let q : Some pick ≡ None = sym shown ∙ h in absurd cc
+
+  -- what came of it where a function ran to its end
+  record RanFirst (f : Frame) (call : CallRequest) (node : CallNode) (pick : Pick) : Type 0 where
+    last : NativeStep
+    came : EndsWith o w f (seen node) pick last
+    first : (seen node).end.first_after ≡ first_at_end (plan_of call) pick (gave_back last)
+
+  ran_first : {f : Frame} {level : ℕ} {call : CallRequest} {node : CallNode} {cut : Bool} (pick : Pick) → ShowsEnd f level call node cut → cut ≡ false → (seen node).pick ≡ Some pick → RanFirst f call node pick
+  ran_first pick (isnt_begun s) lasts h = let q : None ≡ Some pick = sym (ap (λ (x : Seen). x.pick) s) ∙ h in absurd cc
+  ran_first pick (is_deep deep s) lasts h = let q : None ≡ Some pick = sym (ap (λ (x : Seen). x.pick) s) ∙ h in absurd cc
+  ran_first pick (is_locked n l place s) lasts h = let q : None ≡ Some pick = sym (ap (λ (x : Seen). x.pick) s) ∙ h in absurd cc
+  ran_first pick (is_missing l none s) lasts h = let q : None ≡ Some pick = sym (ap (λ (x : Seen). x.pick) s) ∙ h in absurd cc
+  ran_first {f = f} {call = call} {node = node} pick (has_ended own last l none c came by) lasts h =
+      let q : Some own ≡ Some pick = sym came.shown ∙ h in
+      let same : own ≡ pick = cc in
+      record {
+        last = last;
+        came = subst (λ (x : Pick). EndsWith o w f (seen node) x last) same came;
+        first = ends_first by ∙ (λ i. first_at_end (plan_of (c i)) (same i) (gave_back last));
+      }
+  ran_first pick (was_cut own c l none begun shown e) lasts h = let q : true ≡ false = sym c ∙ lasts in absurd cc
+
+  pub first_copied : {f : Frame} {level : ℕ} {call : CallRequest} {node : CallNode} {cut : Bool} (pick : Pick) → ShowsEnd f level call node cut → cut ≡ false → (seen node).pick ≡ Some pick → has_the_given (manner_of pick.func) (plan_of call).shape ≡ false
+      → (seen node).end.first_after ≡ given call
+  first_copied {call = call} pick ends lasts h copy =
+      let r = ran_first pick ends lasts h in
+      r.first ∙ ap (λ (b : Bool). if b then gave_back r.last else (plan_of call).given) copy ∙ plan_given call
+
+  pub first_itself : {f : Frame} {level : ℕ} {call : CallRequest} {node : CallNode} {cut : Bool} (pick : Pick) → ShowsEnd f level call node cut → cut ≡ false → (seen node).pick ≡ Some pick → has_the_given (manner_of pick.func) (plan_of call).shape ≡ true
+      → GivesBack o w f (seen node) pick
+  first_itself {call = call} pick ends lasts h itself =
+      let r = ran_first pick ends lasts h in
+      (r.last, r.came, r.first ∙ ap (λ (b : Bool). if b then gave_back r.last else (plan_of call).given) itself)
+
+  -- by the function and the shape
+  pub native_leaves : {f : Frame} {level : ℕ} {call : CallRequest} {node : CallNode} {cut : Bool} (pick : Pick) → ShowsEnd f level call node cut → cut ≡ false → (seen node).pick ≡ Some pick → is_script pick.func ≡ false → is_method pick.func ≡ false
+      → (seen node).end.first_after ≡ given call
+  native_leaves {call = call} pick ends lasts h s m = first_copied pick ends lasts h (copies_native pick.func (plan_of call).shape s m)
+
+  pub script_leaves : {f : Frame} {level : ℕ} {call : CallRequest} {node : CallNode} {cut : Bool} (pick : Pick) (first : Tree) (args : List Tree) → ShowsEnd f level call node cut → cut ≡ false → (seen node).pick ≡ Some pick → is_script pick.func ≡ true
+      → (plan_of call).shape ≡ ByRef first args → (seen node).end.first_after ≡ Some first
+  script_leaves {call = call} pick first args ends lasts h s is =
+      first_copied pick ends lasts h (ap (has_the_given (manner_of pick.func)) is ∙ copies_script pick.func first args s) ∙ sym (given_shape call) ∙ ap first_given is
+
+  pub method_gives : {f : Frame} {level : ℕ} {call : CallRequest} {node : CallNode} {cut : Bool} (pick : Pick) (first : Tree) → ShowsEnd f level call node cut → cut ≡ false → (seen node).pick ≡ Some pick → is_method pick.func ≡ true → given call ≡ Some first
+      → GivesBack o w f (seen node) pick
+  method_gives {call = call} pick first ends lasts h m is = first_itself pick ends lasts h (has_in_method pick.func (plan_of call).shape first m (given_shape call ∙ is))
+
+  pub object_gives : {f : Frame} {level : ℕ} {call : CallRequest} {node : CallNode} {cut : Bool} (pick : Pick) (object : Tree) (args : List Tree) → ShowsEnd f level call node cut → cut ≡ false → (seen node).pick ≡ Some pick → is_script pick.func ≡ true
+      → (plan_of call).shape ≡ Method object args → GivesBack o w f (seen node) pick
+  object_gives pick object args ends lasts h s is = first_itself pick ends lasts h (ap (has_the_given (manner_of pick.func)) is ∙ has_object pick.func object args s)

@@ -1,0 +1,12 @@
+use Rattle.std.proofs.Common.{rules, ◌≡◌, length, ◌+◌}
+use Rattle.std.proofs.lemmas.Result.{IfOk-weaker}
+use Rattle.rhd_session.specs.World.{moment}
+use Rattle.rhd_session.specs.Of.{frame_of}
+use Rattle.rhd_session.proofs.Stack.{asked_goes}
+use Rattle.rhd_session.proofs.session.Session.ask.Goals as goal
+
+pub returns-clause-going : goal.returns-clause-going
+returns-clause-going g c = λ call before begun within going.
+    let e : c.len.result ≡ length c.args.stack.now.items = search rules in
+    let k = rw e at c.in_ok-outcome.ensures in
+    IfOk-weaker c.put.result _ _ (λ hand p. asked_goes _ _ c.args.stack.now.items c.put.new.stack.items (frame_of c.args.self.now) call c.args.request before (moment begun c.args.bodies.now) (moment (begun + 1) c.begin.new.bodies) c.in_ok-outcome.outcome hand (λ n. k n begun within) p going) c.put.ensures.put

@@ -1,0 +1,39 @@
+use Rattle.std.proofs.Common.{arith, ◌≡◌, ◌≤◌, refl, ap, length, take, ◌∙◌}
+use Rattle.std.proofs.lemmas.List.{length-take}
+use Rattle.rhd_session.specs.Of.{moment_of}
+use Rattle.rhd_session.proofs.Lists.{answered_length, stopped_at, stopped_before, turn}
+use Rattle.rhd_session.proofs.session.Session.run.Goals as goal
+
+pub returns-then-is_err-clause-stopped : goal.returns-then-is_err-clause-stopped
+returns-then-is_err-clause-stopped g c =
+    let h : c.loop-command.command-index ≤ length c.args.commands.now = omega arith in (
+      moment_of c.loop-command.self c.loop-command.bodies,
+      stopped_at _ _ _ _ c.args.commands.now c.loop-command.command-index c.loop-command.replies.items c.from_vec.result _ _ _ _ _ h (c.from_vec.ensures ∙ c.reserve.ensures.items) refl refl c.loop-command.invariant.answered,
+      omega arith,
+      stopped_before _ _ _ _ c.args.commands.now c.loop-command.command-index c.loop-command.replies.items c.from_vec.result _ _ _ c.loop-command-test.true (c.from_vec.ensures ∙ c.reserve.ensures.items) c.loop-command.invariant.answered,
+    )
+
+pub returns-in-Err-clause-stopped : goal.returns-in-Err-clause-stopped
+returns-in-Err-clause-stopped g c =
+    let h : c.loop-command.command-index ≤ length c.args.commands.now = omega arith in (
+      moment_of c.loop-command.self c.loop-command.bodies,
+      stopped_at _ _ _ _ c.args.commands.now c.loop-command.command-index c.loop-command.replies.items c.from_vec-in-Err.result _ _ _ _ _ h (c.from_vec-in-Err.ensures ∙ c.reserve.ensures.items) c.in-Err.ensures.failed.0 c.in-Err.ensures.failed.1 c.loop-command.invariant.answered,
+      c.in-Err.ensures.rises,
+      stopped_before _ _ _ _ c.args.commands.now c.loop-command.command-index c.loop-command.replies.items c.from_vec-in-Err.result _ _ _ c.loop-command-test.true (c.from_vec-in-Err.ensures ∙ c.reserve.ensures.items) c.loop-command.invariant.answered,
+    )
+
+pub loop-command-preserved : goal.loop-command-preserved
+loop-command-preserved g c =
+    let i = c.loop-command.invariant in
+    let replied = simp i.natives at c.in-Ok.ensures.replied in
+    record {
+      count = omega (arith, i.count, c.in-Ok.ensures.count);
+      natives = c.in-Ok.ensures.natives ∙ i.natives;
+      answered = turn _ _ _ _ c.args.commands.now c.loop-command.command-index c.command-item.result c.loop-command.replies.items c.reserve.new.self.items c.push_reserved.new.self.items c.in-Ok.reply _ _ _ _ _ _ c.loop-command-test.true c.command-item.is c.reserve.ensures.items c.push_reserved.ensures.items i.answered replied;
+    }
+
+pub returns-clause-counted : goal.returns-clause-counted
+returns-clause-counted g c =
+    let commands = c.args.commands.now in
+    let i : c.loop-command.command-index ≡ length commands = omega arith in
+    omega (arith, i, ap length c.from_vec-2.ensures, answered_length _ _ _ _ (take c.loop-command.command-index commands) c.loop-command.replies.items _ _ _ c.loop-command.invariant.answered, length-take c.loop-command.command-index commands)

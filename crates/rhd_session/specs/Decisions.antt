@@ -1,0 +1,73 @@
+-- What becomes of a call: everything that no function has a choice in.
+use Rattle.std.specs.Prelude.{ℕ, ◌+◌, List, [], ◌∷◌, ◌++◌, nat_lt, if◌then◌else◌, Option, None, Some, option_map, codes, decimal}
+use Rattle.rhd_value.specs.Tree.{Bytes, Tree}
+use Rattle.rhd_value.specs.Firsts.{first_some, where_holds}
+use Rattle.rhd_value.specs.declared.fault.EvalAltResult.{EvalAltResult}
+use Rattle.rhd_value.specs.declared.fault.EvalAltResult.TheVariants.{ErrorStackOverflow, ErrorDataRace}
+use Rattle.rhd_func.specs.declared.request.CallShape.{CallShape}
+use Rattle.rhd_func.specs.declared.request.CallShape.TheVariants.{Plain, ByRef, Method}
+use Rattle.rhd_func.specs.declared.request.CallRequest.{CallRequest}
+use Rattle.rhd_func.specs.Shapes.{all_args, given, pos_of}
+use Rattle.rhd_session.specs.Engine.{EngineLists, Frame}
+use Rattle.rhd_session.specs.declared.pick.Pick.{Pick}
+use Rattle.rhd_session.specs.Asks.{pick_unqualified}
+use Rattle.rhd_session.specs.NotFound.{not_found}
+use Rattle.rhd_session.specs.Plans.{Search, by_name, Plan, plan_of}
+use Rattle.rhd_session.specs.declared.ends.End.{End}
+use Rattle.rhd_session.specs.Ends.{failed}
+
+pub data Decision : Type 0 where
+  ends : Option Pick → End → Decision  -- nothing runs
+  runs : Plan → Pick → Decision
+
+abbrev pub pick_by : EngineLists → Frame → Plan → Search → Option Pick
+pick_by e f plan (by_name native_only) = pick_unqualified e f plan.name native_only plan.shape
+
+-- the pick of a call of one function
+abbrev pub pick_of : EngineLists → Frame → Plan → Option Pick
+pick_of e f plan = pick_by e f plan plan.search
+
+-- with a pick its function runs; without one it isn't found
+abbrev pub decided : Plan → Option Pick → Decision
+decided plan None = ends None (failed plan.given (not_found plan.pos plan.name (all_args plan.shape)))
+decided plan (Some pick) = runs plan pick
+
+-- The level is above the limit.
+abbrev pub too_deep : EngineLists → ℕ → CallRequest → Option EvalAltResult
+too_deep e level call = where_holds (nat_lt e.limits.level level) (ErrorStackOverflow (pos_of call))
+
+-- The place of the first locked argument, where n is the place of the head.
+abbrev pub locked_from : ℕ → List Tree → Option ℕ
+locked_from n [] = None
+locked_from n (v ∷ vs) = if v.marks.locked then Some n else locked_from (n + 1) vs
+
+-- one among all, from 1; a first argument by reference and an object may be locked
+abbrev pub locked_place : CallShape → Option ℕ
+locked_place (Plain args) = locked_from 1 args
+locked_place (ByRef first args) = locked_from 2 args
+locked_place (Method object args) = locked_from 2 args
+
+abbrev pub locked_text : Bytes → ℕ → Bytes
+locked_text name n = codes "argument #" ++ decimal n ++ codes " of function '" ++ name ++ codes "'"
+
+-- An argument is locked.
+abbrev pub locked_argument : Plan → Search → Option EvalAltResult
+locked_argument plan (by_name native_only) = option_map (λ n. ErrorDataRace (locked_text plan.name n) plan.pos) (locked_place plan.shape)
+
+-- the causes of a refusal in their order, each with how the call then ends
+abbrev pub causes : EngineLists → ℕ → CallRequest → List (Option End)
+causes e level call =
+    option_map (failed (given call)) (too_deep e level call)
+    ∷ option_map (failed (given call)) (locked_argument (plan_of call) (plan_of call).search)
+    ∷ []
+
+-- the first of them that holds
+abbrev pub refusal : EngineLists → ℕ → CallRequest → Option End
+refusal e level call = first_some (causes e level call)
+
+abbrev pub unless_refused : Option End → Decision → Decision
+unless_refused None decision = decision
+unless_refused (Some end) decision = ends None end
+
+unfoldable pub decision : EngineLists → Frame → ℕ → CallRequest → Decision
+decision e f level call = unless_refused (refusal e level call) (decided (plan_of call) (pick_of e f (plan_of call)))

@@ -1,0 +1,20 @@
+-- How types are shown.
+use Rattle.std.specs.Prelude.{List, ◌++◌, codes}
+use Rattle.std.specs.List.{join_by}
+use Rattle.rhd_value.specs.Tree.{Bytes, Tree, Kind, text}
+use Rattle.rhd_value.specs.Kinds.{tag_of, type_name}
+
+-- the display type of a value
+abbrev pub display : Tree → Bytes
+display v = type_name (tag_of v)
+
+-- how an argument stands in a signature: a text may have been meant by any of three types
+abbrev pub kind_in_signature : Bytes → Kind → Bytes
+kind_in_signature shown (text s) = codes "&str | ImmutableString | String"
+kind_in_signature shown k = shown
+
+abbrev pub in_signature : Tree → Bytes
+in_signature v = kind_in_signature (display v) v.kind
+
+abbrev pub signature : Bytes → List Tree → Bytes
+signature name args = name ++ codes " (" ++ join_by in_signature (codes ", ") args ++ codes ")"

@@ -1,0 +1,18 @@
+-- An engine and the state of a run, as plain lists.
+use Rattle.std.specs.Prelude.{ℕ, List, Option}
+use Rattle.rhd_value.specs.Tree.{Bytes, Tree}
+use Rattle.rhd_func.specs.Natives.{NativeInfo}
+use Rattle.rhd_module.specs.Tree.{ModuleTree}
+use Rattle.rhd_session.specs.declared.limits.Limits.{Limits}
+
+pub record EngineLists : Type 0 where
+  pub globals : List ModuleTree  -- whose functions all calls find; registration goes into the first
+  pub natives : List NativeInfo  -- by number
+  pub limits : Limits
+
+-- where a call is made
+pub record Frame : Type 0 where
+  pub libs : List ModuleTree  -- oldest first
+  pub source : Option Bytes
+  pub level : ℕ
+  pub tag : Tree

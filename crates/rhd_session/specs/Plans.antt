@@ -1,0 +1,25 @@
+-- How a request goes on.
+use Rattle.std.specs.Prelude.{Bool, Option}
+use Rattle.rhd_value.specs.Tree.{Bytes, Tree}
+use Rattle.rhd_value.specs.declared.tag.Position.{Position}
+use Rattle.rhd_value.specs.declared.tag.TypeTag.{TypeTag}
+use Rattle.rhd_func.specs.declared.request.CallShape.{CallShape}
+use Rattle.rhd_func.specs.declared.request.CallRequest.{CallRequest}
+use Rattle.rhd_func.specs.declared.request.CallRequest.TheVariants.{Named}
+use Rattle.rhd_func.specs.Shapes.{first_given}
+
+-- where a call looks for its function
+pub data Search : Type 0 where
+  by_name : Bool → Search  -- unqualified: whether natives alone are meant
+
+-- a call of one function
+pub record Plan : Type 0 where
+  pub name : Bytes
+  pub search : Search
+  pub shape : CallShape
+  pub want : Option TypeTag
+  pub pos : Position
+  pub given : Option Tree  -- the first argument by reference, or the object, as given
+
+abbrev pub plan_of : CallRequest → Plan
+plan_of (Named name native_only shape want pos) = record { name = name; search = by_name native_only; shape = shape; want = want; pos = pos; given = first_given shape }

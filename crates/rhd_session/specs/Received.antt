@@ -1,0 +1,47 @@
+-- How a function gets its arguments, and what it gives back of the first.
+use Rattle.std.specs.Prelude.{Bool, true, false, List, [], ◌∷◌, if◌then◌else◌, Option, None, Some}
+use Rattle.rhd_value.specs.Tree.{Tree, copied}
+use Rattle.rhd_func.specs.declared.func.RhaiFunc.{RhaiFunc}
+use Rattle.rhd_func.specs.declared.request.CallShape.{CallShape}
+use Rattle.rhd_func.specs.declared.request.CallShape.TheVariants.{Plain, ByRef, Method}
+use Rattle.rhd_func.specs.Funcs.{is_method, is_script}
+
+-- how a function takes its first argument
+pub data Manner : Type 0 where
+  native_method : Manner
+  other_native : Manner
+  script : Manner
+
+abbrev pub manner_of : RhaiFunc → Manner
+manner_of func = if is_script func then script else if is_method func then native_method else other_native
+
+pub record Received : Type 0 where
+  pub first : Option Tree  -- for a script, the object
+  pub args : List Tree
+
+-- the table of functions and shapes
+abbrev pub received : Manner → CallShape → Received
+received native_method (Plain []) = record { first = None; args = [] }
+received native_method (Plain (a ∷ args)) = record { first = Some a; args = args }
+received native_method (ByRef a args) = record { first = Some a; args = args }
+received native_method (Method object args) = record { first = Some object; args = args }
+received other_native (Plain args) = record { first = None; args = args }
+received other_native (ByRef a args) = record { first = None; args = copied a ∷ args }
+received other_native (Method object args) = record { first = None; args = copied object ∷ args }
+received script (Plain args) = record { first = None; args = args }
+received script (ByRef a args) = record { first = None; args = copied a ∷ args }
+received script (Method object args) = record { first = Some object; args = args }
+
+-- whether the function has the first argument by reference, or the object, itself and no copy
+abbrev pub has_the_given : Manner → CallShape → Bool
+has_the_given native_method (Plain args) = false
+has_the_given native_method (ByRef a args) = true
+has_the_given native_method (Method object args) = true
+has_the_given other_native shape = false
+has_the_given script (Plain args) = false
+has_the_given script (ByRef a args) = false
+has_the_given script (Method object args) = true
+
+-- the first argument after the call: what the function gave back, if it had it itself, else what was given
+abbrev pub first_after : Manner → CallShape → Option Tree → Option Tree → Option Tree
+first_after manner shape given back = if has_the_given manner shape then back else given

@@ -1,0 +1,108 @@
+-- Calls that wait for the answer to a request.
+use Rattle.std.specs.Prelude.{◌≡◌, ℕ, ◌+◌, ◌<◌, true, false, List, [], ◌∷◌, ◌++◌, length, Some}
+use Rattle.rhd_func.specs.declared.request.CallRequest.{CallRequest}
+use Rattle.rhd_func.specs.declared.request.Carry.{Carry}
+use Rattle.rhd_func.specs.declared.request.NativeStep.{NativeStep}
+use Rattle.rhd_func.specs.declared.request.NativeStep.TheVariants.{Ask}
+use Rattle.rhd_session.specs.Engine.{EngineLists, Frame}
+use Rattle.rhd_session.specs.World.{World, Objects, Moment, one_begun}
+use Rattle.rhd_session.specs.declared.pick.Pick.{Pick}
+use Rattle.rhd_session.specs.declared.node.CallNode.{CallNode}
+use Rattle.rhd_session.specs.declared.machine.Work.{Work}
+use Rattle.rhd_session.specs.declared.machine.Suspended.{Suspended}
+use Rattle.rhd_session.specs.declared.machine.Outcome.{Outcome}
+use Rattle.rhd_session.specs.declared.machine.Outcome.TheVariants.{Waiting, Finished}
+use Rattle.rhd_session.specs.declared.machine.Hand.{Hand}
+use Rattle.rhd_session.specs.declared.machine.Hand.TheVariants.{Asked, Answered}
+use Rattle.rhd_session.specs.Nodes.{nodes_in}
+use Rattle.rhd_session.specs.Plans.{Plan, plan_of}
+use Rattle.rhd_session.specs.declared.ends.End.{End}
+use Rattle.rhd_session.specs.Ends.{end_of}
+use Rattle.rhd_session.specs.Seen.{seen, begun_node}
+use Rattle.rhd_session.specs.Decisions.{runs, decision}
+use Rattle.rhd_session.specs.Entered.{context, entered}
+use Rattle.rhd_session.specs.Steps.{Starts}
+use Rattle.rhd_session.specs.Runs.{Runs, Steps, received_by}
+
+-- what a call under way keeps
+pub record Kept : Type 0 where
+  pub call : CallRequest
+  pub level : ℕ
+  pub pick : Pick
+  pub carries : List Carry
+  pub children : List CallNode
+
+abbrev pub kept : Work → Kept
+kept work = record { call = work.call; level = work.level; pick = work.pick; carries = work.carries; children = nodes_in work.children }
+
+abbrev pub keeping : CallRequest → ℕ → Pick → List Carry → List CallNode → Kept
+keeping call level pick carries children = record { call = call; level = level; pick = pick; carries = carries; children = children }
+
+-- The call at this level, begun after `before`, waits for the answer to a request, which is asked in the second frame.
+pub data Open {B : Type 0} (o : Objects B) (w : World) : Frame → ℕ → CallRequest → Suspended → Frame → CallRequest → Moment B → Moment B → Type 0 where
+  function_waits : {f : Frame} {level : ℕ} {call waited : CallRequest} {frame : Suspended} {before started mid : Moment B} {plan : Plan} {pick : Pick} {first : NativeStep} {carries : List Carry} {children : List CallNode} →
+      kept frame.work ≡ keeping call level pick carries children →
+      before.begun < w.engine.limits.budget →
+      decision w.engine f level call ≡ runs plan pick →
+      Starts o (context f level plan) pick.func (received_by plan pick) (one_begun before) first started →
+      Steps o w f level plan pick first carries children (Ask waited frame.carry) started mid →
+      Open o w f level call frame (entered f level) waited before mid
+
+-- what a step of its function makes of a call under way
+pub data Settled (e : EngineLists) (work : Work) : NativeStep → Outcome → Type 0 where
+  asks : {request : CallRequest} {carry : Carry} {frame : Suspended} →
+      frame.work ≡ work → frame.carry ≡ carry →
+      Settled e work (Ask request carry) (Waiting frame request)
+  ends_with : {step : NativeStep} {end : End} {node : CallNode} →
+      end_of e (plan_of work.call) work.pick step ≡ Some end →
+      seen node ≡ begun_node work.call work.level (Some work.pick) work.carries (nodes_in work.children) end →
+      Settled e work step (Finished node)
+
+-- what a step of the machine makes of a call
+pub data Comes_to {B : Type 0} (o : Objects B) (w : World) : Frame → ℕ → CallRequest → Outcome → Moment B → Moment B → Type 0 where
+  it_waits : {f inner : Frame} {level : ℕ} {call waited : CallRequest} {frame : Suspended} {before after : Moment B} →
+      Open o w f level call frame inner waited before after →
+      Comes_to o w f level call (Waiting frame waited) before after
+  it_is_answered : {f : Frame} {level : ℕ} {call : CallRequest} {node : CallNode} {before after : Moment B} →
+      Runs o w f level call node before after false →
+      Comes_to o w f level call (Finished node) before after
+
+-- the suspended calls, from the lowest to the top: each waits for the request that the next one answers
+pub data Waits {B : Type 0} (o : Objects B) (w : World) : List Suspended → Frame → CallRequest → Moment B → Frame → ℕ → CallRequest → Moment B → Type 0 where
+  lowest : {f : Frame} {call : CallRequest} {before : Moment B} → Waits o w [] f call before f 1 call before
+  above : {base outer inner : Frame} {stack more : List Suspended} {call waited asked : CallRequest} {frame : Suspended} {before mid after : Moment B} {level : ℕ} →
+      Waits o w stack base call before outer level waited mid →
+      Open o w outer level waited frame inner asked mid after →
+      more ≡ stack ++ frame ∷ [] →
+      Waits o w more base call before inner (level + 1) asked after
+
+-- what is in hand is the request that is waited for, or answers it
+pub data Holds {B : Type 0} (o : Objects B) (w : World) (f : Frame) (level : ℕ) (waited : CallRequest) : Hand → Moment B → Moment B → Type 0 where
+  holds_request : {s : Moment B} → Holds o w f level waited (Asked waited) s s
+  holds_answer : {node : CallNode} {mid after : Moment B} → Runs o w f level waited node mid after false → Holds o w f level waited (Answered node) mid after
+
+-- the machine in the midst of a call: the frame, the level, and the request that is waited for there
+pub record Going {B : Type 0} (o : Objects B) (w : World) (stack : List Suspended) (base : Frame) (call : CallRequest) (before : Moment B) (hand : Hand) (after : Moment B) : Type 0 where
+  pub f : Frame
+  pub waited : CallRequest
+  pub mid : Moment B
+  pub waits : Waits o w stack base call before f (length stack + 1) waited mid
+  pub holds : Holds o w f (length stack + 1) waited hand mid after
+
+-- the machine once the budget is spent: the node in hand is cut
+pub record Cutting {B : Type 0} (o : Objects B) (w : World) (stack : List Suspended) (base : Frame) (call : CallRequest) (before : Moment B) (node : CallNode) (after : Moment B) : Type 0 where
+  pub f : Frame
+  pub waited : CallRequest
+  pub mid : Moment B
+  pub waits : Waits o w stack base call before f (length stack + 1) waited mid
+  pub is_cut : Runs o w f (length stack + 1) waited node mid after true
+
+-- how the stack takes an outcome, and what the machine then has in hand
+pub data Put (old : List Suspended) : Outcome → Hand → List Suspended → Type 0 where
+  put_frame : {frame : Suspended} {asked : CallRequest} {new : List Suspended} → new ≡ old ++ frame ∷ [] → Put old (Waiting frame asked) (Asked asked) new
+  put_node : {node : CallNode} {new : List Suspended} → new ≡ old → Put old (Finished node) (Answered node) new
+
+-- an answer in hand counts for one
+abbrev pub weight : Hand → ℕ
+weight (Asked request) = 0
+weight (Answered node) = 1

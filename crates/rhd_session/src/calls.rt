@@ -1,0 +1,387 @@
+//! How a session makes a call: each step of a function, and the stack of the calls that wait.
+
+ghost use Rattle.std.specs.Prelude.{◌≡◌, ◌≤◌, ◌<◌, ◌+◌, ◌++◌, ◌∷◌, [], ℕ, Bool, true, false, IfOk, IfSome, length, Some, None};
+ghost use Rattle.rhd_func.specs.declared.request.CallRequest.{CallRequest};
+ghost use Rattle.rhd_func.specs.Shapes.{all_args};
+ghost use Rattle.rhd_session.specs.declared.machine.Hand.TheVariants.{Asked, Answered};
+ghost use Rattle.rhd_session.specs.Engine.{Frame};
+ghost use Rattle.rhd_session.specs.World.{Moment, moment};
+ghost use Rattle.rhd_session.specs.Objects.{objects_of};
+ghost use Rattle.rhd_value.specs.Firsts.{first_of};
+ghost use Rattle.rhd_session.specs.Held.{func_held};
+ghost use Rattle.rhd_session.specs.Asks.{looked, allowed_asks, typed_asks, native_ask};
+ghost use Rattle.rhd_session.specs.Searched.{found};
+ghost use Rattle.rhd_session.specs.Plans.{plan_of};
+ghost use Rattle.rhd_session.specs.NotFound.{not_found};
+ghost use Rattle.rhd_session.specs.Ends.{failed};
+ghost use Rattle.rhd_session.specs.Decisions.{refusal, decision, runs, pick_of};
+ghost use Rattle.rhd_session.specs.Seen.{seen, begun_node, done_of};
+ghost use Rattle.rhd_session.specs.Entered.{context, entered};
+ghost use Rattle.rhd_session.specs.Steps.{Starts, Resumes};
+ghost use Rattle.rhd_session.specs.Runs.{Runs, received_by};
+ghost use Rattle.rhd_session.specs.Waits.{Open, Comes_to, Going, Cutting, weight};
+
+use crate::display::signature;
+use crate::machine::{Hand, Outcome, Suspended, Work, cut, joined, put, settle};
+use crate::node::{CallNode, Carries, Nodes};
+use crate::pick::Pick;
+use crate::plan::{name_of, native_only_of, position_of, shape_of};
+use crate::received::{Received, context, context_if, receive};
+use crate::refusal::refusal;
+use crate::search::{find, native_key_of, script_key_of, typed_key_of};
+use crate::session::Session;
+use rhd_func::{
+    Bodies, CallDone, CallRequest, CallShape, Carry, NativeCallContext, NativeStep, RhaiFunc,
+};
+use rhd_module::Key;
+use rhd_value::{EvalAltResult, OutOfMemory, Text};
+use std::alloc::Global;
+
+impl Session {
+    ghost use Rattle.rhd_session.specs.Of.{natives_of, world_of, frame_of};
+
+    /// Makes a call, with all the calls that it leads to. Each call that is begun counts.
+    pub(crate) fn run_call<B: Bodies>(
+        &self,
+        alloc: Global,
+        call: CallRequest,
+        begun: &mut u64,
+        bodies: &mut B,
+    ) -> Result<CallNode, OutOfMemory>
+        requires { begun.old ≤ self.now.limits.budget }
+        ensures runs { IfOk result (λ node. (cut : Bool) × Runs (objects_of allows_call allows_resume B.allows_start B.allows_next (natives_of self.now)) (world_of info self.now) (frame_of self.now) 1 call node (moment begun.old bodies.old) (moment begun.new bodies.new) cut) }
+        ensures within { begun.new ≤ self.now.limits.budget }
+        ensures rises { begun.old ≤ begun.new }
+    {
+        let mut stack = Vec::new(alloc);
+        let mut hand = Hand::Asked(call);
+        loop {
+            match hand {
+                Hand::Asked(request) => {
+                    if *begun >= self.limits.budget {
+                        let level = stack.len() as u32 + 1;
+                        let node = CallNode::unbegun(alloc, request, level)?;
+                        return self.cut_all::<B>(stack, node);
+                    }
+                    *begun += 1;
+                    hand = self.ask(alloc, &mut stack, request, bodies)?;
+                }
+                Hand::Answered(node) => {
+                    let Some(frame) = stack.pop() else {
+                        return Ok(node);
+                    };
+                    hand = self.answer(alloc, &mut stack, frame, node, bodies)?;
+                }
+            }
+        }
+    }
+
+    /// Begins the call that was asked for.
+    fn ask<B: Bodies>(
+        &self,
+        alloc: Global,
+        stack: &mut Vec<Suspended>,
+        request: CallRequest,
+        bodies: &mut B,
+    ) -> Result<Hand, OutOfMemory>
+        requires { length stack.old.items ≤ 1000 }
+        ensures going { (call : CallRequest) (before : Moment B) (begun : ℕ) → begun < self.now.limits.budget → Going (objects_of allows_call allows_resume B.allows_start B.allows_next (natives_of self.now)) (world_of info self.now) stack.old.items (frame_of self.now) call before (Asked request) (moment begun bodies.old) → IfOk result (λ hand. Going (objects_of allows_call allows_resume B.allows_start B.allows_next (natives_of self.now)) (world_of info self.now) stack.new.items (frame_of self.now) call before hand (moment (begun + 1) bodies.new)) }
+        ensures grows { IfOk result (λ hand. length stack.new.items + weight hand ≡ length stack.old.items + 1) }
+    {
+        let level = stack.len() as u32 + 1;
+        let outcome = self.begin(alloc, request, level, bodies)?;
+        put(stack, outcome)
+    }
+
+    /// Hands a node to the call that waits for it.
+    fn answer<B: Bodies>(
+        &self,
+        alloc: Global,
+        stack: &mut Vec<Suspended>,
+        frame: Suspended,
+        node: CallNode,
+        bodies: &mut B,
+    ) -> Result<Hand, OutOfMemory>
+        requires { func_held (length (natives_of self.now).items.items) frame.work.pick.func ≡ true }
+        ensures going { (call : CallRequest) (before : Moment B) (begun : ℕ) → Going (objects_of allows_call allows_resume B.allows_start B.allows_next (natives_of self.now)) (world_of info self.now) (stack.old.items ++ frame ∷ []) (frame_of self.now) call before (Answered node) (moment begun bodies.old) → IfOk result (λ hand. Going (objects_of allows_call allows_resume B.allows_start B.allows_next (natives_of self.now)) (world_of info self.now) stack.new.items (frame_of self.now) call before hand (moment begun bodies.new)) }
+        ensures grows { IfOk result (λ hand. length stack.new.items + weight hand ≡ length stack.old.items + 1) }
+    {
+        let outcome = self.resume(alloc, frame, node, bodies)?;
+        put(stack, outcome)
+    }
+
+    /// Closes each call that waits, where the budget is spent.
+    fn cut_all<B: Bodies>(
+        &self,
+        mut stack: Vec<Suspended>,
+        mut node: CallNode,
+    ) -> Result<CallNode, OutOfMemory>
+        ensures { (call : CallRequest) (before after : Moment B) → Cutting (objects_of allows_call allows_resume B.allows_start B.allows_next (natives_of self.now)) (world_of info self.now) stack.items (frame_of self.now) call before node after → IfOk result (λ root. Runs (objects_of allows_call allows_resume B.allows_start B.allows_next (natives_of self.now)) (world_of info self.now) (frame_of self.now) 1 call root before after true) }
+    {
+        while let Some(frame) = stack.pop() {
+            node = cut(frame, node)?;
+        }
+        Ok(node)
+    }
+
+    /// Begins a call: it is refused, or isn't found, or its function takes its first step.
+    fn begin<B: Bodies>(
+        &self,
+        alloc: Global,
+        call: CallRequest,
+        level: u32,
+        bodies: &mut B,
+    ) -> Result<Outcome, OutOfMemory>
+        ensures { (n begun : ℕ) → begun < self.now.limits.budget → IfOk result (λ outcome. Comes_to (objects_of allows_call allows_resume B.allows_start B.allows_next (natives_of self.now)) (world_of info self.now) (entered (frame_of self.now) n) level call outcome (moment begun bodies.old) (moment (begun + 1) bodies.new)) }
+    {
+        match refusal(alloc, self.limits, level, &call)? {
+            Some(fault) => {
+                let node = CallNode::failed(alloc, call, level, fault)?;
+                Ok(Outcome::Finished(node))
+            }
+            None => self.begin_unrefused(alloc, call, level, bodies),
+        }
+    }
+
+    /// Begins a call that nothing refuses: it isn't found, or its function takes its first step.
+    fn begin_unrefused<B: Bodies>(
+        &self,
+        alloc: Global,
+        call: CallRequest,
+        level: u32,
+        bodies: &mut B,
+    ) -> Result<Outcome, OutOfMemory>
+        ensures { (n begun : ℕ) → begun < self.now.limits.budget → refusal (world_of info self.now).engine level call ≡ None → IfOk result (λ outcome. Comes_to (objects_of allows_call allows_resume B.allows_start B.allows_next (natives_of self.now)) (world_of info self.now) (entered (frame_of self.now) n) level call outcome (moment begun bodies.old) (moment (begun + 1) bodies.new)) }
+    {
+        match self.pick(alloc, &call)? {
+            Some(pick) => self.begin_picked(alloc, call, level, pick, bodies),
+            None => Ok(Outcome::Finished(missing(alloc, call, level)?)),
+        }
+    }
+
+    /// The function that a call means: of the scripts, where they are allowed, and then of the
+    /// natives.
+    fn pick(&self, alloc: Global, call: &CallRequest) -> Result<Option<Pick>, OutOfMemory>
+        ensures pick { IfOk result (λ pick. pick ≡ pick_of (world_of info self.now).engine (frame_of self.now) (plan_of call.now)) }
+        ensures held { IfOk result (λ pick. IfSome pick (λ p. func_held (length (natives_of self.now).items.items) p.func ≡ true)) }
+    {
+        let name = name_of(call);
+        let shape = shape_of(call);
+        match self.pick_script(alloc, name, native_only_of(call), shape)? {
+            Some(pick) => Ok(Some(pick)),
+            None => self.pick_native(alloc, name, shape),
+        }
+    }
+
+    /// The script that a call means, where scripts are allowed.
+    fn pick_script(
+        &self,
+        alloc: Global,
+        name: &Text,
+        native_only: bool,
+        shape: &CallShape,
+    ) -> Result<Option<Pick>, OutOfMemory>
+        ensures { IfOk result (λ pick. pick ≡ first_of (looked (world_of info self.now).engine (frame_of self.now)) (allowed_asks name.now native_only shape.now)) }
+    {
+        if native_only {
+            return Ok(None);
+        }
+        match self.pick_typed(alloc, name, shape)? {
+            Some(pick) => Ok(Some(pick)),
+            None => {
+                let key = script_key_of(alloc, name, shape)?;
+                self.found(alloc, &key)
+            }
+        }
+    }
+
+    /// The script of its object's type that a call means.
+    fn pick_typed(
+        &self,
+        alloc: Global,
+        name: &Text,
+        shape: &CallShape,
+    ) -> Result<Option<Pick>, OutOfMemory>
+        ensures { IfOk result (λ pick. pick ≡ first_of (looked (world_of info self.now).engine (frame_of self.now)) (typed_asks name.now shape.now)) }
+    {
+        match typed_key_of(alloc, name, shape)? {
+            Some(key) => self.found(alloc, &key),
+            None => Ok(None),
+        }
+    }
+
+    /// The native that a call means.
+    fn pick_native(
+        &self,
+        alloc: Global,
+        name: &Text,
+        shape: &CallShape,
+    ) -> Result<Option<Pick>, OutOfMemory>
+        ensures { IfOk result (λ pick. pick ≡ looked (world_of info self.now).engine (frame_of self.now) (native_ask name.now shape.now)) }
+    {
+        let key = native_key_of(alloc, name, shape)?;
+        self.found(alloc, &key)
+    }
+
+    /// What is found under a key.
+    fn found(&self, alloc: Global, key: &Key) -> Result<Option<Pick>, OutOfMemory>
+        ensures { IfOk result (λ pick. pick ≡ found (world_of info self.now).engine (frame_of self.now) key.now) }
+    {
+        find(alloc, &self.libraries, &self.global, key)
+    }
+
+    /// The first step of the function that is picked.
+    fn begin_picked<B: Bodies>(
+        &self,
+        alloc: Global,
+        call: CallRequest,
+        level: u32,
+        pick: Pick,
+        bodies: &mut B,
+    ) -> Result<Outcome, OutOfMemory>
+        requires { func_held (length (natives_of self.now).items.items) pick.func ≡ true }
+        ensures { (n begun : ℕ) → begun < self.now.limits.budget → decision (world_of info self.now).engine (entered (frame_of self.now) n) level call ≡ runs (plan_of call) pick → IfOk result (λ outcome. Comes_to (objects_of allows_call allows_resume B.allows_start B.allows_next (natives_of self.now)) (world_of info self.now) (entered (frame_of self.now) n) level call outcome (moment begun bodies.old) (moment (begun + 1) bodies.new)) }
+    {
+        let step = self.first_step(alloc, &call, level, &pick, bodies)?;
+        let work = Work {
+            call,
+            level,
+            pick,
+            carries: Carries::new(alloc),
+            children: Nodes::new(alloc),
+        };
+        settle(alloc, self.limits, work, step)
+    }
+
+    /// The next step of a function that waits, after the answer to its request.
+    fn resume<B: Bodies>(
+        &self,
+        alloc: Global,
+        frame: Suspended,
+        child: CallNode,
+        bodies: &mut B,
+    ) -> Result<Outcome, OutOfMemory>
+        requires { func_held (length (natives_of self.now).items.items) frame.work.pick.func ≡ true }
+        ensures { (n level begun : ℕ) (inner : Frame) (call waited : CallRequest) (before mid : Moment B) → Open (objects_of allows_call allows_resume B.allows_start B.allows_next (natives_of self.now)) (world_of info self.now) (entered (frame_of self.now) n) level call frame inner waited before mid → Runs (objects_of allows_call allows_resume B.allows_start B.allows_next (natives_of self.now)) (world_of info self.now) inner (level + 1) waited child mid (moment begun bodies.old) false → IfOk result (λ outcome. Comes_to (objects_of allows_call allows_resume B.allows_start B.allows_next (natives_of self.now)) (world_of info self.now) (entered (frame_of self.now) n) level call outcome before (moment begun bodies.new)) }
+    {
+        let step = self.answered_step(alloc, &frame, &child, bodies)?;
+        settle(alloc, self.limits, joined(frame, child)?, step)
+    }
+
+    /// The next step of a function that waits, after the answer of a child.
+    fn answered_step<B: Bodies>(
+        &self,
+        alloc: Global,
+        frame: &Suspended,
+        child: &CallNode,
+        bodies: &mut B,
+    ) -> Result<NativeStep, OutOfMemory>
+        requires { func_held (length (natives_of self.now).items.items) frame.now.work.pick.func ≡ true }
+        ensures { (begun : ℕ) → IfOk result (λ step. Resumes (objects_of allows_call allows_resume B.allows_start B.allows_next (natives_of self.now)) (context (frame_of self.now) frame.now.work.level (plan_of frame.now.work.call)) frame.now.work.pick.func frame.now.carry (done_of child.now) (moment begun bodies.old) step (moment begun bodies.new)) }
+    {
+        let done = child.done(alloc)?;
+        let carry = frame.carry.dup(alloc)?;
+        self.next_step(alloc, &frame.work, carry, done, bodies)
+    }
+
+    /// The first step of a function on the arguments of its call.
+    fn first_step<B: Bodies>(
+        &self,
+        alloc: Global,
+        call: &CallRequest,
+        level: u32,
+        pick: &Pick,
+        bodies: &mut B,
+    ) -> Result<NativeStep, OutOfMemory>
+        requires { func_held (length (natives_of self.now).items.items) pick.now.func ≡ true }
+        ensures { (begun : ℕ) → IfOk result (λ step. Starts (objects_of allows_call allows_resume B.allows_start B.allows_next (natives_of self.now)) (context (frame_of self.now) level (plan_of call.now)) pick.now.func (received_by (plan_of call.now) pick.now) (moment begun bodies.old) step (moment begun bodies.new)) }
+    {
+        let received = receive(alloc, &pick.func, shape_of(call))?;
+        let ctx = context(alloc, name_of(call), position_of(call), level)?;
+        self.start(alloc, &pick.func, &ctx, received, bodies)
+    }
+
+    /// The next step of a function, after the answer to its request.
+    fn next_step<B: Bodies>(
+        &self,
+        alloc: Global,
+        work: &Work,
+        carry: Carry,
+        done: CallDone,
+        bodies: &mut B,
+    ) -> Result<NativeStep, OutOfMemory>
+        requires { func_held (length (natives_of self.now).items.items) work.now.pick.func ≡ true }
+        ensures { (begun : ℕ) → IfOk result (λ step. Resumes (objects_of allows_call allows_resume B.allows_start B.allows_next (natives_of self.now)) (context (frame_of self.now) work.now.level (plan_of work.now.call)) work.now.pick.func carry done (moment begun bodies.old) step (moment begun bodies.new)) }
+    {
+        let ctx = context(
+            alloc,
+            name_of(&work.call),
+            position_of(&work.call),
+            work.level,
+        )?;
+        self.go_on(alloc, &work.pick.func, &ctx, carry, done, bodies)
+    }
+
+    /// The first step of a function on what it received.
+    fn start<B: Bodies>(
+        &self,
+        alloc: Global,
+        func: &RhaiFunc,
+        ctx: &NativeCallContext,
+        received: Received,
+        bodies: &mut B,
+    ) -> Result<NativeStep, OutOfMemory>
+        requires { func_held (length (natives_of self.now).items.items) func.now ≡ true }
+        ensures { (begun : ℕ) → IfOk result (λ step. Starts (objects_of allows_call allows_resume B.allows_start B.allows_next (natives_of self.now)) ctx.now func.now (record { first = received.first; args = received.args }) (moment begun bodies.old) step (moment begun bodies.new)) }
+    {
+        let Received { first, args } = received;
+        match func {
+            RhaiFunc::Script { fn_def, .. } => bodies.start(alloc, fn_def.def(), ctx, first, args),
+            RhaiFunc::Pure { func: id, .. } => {
+                let ctx = context_if(func.has_context(), ctx);
+                self.natives.start(alloc, *id, ctx, first, args)
+            }
+            RhaiFunc::Method { func: id, .. } => {
+                let ctx = context_if(func.has_context(), ctx);
+                self.natives.start(alloc, *id, ctx, first, args)
+            }
+        }
+    }
+
+    /// The next step of a function in a context.
+    fn go_on<B: Bodies>(
+        &self,
+        alloc: Global,
+        func: &RhaiFunc,
+        ctx: &NativeCallContext,
+        carry: Carry,
+        done: CallDone,
+        bodies: &mut B,
+    ) -> Result<NativeStep, OutOfMemory>
+        requires { func_held (length (natives_of self.now).items.items) func.now ≡ true }
+        ensures { (begun : ℕ) → IfOk result (λ step. Resumes (objects_of allows_call allows_resume B.allows_start B.allows_next (natives_of self.now)) ctx.now func.now carry done (moment begun bodies.old) step (moment begun bodies.new)) }
+    {
+        match func {
+            RhaiFunc::Script { fn_def, .. } => {
+                bodies.resume(alloc, fn_def.def(), ctx, carry, done)
+            }
+            RhaiFunc::Pure { func: id, .. } => {
+                let ctx = context_if(func.has_context(), ctx);
+                self.natives.resume(alloc, *id, ctx, carry, done)
+            }
+            RhaiFunc::Method { func: id, .. } => {
+                let ctx = context_if(func.has_context(), ctx);
+                self.natives.resume(alloc, *id, ctx, carry, done)
+            }
+        }
+    }
+}
+
+/// The node of a call whose function isn't found.
+fn missing(alloc: Global, call: CallRequest, level: u32) -> Result<CallNode, OutOfMemory>
+    ensures { IfOk result (λ node. seen node ≡ begun_node call level None [] [] (failed (plan_of call).given (not_found (plan_of call).pos (plan_of call).name (all_args (plan_of call).shape)))) }
+{
+    let signature = signature(alloc, name_of(&call), shape_of(&call))?;
+    let fault = EvalAltResult::ErrorFunctionNotFound(signature, position_of(&call));
+    CallNode::failed(alloc, call, level, fault)
+}

@@ -1,0 +1,144 @@
+//! How a session carries out the commands that declare something.
+
+ghost use Rattle.std.specs.Prelude.{◌≡◌, ◌≤◌, ◌<◌, ◌+◌, ◌^◌, true, IfOk, OnErr, IfSome, length};
+ghost use Rattle.std.specs.Option.{option_map};
+ghost use Rattle.rhd_func.specs.Natives.{info_of};
+ghost use Rattle.rhd_module.specs.declared.fault.DeclFault.TheVariants.{UnknownNumber};
+ghost use Rattle.rhd_module.specs.Registered.{native_key, native_decl};
+ghost use Rattle.rhd_session.specs.declared.command.Command.TheVariants as commands;
+ghost use Rattle.rhd_session.specs.declared.reply.Reply.TheVariants.{Refused};
+ghost use Rattle.rhd_session.specs.Held.{func_held};
+ghost use Rattle.rhd_session.specs.Answered.{Applied};
+
+use crate::command::ModuleId;
+use crate::reply::Reply;
+use crate::session::Session;
+use rhd_func::SharedDef;
+use rhd_module::{
+    DeclFault, Declaration, Key, Module, SharedModule, native_declaration, native_key,
+};
+use rhd_value::{FnId, OutOfMemory, Text};
+use std::alloc::Global;
+
+/// The refusal of a number that isn't held.
+fn refused(number: u32, length: usize) -> Reply
+    ensures { result ≡ Refused (UnknownNumber number length) }
+{
+    Reply::Refused(DeclFault::UnknownNumber {
+        number: u64::from(number),
+        length: length as u64,
+    })
+}
+
+impl Session {
+    ghost use Rattle.rhd_session.specs.Of.{natives_of, world_of, frame_of, modules_of, calls_begun_of};
+
+    /// Makes an empty module.
+    pub(crate) fn new_module(&mut self, alloc: Global) -> Result<Reply, OutOfMemory>
+        requires { length (modules_of self.old) < 2 ^ 32 }
+        ensures applied { IfOk result (λ reply. Applied (world_of info self.old) (frame_of self.old) commands.NewModule reply (world_of info self.new) (frame_of self.new)) }
+        ensures failed { OnErr result (world_of info self.new ≡ world_of info self.old) }
+        ensures frame { frame_of self.new ≡ frame_of self.old }
+        ensures natives { natives_of self.new ≡ natives_of self.old }
+        ensures begun { calls_begun_of self.new ≡ calls_begun_of self.old }
+        ensures count { length (modules_of self.new) ≤ length (modules_of self.old) + 1 }
+    {
+        let id = ModuleId(self.modules.len() as u32);
+        let made = SharedModule::new(alloc, Module::new(alloc))?;
+        self.modules.push(made)?;
+        Ok(Reply::Made(id))
+    }
+
+    /// Declares a script in a module, in the place of an equal declaration's.
+    pub(crate) fn script(
+        &mut self,
+        alloc: Global,
+        id: ModuleId,
+        def: &SharedDef,
+    ) -> Result<Reply, OutOfMemory>
+        ensures applied { IfOk result (λ reply. Applied (world_of info self.old) (frame_of self.old) (commands.Script id def.now) reply (world_of info self.new) (frame_of self.new)) }
+        ensures failed { OnErr result (world_of info self.new ≡ world_of info self.old) }
+        ensures frame { frame_of self.new ≡ frame_of self.old }
+        ensures natives { natives_of self.new ≡ natives_of self.old }
+        ensures begun { calls_begun_of self.new ≡ calls_begun_of self.old }
+        ensures count { length (modules_of self.new) ≡ length (modules_of self.old) }
+    {
+        let at = id.0 as usize;
+        if at >= self.modules.len() {
+            return Ok(refused(id.0, self.modules.len()));
+        }
+        let def = def.dup(alloc)?;
+        self.modules[at].set_script_fn(alloc, def)?;
+        Ok(Reply::Done)
+    }
+
+    /// How the native of a number is declared under a name; none where it isn't held.
+    #[tactic(auto, unfolding(crate::specs::Of::world_of, crate::specs::Objects::infos_of))]
+    fn declared(
+        &self,
+        alloc: Global,
+        name: &Text,
+        id: FnId,
+    ) -> Result<Option<(Key, Declaration)>, OutOfMemory>
+        ensures declared { IfOk result (λ found. found ≡ option_map (λ i. (native_key name.now i, native_decl name.now i id)) (info_of (world_of info self.now).engine.natives id)) }
+        ensures held { IfOk result (λ found. IfSome found (λ d. func_held (length (natives_of self.now).items.items) d.1.func ≡ true)) }
+    {
+        let Some(native) = self.natives.get(id) else {
+            return Ok(None);
+        };
+        let key = native_key(alloc, name, native)?;
+        Ok(Some((key, native_declaration(name, native, id))))
+    }
+
+    /// Registers a native under a name, in the place of an equal declaration's.
+    pub(crate) fn register_fn(
+        &mut self,
+        alloc: Global,
+        name: &Text,
+        id: FnId,
+    ) -> Result<Reply, OutOfMemory>
+        ensures applied { IfOk result (λ reply. Applied (world_of info self.old) (frame_of self.old) (commands.RegisterFn name.now id) reply (world_of info self.new) (frame_of self.new)) }
+        ensures failed { OnErr result (world_of info self.new ≡ world_of info self.old) }
+        ensures frame { frame_of self.new ≡ frame_of self.old }
+        ensures natives { natives_of self.new ≡ natives_of self.old }
+        ensures begun { calls_begun_of self.new ≡ calls_begun_of self.old }
+        ensures count { modules_of self.new ≡ modules_of self.old }
+    {
+        let Some((key, declaration)) = self.declared(alloc, name, id)? else {
+            return Ok(refused(id.0, self.natives.len()));
+        };
+        self.global.set_fn(key, declaration)?;
+        Ok(Reply::Done)
+    }
+
+    /// Puts a module last among the libraries.
+    pub(crate) fn push_lib(&mut self, alloc: Global, id: ModuleId) -> Result<Reply, OutOfMemory>
+        ensures applied { IfOk result (λ reply. Applied (world_of info self.old) (frame_of self.old) (commands.PushLib id) reply (world_of info self.new) (frame_of self.new)) }
+        ensures world { world_of info self.new ≡ world_of info self.old }
+        ensures failed { OnErr result (frame_of self.new ≡ frame_of self.old) }
+        ensures natives { natives_of self.new ≡ natives_of self.old }
+        ensures begun { calls_begun_of self.new ≡ calls_begun_of self.old }
+        ensures count { modules_of self.new ≡ modules_of self.old }
+    {
+        let at = id.0 as usize;
+        if at >= self.modules.len() {
+            return Ok(refused(id.0, self.modules.len()));
+        }
+        let library = self.modules[at].dup(alloc)?;
+        self.libraries.push(library)?;
+        Ok(Reply::Done)
+    }
+
+    /// Takes the last library off.
+    pub(crate) fn pop_lib(&mut self) -> Reply
+        ensures applied { Applied (world_of info self.old) (frame_of self.old) commands.PopLib result (world_of info self.new) (frame_of self.new) }
+        ensures natives { natives_of self.new ≡ natives_of self.old }
+        ensures begun { calls_begun_of self.new ≡ calls_begun_of self.old }
+        ensures count { modules_of self.new ≡ modules_of self.old }
+    {
+        let Some(_library) = self.libraries.pop() else {
+            return refused(0, 0);
+        };
+        Reply::Done
+    }
+}

@@ -1,0 +1,141 @@
+//! What the function that is picked receives, and what a call shows of its first argument.
+
+ghost use Rattle.std.specs.Prelude.{◌≡◌, ◌∷◌, if◌then◌else◌, IfOk, None, Some};
+ghost use Rattle.std.specs.Option.{option_copied};
+ghost use Rattle.rhd_value.specs.Tree.{copied};
+ghost use Rattle.rhd_value.specs.Firsts.{first_and_rest};
+ghost use Rattle.rhd_func.specs.Shapes.{first_given, given};
+ghost use Rattle.rhd_session.specs.Received.{received, manner_of, has_the_given, first_after};
+ghost use Rattle.rhd_session.specs.Entered.{context, context_if};
+ghost use Rattle.rhd_session.specs.Plans.{Plan};
+ghost use Rattle.rhd_session.specs.Start.{start_frame};
+
+use rhd_func::{CallRequest, CallShape, NativeCallContext, RhaiFunc};
+use rhd_value::{Dynamic, OutOfMemory, Position, Text, Value, Values};
+use std::alloc::Global;
+
+/// The arguments of a function: one by reference, and the others.
+#[derive(Drop)]
+pub struct Received {
+    pub first: Option<Dynamic>,
+    pub args: Values,
+}
+
+/// Whether a function has the first argument by reference, or the object, itself and no copy.
+pub fn has_the_given(func: &RhaiFunc, shape: &CallShape) -> bool
+    ensures { result ≡ has_the_given (manner_of func.now) shape.now }
+{
+    match shape {
+        CallShape::Plain(_) => false,
+        CallShape::ByRef(_, _) => func.is_method(),
+        CallShape::Method(_, _) => func.is_method() || func.is_script(),
+    }
+}
+
+/// All arguments, by value.
+fn receive_plain(alloc: Global, is_method: bool, args: &Values) -> Result<Received, OutOfMemory>
+    ensures first { IfOk result (λ r. r.first ≡ (if is_method then (first_and_rest args.now).0 else None)) }
+    ensures args { IfOk result (λ r. r.args ≡ (if is_method then (first_and_rest args.now).1 else args.now)) }
+{
+    let args = args.dup(alloc)?;
+    if !is_method {
+        return Ok(Received { first: None, args });
+    }
+    let (first, args) = args.split_first();
+    Ok(Received { first, args })
+}
+
+/// The first argument itself, or a copy of it among the others.
+fn receive_first(
+    alloc: Global,
+    itself: bool,
+    first: &Dynamic,
+    args: &Values,
+) -> Result<Received, OutOfMemory>
+    ensures first { IfOk result (λ r. r.first ≡ (if itself then Some first.now else None)) }
+    ensures args { IfOk result (λ r. r.args ≡ (if itself then args.now else copied first.now ∷ args.now)) }
+{
+    let mut args = args.dup(alloc)?;
+    if itself {
+        return Ok(Received {
+            first: Some(first.dup(alloc)?),
+            args,
+        });
+    }
+    args.push_first(first.copy(alloc)?)?;
+    Ok(Received { first: None, args })
+}
+
+/// What a function receives of a call's arguments.
+pub fn receive(alloc: Global, func: &RhaiFunc, shape: &CallShape) -> Result<Received, OutOfMemory>
+    ensures first { IfOk result (λ r. r.first ≡ (received (manner_of func.now) shape.now).first) }
+    ensures args { IfOk result (λ r. r.args ≡ (received (manner_of func.now) shape.now).args) }
+{
+    let itself = has_the_given(func, shape);
+    match shape {
+        CallShape::Plain(args) => receive_plain(alloc, func.is_method(), args),
+        CallShape::ByRef(first, args) => receive_first(alloc, itself, first, args),
+        CallShape::Method(object, args) => receive_first(alloc, itself, object, args),
+    }
+}
+
+/// The first argument by reference, or the object, as it is given.
+fn first_given(alloc: Global, shape: &CallShape) -> Result<Option<Dynamic>, OutOfMemory>
+    ensures { IfOk result (λ first. first ≡ first_given shape.now) }
+{
+    match shape {
+        CallShape::Plain(_) => Ok(None),
+        CallShape::ByRef(first, _) => Ok(Some(first.dup(alloc)?)),
+        CallShape::Method(object, _) => Ok(Some(object.dup(alloc)?)),
+    }
+}
+
+/// The same of a request.
+pub fn given(alloc: Global, request: &CallRequest) -> Result<Option<Dynamic>, OutOfMemory>
+    ensures { IfOk result (λ first. first ≡ given request.now) }
+{
+    match request {
+        CallRequest::Named { shape, .. } => first_given(alloc, shape),
+    }
+}
+
+/// The same after the call: what the function gave back, if it had it itself, else what was given.
+pub fn first_after(
+    alloc: Global,
+    func: &RhaiFunc,
+    shape: &CallShape,
+    back: Option<Dynamic>,
+) -> Result<Option<Dynamic>, OutOfMemory>
+    ensures { IfOk result (λ first. first ≡ first_after (manner_of func.now) shape.now (first_given shape.now) back) }
+{
+    if has_the_given(func, shape) {
+        return Ok(back);
+    }
+    first_given(alloc, shape)
+}
+
+/// What a function may know of a call that a command makes.
+pub fn context(
+    alloc: Global,
+    name: &Text,
+    pos: Position,
+    level: u32,
+) -> Result<NativeCallContext, OutOfMemory>
+    ensures { (plan : Plan) → plan.name ≡ name.now → plan.pos ≡ pos → IfOk result (λ ctx. ctx ≡ context start_frame level plan) }
+{
+    Ok(NativeCallContext {
+        name: name.dup(alloc)?,
+        source: None,
+        call_source: None,
+        pos,
+        level,
+        tag: Dynamic::from(Value::Unit),
+    })
+}
+
+/// The context, for a function that is handed it.
+pub fn context_if(has_context: bool, ctx: &NativeCallContext) -> Option<&NativeCallContext>
+    ensures { option_copied result ≡ context_if has_context ctx.now }
+{
+    if has_context { Some(ctx) } else { None }
+}

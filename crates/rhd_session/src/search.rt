@@ -1,0 +1,151 @@
+//! The search for the function that a call means.
+
+ghost use Rattle.std.specs.Prelude.{◌≡◌, ◌++◌, ◌∷◌, [], IfOk, OnOk, map, None};
+ghost use Rattle.std.specs.Option.{option_to_list};
+ghost use Rattle.rhd_value.specs.Kinds.{tag_of};
+ghost use Rattle.rhd_value.specs.Firsts.{first_of};
+ghost use Rattle.rhd_func.specs.Shapes.{all_args};
+ghost use Rattle.rhd_module.specs.declared.key.Key.TheVariants as keys;
+ghost use Rattle.rhd_session.specs.Asks.{asked_key, params_of, typed_asks};
+ghost use Rattle.rhd_session.specs.Searched.{libraries as places, own_place, pick_at};
+
+use crate::pick::{Layer, Pick};
+use rhd_func::CallShape;
+use rhd_module::{Key, Module, SharedModule};
+use rhd_value::{OutOfMemory, Text, Types, Values};
+use std::alloc::Global;
+
+/// Puts the kinds of values last.
+fn push_kinds(kinds: &mut Types, values: &Values) -> Result<(), OutOfMemory>
+    ensures { OnOk result (kinds.new ≡ kinds.old ++ map tag_of values.now) }
+{
+    for value in values.as_slice() {
+        kinds.push(value.kind())?;
+    }
+    Ok(())
+}
+
+/// The kinds of all arguments, in order.
+fn kinds_of(alloc: Global, shape: &CallShape) -> Result<Types, OutOfMemory>
+    ensures { IfOk result (λ kinds. kinds ≡ map tag_of (all_args shape.now)) }
+{
+    let mut kinds = Types::new(alloc);
+    match shape {
+        CallShape::Plain(args) => push_kinds(&mut kinds, args)?,
+        CallShape::ByRef(first, args) => {
+            kinds.push(first.kind())?;
+            push_kinds(&mut kinds, args)?;
+        }
+        CallShape::Method(object, args) => {
+            kinds.push(object.kind())?;
+            push_kinds(&mut kinds, args)?;
+        }
+    }
+    Ok(kinds)
+}
+
+/// The key of a native that takes exactly these kinds.
+pub fn native_key_of(alloc: Global, name: &Text, shape: &CallShape) -> Result<Key, OutOfMemory>
+    ensures { IfOk result (λ key. key ≡ keys.Native None name.now (map tag_of (all_args shape.now))) }
+{
+    Ok(Key::Native {
+        path: None,
+        name: name.dup(alloc)?,
+        types: kinds_of(alloc, shape)?,
+    })
+}
+
+/// The number of arguments, an object not counted.
+fn params_of(shape: &CallShape) -> u64
+    ensures { result ≡ params_of shape.now }
+{
+    match shape {
+        CallShape::Plain(args) => args.len() as u64,
+        CallShape::ByRef(_, args) => args.as_slice().len() as u64 + 1,
+        CallShape::Method(_, args) => args.len() as u64,
+    }
+}
+
+/// The key of a script that takes so many arguments.
+pub fn script_key_of(alloc: Global, name: &Text, shape: &CallShape) -> Result<Key, OutOfMemory>
+    ensures { IfOk result (λ key. key ≡ keys.Script None name.now (params_of shape.now)) }
+{
+    Ok(Key::Script {
+        path: None,
+        name: name.dup(alloc)?,
+        params: params_of(shape),
+    })
+}
+
+/// The key of a script of an object's type; none where there is no object.
+pub fn typed_key_of(
+    alloc: Global,
+    name: &Text,
+    shape: &CallShape,
+) -> Result<Option<Key>, OutOfMemory>
+    ensures { IfOk result (λ key. option_to_list key ≡ map asked_key (typed_asks name.now shape.now)) }
+{
+    match shape {
+        CallShape::Plain(_) => Ok(None),
+        CallShape::ByRef(_, _) => Ok(None),
+        CallShape::Method(object, _) => Ok(Some(Key::Typed {
+            path: None,
+            name: name.dup(alloc)?,
+            params: params_of(shape),
+            this_type: object.type_name(alloc)?,
+        })),
+    }
+}
+
+/// What a module at a place has for a key.
+fn pick_at(
+    alloc: Global,
+    place: &Module,
+    layer: Layer,
+    key: &Key,
+) -> Result<Option<Pick>, OutOfMemory>
+    ensures { IfOk result (λ found. found ≡ pick_at key.now (own_place (λ _. layer) (0, place.now))) }
+{
+    match place.get_fn(key) {
+        Some(func) => Ok(Some(Pick {
+            layer,
+            func: func.dup(alloc)?,
+        })),
+        None => Ok(None),
+    }
+}
+
+/// What the latest library has that has the key.
+fn find_library(
+    alloc: Global,
+    libs: &[SharedModule],
+    key: &Key,
+) -> Result<Option<Pick>, OutOfMemory>
+    ensures { IfOk result (λ found. found ≡ first_of (pick_at key.now) (places libs.now)) }
+{
+    let mut number = libs.len();
+    while number > 0 {
+        number -= 1;
+        let library = libs[number].module();
+        match pick_at(alloc, library, Layer::Library(number as u64), key)? {
+            Some(pick) => return Ok(Some(pick)),
+            None => {}
+        }
+    }
+    Ok(None)
+}
+
+/// What is found under a key: of the libraries, latest first, and then of the global module.
+pub fn find(
+    alloc: Global,
+    libs: &[SharedModule],
+    global: &Module,
+    key: &Key,
+) -> Result<Option<Pick>, OutOfMemory>
+    ensures { IfOk result (λ found. found ≡ first_of (pick_at key.now) (places libs.now ++ own_place Layer.Global (0, global.now) ∷ [])) }
+{
+    match find_library(alloc, libs, key)? {
+        Some(pick) => Ok(Some(pick)),
+        None => pick_at(alloc, global, Layer::Global(0), key),
+    }
+}
