@@ -22,6 +22,7 @@ pub mod WrittenValues
 pub mod ArgumentLaws
 pub mod OperandLaws
 pub mod RowLaws
+pub mod BuiltinLaws
 pub mod CallLaws
 pub mod SessionLaws
 pub mod Utf8Laws
@@ -30,3 +31,4 @@ pub mod PrintingWeights
 pub mod PrintingEntries
 pub mod PrintingTrees
 pub mod TextLimits
+pub mod BuiltinLimits

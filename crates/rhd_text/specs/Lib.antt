@@ -1,5 +1,6 @@
 pub mod Bytes
 pub mod Arguments
+pub mod Operators
 pub mod Rows
 pub mod Maps
 pub mod Spans

@@ -1,6 +1,7 @@
 //! Reading a text.
 
-ghost use Rattle.std.specs.Prelude.{ℕ, ◌<◌, ◌≤◌, ◌^◌, length, IfOk, IfSome, OnOk};
+ghost use Rattle.std.specs.Prelude.{◌≡◌, true, nat_lt, ℕ, ◌<◌, ◌≤◌, ◌^◌, length, IfOk, IfSome, OnOk};
+ghost use Rattle.std.specs.List.{list_all};
 ghost use Rattle.std.specs.Str.Lines.{lines};
 ghost use Rattle.rhd_text.specs.declared.session.SessionText.{SessionText};
 ghost use Rattle.rhd_text.specs.Session.{IsSession, IsFirstBad, ReadsText, ReadsNoOther, NamesNoOther};
@@ -56,6 +57,8 @@ pub fn read_text(alloc: Global, bytes: &[u8], natives: &Natives) -> Result<Sessi
     ensures bad { (number : ℕ) → IsFirstBad (length natives.now.items.items) number (lines bytes.now) → NamesNoOther result number }
     // The limits that it sets are allowed.
     ensures limits { IfOk result (λ t. IfSome t.limits (λ l. l.level ≤ 1000)) }
+    // The natives of the built-in functions are held.
+    ensures builtins { IfOk result (λ t. list_all (λ b. nat_lt b.1.0 (length natives.now.items.items)) t.builtins ≡ true) }
     // A command takes a line, and a line takes a byte.
     ensures count { IfOk result (λ t. length t.commands ≤ length bytes.now) }
 {

@@ -1,14 +1,17 @@
 //! What a text says.
 
 ghost use Rattle.std.specs.Prelude.{◌≡◌};
-ghost use Rattle.rhd_text.specs.Session.{empty_text, takes_headers, with_limits, with_body, with_call, with_end, with_part, with_line};
+ghost use Rattle.rhd_text.specs.Session.{empty_text, takes_headers, with_limits, with_printer, with_builtin, with_host, with_body, with_call, with_end, with_part, with_line};
 ghost use Rattle.rhd_text.specs.Answers.{StepGives};
 
 use crate::body::{BodyEnd, BodyPlans, CallPlan};
 use crate::fault::Stop;
 use crate::line::Line;
 use crate::part::Part;
-use rhd_session::{Commands, Limits};
+use crate::printers::Printer;
+use rhd_names::OpToken;
+use rhd_session::{Builtins, Commands, Limits, Printers};
+use rhd_value::{Dynamic, Entries, FnId, Text, TypeTag};
 use std::alloc::Global;
 
 /// What a session text says.
@@ -16,6 +19,12 @@ use std::alloc::Global;
 pub struct SessionText {
     /// The limits of the session, where the text sets them.
     pub limits: Option<Limits>,
+    /// The printers that are set.
+    pub printers: Printers,
+    /// The functions of operators.
+    pub builtins: Builtins,
+    /// What the host answers, by the name of the call.
+    pub hosts: Entries,
     /// The bodies, by their numbers.
     pub bodies: BodyPlans,
     /// What the session is told to do, in order.
@@ -29,6 +38,9 @@ impl SessionText {
     {
         SessionText {
             limits: None,
+            printers: Printers::NONE,
+            builtins: Builtins::new(alloc),
+            hosts: Entries::new(alloc),
             bodies: BodyPlans::new(alloc),
             commands: Commands::new(alloc),
         }
@@ -50,6 +62,47 @@ impl SessionText {
         }
         self.limits = Some(limits);
         Ok(())
+    }
+
+    #[tactic(auto, unfolding(crate::specs::Session::with_printer))]
+    fn set_printer(&mut self, printer: Printer) -> Result<(), Stop>
+        ensures { StepGives result self.new (with_printer self.old printer) }
+    {
+        if !self.takes_headers() {
+            return Err(Stop::Bad);
+        }
+        match printer {
+            Printer::Print => self.printers.print = true,
+            Printer::Debug => self.printers.debug = true,
+        }
+        Ok(())
+    }
+
+    #[tactic(auto, unfolding(crate::specs::Session::with_builtin))]
+    fn set_builtin(
+        &mut self,
+        alloc: Global,
+        op: OpToken,
+        left: TypeTag,
+        right: TypeTag,
+        id: FnId,
+    ) -> Result<(), Stop>
+        ensures { StepGives result self.new (with_builtin self.old (record { token = op; left = left; right = right }) id) }
+    {
+        if !self.takes_headers() {
+            return Err(Stop::Bad);
+        }
+        Ok(self.builtins.set(alloc, op, left, right, id)?)
+    }
+
+    #[tactic(auto, unfolding(crate::specs::Session::with_host))]
+    fn set_host(&mut self, name: Text, answer: Dynamic) -> Result<(), Stop>
+        ensures { StepGives result self.new (with_host self.old name answer) }
+    {
+        if !self.takes_headers() {
+            return Err(Stop::Bad);
+        }
+        Ok(self.hosts.insert(name, answer)?)
     }
 
     #[tactic(auto, unfolding(crate::specs::Session::with_body))]
@@ -87,6 +140,14 @@ impl SessionText {
     {
         match part {
             Part::Limits(limits) => self.set_limits(limits),
+            Part::Printer(printer) => self.set_printer(printer),
+            Part::Builtin {
+                op,
+                left,
+                right,
+                id,
+            } => self.set_builtin(alloc, op, left, right, id),
+            Part::Host { name, answer } => self.set_host(name, answer),
             Part::Body => self.begin_body(alloc),
             Part::Do(call) => self.add_call(call),
             Part::End(end) => self.end_body(end),
