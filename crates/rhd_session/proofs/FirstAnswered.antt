@@ -165,7 +165,7 @@ first_looked e f name kinds token pick (inl first) = ap (λ (o : Option Pick). o
 first_looked e f name kinds token pick (inr built) = ap (λ (o : Option Pick). option_or o (builtin e token kinds)) (none_first (native_found e f name) (patterns kinds) built.0) ∙ built.1
 
 -- what a node that was begun shows: its pick is the first ask's that is found, or it ends alone
-pub shows_first : {B : Type 0} {o : Objects B} {w : World} {f : Frame} {level : ℕ} {call : CallRequest} {node : CallNode} {before after : Moment B} {cut : Bool} (pick : Pick) → Runs o w f level call node before after cut → (seen node).pick ≡ Some pick → (refusal w.engine level call ≡ None) × IsAnsweredFirst w.engine f call pick
+pub shows_first : {H B : Type 0} {o : Objects H B} {w : World} {f : Frame} {level : ℕ} {call : CallRequest} {node : CallNode} {before after : Moment H B} {cut : Bool} (pick : Pick) → Runs o w f level call node before after cut → (seen node).pick ≡ Some pick → (refusal w.engine level call ≡ None) × IsAnsweredFirst w.engine f call pick
 shows_first pick (not_begun b s) h = let q : None ≡ Some pick = sym (ap (λ x. x.pick) s) ∙ h in absurd cc
 shows_first {w = w} {f = f} {level = level} {call = call} pick (ended {pick = p} {end = end} b d s) h =
     alone_first w.engine f level call p end pick (ends_missing w.engine f level call p end d) (sym (ap (λ x. x.pick) s) ∙ h)
@@ -178,7 +178,7 @@ shows_first {w = w} {f = f} {level = level} {call = call} pick (cut_short {plan 
     let same : p ≡ pick = cc in
     let r = runs_first w.engine f level call plan pick (d ∙ ap (runs plan) same) in (r.0, r.2)
 
-pub shows_missing : {B : Type 0} {o : Objects B} {w : World} {f : Frame} {level : ℕ} {call : CallRequest} {node : CallNode} {before after : Moment B} {cut : Bool} → Runs o w f level call node before after cut → (seen node).begun ≡ true → (seen node).pick ≡ None → EndsAlone w.engine f level call None (seen node).end
+pub shows_missing : {H B : Type 0} {o : Objects H B} {w : World} {f : Frame} {level : ℕ} {call : CallRequest} {node : CallNode} {before after : Moment H B} {cut : Bool} → Runs o w f level call node before after cut → (seen node).begun ≡ true → (seen node).pick ≡ None → EndsAlone w.engine f level call None (seen node).end
 shows_missing (not_begun b s) begun h = let q : false ≡ true = sym (ap (λ x. x.begun) s) ∙ begun in absurd cc
 shows_missing {w = w} {f = f} {level = level} {call = call} {node = node} (ended {pick = p} {end = end} b d s) begun h =
     subst (λ (q : Option Pick). EndsAlone w.engine f level call q (seen node).end) (sym (ap (λ x. x.pick) s) ∙ h)
@@ -187,7 +187,7 @@ shows_missing (finished {pick = p} b d starts steps e s) begun h = let q : Some 
 shows_missing (cut_short {pick = p} b d starts steps r s) begun h = let q : Some p ≡ None = sym (ap (λ x. x.pick) s) ∙ h in absurd cc
 
 -- a node shows a call that isn't begun exactly where the budget was spent before it, and the calls begun never get fewer
-pub shows_unbegun : {B : Type 0} {o : Objects B} {w : World} {f : Frame} {level : ℕ} {call : CallRequest} {node : CallNode} {before after : Moment B} {cut : Bool} → Runs o w f level call node before after cut → (seen node).begun ≡ false → (before.begun ≡ w.engine.limits.budget) × (after ≡ before) × (seen node ≡ unbegun_node call level)
+pub shows_unbegun : {H B : Type 0} {o : Objects H B} {w : World} {f : Frame} {level : ℕ} {call : CallRequest} {node : CallNode} {before after : Moment H B} {cut : Bool} → Runs o w f level call node before after cut → (seen node).begun ≡ false → (before.begun ≡ w.engine.limits.budget) × (after ≡ before) × (seen node ≡ unbegun_node call level)
 shows_unbegun (not_begun b s) h = (b, refl, s)
 shows_unbegun (ended b d s) h = let q : true ≡ false = sym (ap (λ x. x.begun) s) ∙ h in absurd cc
 shows_unbegun (finished b d starts steps e s) h = let q : true ≡ false = sym (ap (λ x. x.begun) s) ∙ h in absurd cc

@@ -162,7 +162,7 @@ refused_last {plan = plan} value (is_other v back kind is within other e) h =
     inr (ErrorMismatchOutputType (type_name kind) (display v) plan.pos, record { value = v; back = back; kind = kind; step_is = is; within = within; other = other; says = refl; refused = ap (λ (x : End). x.refused) e }, cc)
 refused_last value (fits v back is within wanted e) h = let q : None ≡ Some value = sym (ap (λ (x : End). x.refused) e) ∙ h in absurd cc
 
-module _ {B : Type 0} (o : Objects B) (w : World) where
+module _ {H B : Type 0} (o : Objects H B) (w : World) where
   -- the ways in which a call may end
   pub data ShowsEnd (f : Frame) (level : ℕ) (call : CallRequest) (node : CallNode) (cut : Bool) : Type 0 where
     isnt_begun : seen node ≡ unbegun_node call level → ShowsEnd f level call node cut
@@ -177,7 +177,7 @@ module _ {B : Type 0} (o : Objects B) (w : World) where
   unrefused : (level : ℕ) (call : CallRequest) → refusal w.engine level call ≡ None → (level ≤ w.engine.limits.level) × (locked_place (plan_of call).shape ≡ None)
   unrefused level call h = unrefused_parts call w.engine.limits.level level (ltb w.engine.limits.level level) (locked_place (plan_of call).shape) refl (sym (refusal_is w.engine level call) ∙ h)
 
-  ended_by : (f : Frame) (level : ℕ) (call : CallRequest) (node : CallNode) (plan : Plan) (pick : Pick) (first last : NativeStep) (carries : List Carry) (children : List CallNode) (end : End) (from to till : Moment B) →
+  ended_by : (f : Frame) (level : ℕ) (call : CallRequest) (node : CallNode) (plan : Plan) (pick : Pick) (first last : NativeStep) (carries : List Carry) (children : List CallNode) (end : End) (from to till : Moment H B) →
       plan ≡ plan_of call → seen node ≡ begun_node call level (Some pick) carries children end →
       Starts o (context f level plan) pick.func (received_by plan pick) from first to →
       Steps o w f level plan pick first carries children last to till →
@@ -208,7 +208,7 @@ module _ {B : Type 0} (o : Objects B) (w : World) where
   alone_by f level call node cut pick end (on_constant own some unrefused_is first on constant) s =
       let u = unrefused level call unrefused_is in is_constant own u.0 u.1 unrefused_is first on (s ∙ (λ i. begun_node call level (some i) [] [] (constant i)))
 
-  pub runs_end : {f : Frame} {level : ℕ} {call : CallRequest} {node : CallNode} {before after : Moment B} {cut : Bool} → Runs o w f level call node before after cut → ShowsEnd f level call node cut
+  pub runs_end : {f : Frame} {level : ℕ} {call : CallRequest} {node : CallNode} {before after : Moment H B} {cut : Bool} → Runs o w f level call node before after cut → ShowsEnd f level call node cut
   runs_end (not_begun b s) = isnt_begun s
   runs_end (ended {f = f} {level = level} {call = call} {node = node} {pick = pick} {end = end} b d s) =
       alone_by f level call node false pick end (ends_missing w.engine f level call pick end d) s
@@ -277,7 +277,7 @@ module _ {B : Type 0} (o : Objects B) (w : World) where
       absurd (no_other (seen node).end (ErrorNonPureMethodCallOnConstant name pos) by (λ q. absurd (omega (arith, q))) (λ q. absurd (omega (arith, q))) h)
   constant_only {node = node} name pos (was_cut pick c l none begun' shown e) begun h = absurd (no_fault (seen node).end (ap (λ (x : End). x.answer) e) h.1 (λ q. absurd (omega (arith, q))))
 
-  pub constant_shown : {f : Frame} {level : ℕ} {call : CallRequest} {node : CallNode} {before after : Moment B} {cut : Bool} (pick : Pick) → Runs o w f level call node before after cut → (seen node).begun ≡ true → refusal w.engine level call ≡ None → IsAnsweredFirst w.engine f call pick → IsOnConstant (plan_of call) pick
+  pub constant_shown : {f : Frame} {level : ℕ} {call : CallRequest} {node : CallNode} {before after : Moment H B} {cut : Bool} (pick : Pick) → Runs o w f level call node before after cut → (seen node).begun ≡ true → refusal w.engine level call ≡ None → IsAnsweredFirst w.engine f call pick → IsOnConstant (plan_of call) pick
       → seen node ≡ begun_node call level (Some pick) [] [] (constant_end (plan_of call))
   constant_shown pick (not_begun b s) begun u first on = let q : false ≡ true = sym (ap (λ (x : Seen). x.begun) s) ∙ begun in absurd cc
   constant_shown pick (ended {f = f} {level = level} {call = call} {pick = p} {end = end} b d s) begun u first on =
@@ -290,13 +290,13 @@ module _ {B : Type 0} (o : Objects B) (w : World) where
   constant_shown pick (cut_short {f = f} {level = level} {call = call} {plan = plan} {pick = p} b d starts steps r s) begun u first on =
       let q : decisions.runs plan p ≡ decisions.ends (Some pick) (constant_end (plan_of call)) = sym d ∙ first_constant w.engine f level call pick u first on in absurd cc
 
-  constant_back : {f : Frame} {level : ℕ} {call : CallRequest} {node : CallNode} {before after : Moment B} {cut : Bool} (name : Bytes) (pos : Position) → Runs o w f level call node before after cut → (seen node).begun ≡ true → IsForNoConstant w.engine f level call (ErrorNonPureMethodCallOnConstant name pos)
+  constant_back : {f : Frame} {level : ℕ} {call : CallRequest} {node : CallNode} {before after : Moment H B} {cut : Bool} (name : Bytes) (pos : Position) → Runs o w f level call node before after cut → (seen node).begun ≡ true → IsForNoConstant w.engine f level call (ErrorNonPureMethodCallOnConstant name pos)
       → IsOwn (seen node).end (ErrorNonPureMethodCallOnConstant name pos)
   constant_back name pos r begun h =
       let s = constant_shown h.pick r begun h.unrefused h.first h.on in
       (ap (λ (x : Seen). x.end.whose) s, ap (λ (x : Seen). x.end.answer) s ∙ ap Err (sym h.says))
 
-  pub constant_exactly : {f : Frame} {level : ℕ} {call : CallRequest} {node : CallNode} {before after : Moment B} {cut : Bool} (name : Bytes) (pos : Position) → Runs o w f level call node before after cut → (seen node).begun ≡ true
+  pub constant_exactly : {f : Frame} {level : ℕ} {call : CallRequest} {node : CallNode} {before after : Moment H B} {cut : Bool} (name : Bytes) (pos : Position) → Runs o w f level call node before after cut → (seen node).begun ≡ true
       → IsOwn (seen node).end (ErrorNonPureMethodCallOnConstant name pos) ↔ IsForNoConstant w.engine f level call (ErrorNonPureMethodCallOnConstant name pos)
   constant_exactly name pos r begun = (constant_only name pos (runs_end r) begun, constant_back name pos r begun)
 

@@ -98,10 +98,10 @@ abbrev pub IsOfOtherKind : Option TypeTag → TypeTag → Tree → Type 0
 IsOfOtherKind want kind v = (want ≡ Some kind) × (kind ≡ tags.Dynamic → ⊥) × (kind ≡ tag_of v → ⊥)
 
 -- The function that a node shows came through the node's children to this last step, and the call ends with it.
-pub record EndsWith {B : Type 0} (o : Objects B) (w : World) (f : Frame) (node : Seen) (pick : Pick) (last : NativeStep) : Type 0 where
-  pub before : Moment B
-  pub started : Moment B
-  pub after : Moment B
+pub record EndsWith {H B : Type 0} (o : Objects H B) (w : World) (f : Frame) (node : Seen) (pick : Pick) (last : NativeStep) : Type 0 where
+  pub before : Moment H B
+  pub started : Moment H B
+  pub after : Moment H B
   pub first : NativeStep
   pub shown : node.pick ≡ Some pick
   pub starts : Starts o (context f node.level (plan_of node.call)) pick.func (received_by (plan_of node.call) pick) before first started
@@ -109,7 +109,7 @@ pub record EndsWith {B : Type 0} (o : Objects B) (w : World) (f : Frame) (node :
   pub ends : end_of w.engine (plan_of node.call) pick last ≡ Some node.end
 
 -- The function ended with a value within the limits, which isn't of the wanted kind; the fault says so, and the node shows the value.
-pub record RefusesKind {B : Type 0} (o : Objects B) (w : World) (f : Frame) (node : Seen) (fault : EvalAltResult) : Type 0 where
+pub record RefusesKind {H B : Type 0} (o : Objects H B) (w : World) (f : Frame) (node : Seen) (fault : EvalAltResult) : Type 0 where
   pub pick : Pick
   pub back : Option Tree
   pub value : Tree
@@ -121,7 +121,7 @@ pub record RefusesKind {B : Type 0} (o : Objects B) (w : World) (f : Frame) (nod
   pub refused : node.end.refused ≡ Some value
 
 -- The function ended with a value, and that passes a limit, or else the first argument that a native had; the fault says so, and the node shows the value.
-pub record RefusesSize {B : Type 0} (o : Objects B) (w : World) (f : Frame) (node : Seen) (fault : EvalAltResult) : Type 0 where
+pub record RefusesSize {H B : Type 0} (o : Objects H B) (w : World) (f : Frame) (node : Seen) (fault : EvalAltResult) : Type 0 where
   pub pick : Pick
   pub back : Option Tree
   pub value : Tree
@@ -132,7 +132,7 @@ pub record RefusesSize {B : Type 0} (o : Objects B) (w : World) (f : Frame) (nod
   pub refused : node.end.refused ≡ Some value
 
 -- The node's call refuses this value, for its kind or for a size.
-pub data RefusesValue {B : Type 0} (o : Objects B) (w : World) (f : Frame) (node : Seen) (value : Tree) : Type 0 where
+pub data RefusesValue {H B : Type 0} (o : Objects H B) (w : World) (f : Frame) (node : Seen) (value : Tree) : Type 0 where
   for_kind : {fault : EvalAltResult} (r : RefusesKind o w f node fault) → r.value ≡ value → RefusesValue o w f node value
   for_size : {fault : EvalAltResult} (r : RefusesSize o w f node fault) → r.value ≡ value → RefusesValue o w f node value
 
@@ -143,5 +143,5 @@ gave_back (Failed fault back) = back
 gave_back (Ask request carry) = None
 
 -- The node shows what its function gave back with its last step.
-abbrev pub GivesBack : {B : Type 0} → Objects B → World → Frame → Seen → Pick → Type 0
+abbrev pub GivesBack : {H B : Type 0} → Objects H B → World → Frame → Seen → Pick → Type 0
 GivesBack o w f node pick = (last : NativeStep) × EndsWith o w f node pick last × (node.end.first_after ≡ gave_back last)

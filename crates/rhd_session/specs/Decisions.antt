@@ -1,5 +1,5 @@
 -- What becomes of a call: everything that no function has a choice in.
-use Rattle.std.specs.Prelude.{ℕ, ◌+◌, Bool, not, ◌&&◌, List, [], ◌∷◌, ◌++◌, nat_lt, if◌then◌else◌, Option, None, Some, option_map, codes, decimal}
+use Rattle.std.specs.Prelude.{ℕ, ◌+◌, Bool, true, false, not, ◌&&◌, List, [], ◌∷◌, ◌++◌, nat_lt, if◌then◌else◌, Option, None, Some, option_map, codes, decimal}
 use Rattle.rhd_value.specs.Tree.{Bytes, Tree}
 use Rattle.rhd_value.specs.Firsts.{first_some, where_holds}
 use Rattle.rhd_value.specs.declared.fault.EvalAltResult.{EvalAltResult}
@@ -20,6 +20,7 @@ use Rattle.rhd_session.specs.Ends.{failed}
 
 pub data Decision : Type 0 where
   ends : Option Pick → End → Decision  -- nothing runs
+  asks_host : Plan → Decision
   runs : Plan → Pick → Decision
 
 abbrev pub pick_by : EngineLists → Frame → Plan → Search → Option Pick
@@ -41,9 +42,13 @@ constant_end plan = failed plan.given (ErrorNonPureMethodCallOnConstant plan.nam
 abbrev pub picked : Plan → Pick → Decision
 picked plan pick = if is_on_constant plan pick then ends (Some pick) (constant_end plan) else runs plan pick
 
--- without a pick a call isn't found
+-- without a pick: the host is asked where scripts are allowed
+abbrev pub unpicked : Plan → Search → Decision
+unpicked plan (by_name token false) = asks_host plan
+unpicked plan (by_name token true) = ends None (failed plan.given (not_found plan.pos plan.name (all_args plan.shape)))
+
 abbrev pub decided : Plan → Option Pick → Decision
-decided plan None = ends None (failed plan.given (not_found plan.pos plan.name (all_args plan.shape)))
+decided plan None = unpicked plan plan.search
 decided plan (Some pick) = picked plan pick
 
 -- The level is above the limit.

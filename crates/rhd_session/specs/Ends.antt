@@ -12,11 +12,15 @@ use Rattle.rhd_value.specs.declared.fault.EvalAltResult.{EvalAltResult}
 use Rattle.rhd_value.specs.declared.fault.EvalAltResult.TheVariants.{ErrorMismatchOutputType, ErrorDataTooLarge}
 use Rattle.rhd_func.specs.declared.request.NativeStep.{NativeStep}
 use Rattle.rhd_func.specs.declared.request.NativeStep.TheVariants.{Done, Failed, Ask}
+use Rattle.rhd_func.specs.declared.request.HostAnswer.{HostAnswer}
+use Rattle.rhd_func.specs.declared.request.HostAnswer.TheVariants as host
 use Rattle.rhd_func.specs.Funcs.{is_script}
+use Rattle.rhd_func.specs.Shapes.{all_args}
+use Rattle.rhd_session.specs.NotFound.{not_found}
 use Rattle.rhd_session.specs.declared.ends.End.{End}
 use Rattle.rhd_session.specs.declared.limits.Limits.{Limits}
 use Rattle.rhd_session.specs.declared.node.Whose.{Whose}
-use Rattle.rhd_session.specs.declared.node.Whose.TheVariants.{Call, Called}
+use Rattle.rhd_session.specs.declared.node.Whose.TheVariants.{Call, Called, Host}
 use Rattle.rhd_session.specs.declared.pick.Pick.{Pick}
 use Rattle.rhd_session.specs.Display.{display}
 use Rattle.rhd_session.specs.Engine.{EngineLists}
@@ -87,3 +91,9 @@ unfoldable pub end_of : EngineLists → Plan → Pick → NativeStep → Option 
 end_of e plan pick (Done v back) = Some (done e.limits plan pick back v)
 end_of e plan pick (Failed fault back) = Some (handed_on plan pick back fault)
 end_of e plan pick (Ask request carry) = None
+
+-- how a call ends with what the host answered
+unfoldable pub host_end : Plan → HostAnswer → End
+host_end plan host.Nothing = failed plan.given (not_found plan.pos plan.name (all_args plan.shape))
+host_end plan (host.Value v) = accepted plan Host plan.given v
+host_end plan (host.Fault fault) = record { answer = Err fault; whose = Host; first_after = plan.given; printed = None; refused = None }

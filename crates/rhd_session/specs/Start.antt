@@ -20,5 +20,5 @@ abbrev pub start_frame : Frame
 start_frame = record { libs = []; source = None; level = 0; tag = plain unit }
 
 -- no call is begun
-abbrev pub start_moment : {B : Type 0} → B → Moment B
-start_moment bodies = moment 0 bodies
+abbrev pub start_moment : {H B : Type 0} → H → B → Moment H B
+start_moment host bodies = moment 0 host bodies

@@ -41,15 +41,16 @@ impl Session {
     ghost use Rattle.rhd_session.specs.Of.{natives_of, world_of, frame_of};
 
     /// Makes a call, with all the calls that it leads to. Each call that is begun counts.
-    pub(crate) fn run_call<B: Bodies>(
+    pub(crate) fn run_call<H: Host, B: Bodies>(
         &self,
         alloc: Global,
         call: CallRequest,
         begun: &mut u64,
+        host: &mut H,
         bodies: &mut B,
     ) -> Result<CallNode, OutOfMemory>
         requires { begun.old ≤ self.now.limits.budget }
-        ensures runs { IfOk result (λ node. (cut : Bool) × Runs (objects_of allows_call allows_resume B.allows_start B.allows_next (natives_of self.now)) (world_of info self.now) (frame_of self.now) 1 call node (moment begun.old bodies.old) (moment begun.new bodies.new) cut) }
+        ensures runs { IfOk result (λ node. (cut : Bool) × Runs (objects_of allows_call allows_resume B.allows_start B.allows_next H.allows_missing (natives_of self.now)) (world_of info self.now) (frame_of self.now) 1 call node (moment begun.old host.old bodies.old) (moment begun.new host.new bodies.new) cut) }
         ensures within { begun.new ≤ self.now.limits.budget }
         ensures rises { begun.old ≤ begun.new }
     {
@@ -77,15 +78,16 @@ impl Session {
     }
 
     /// Begins the call that was asked for.
-    fn ask<B: Bodies>(
+    fn ask<H: Host, B: Bodies>(
         &self,
         alloc: Global,
         stack: &mut Vec<Suspended>,
         request: CallRequest,
+        host: &mut H,
         bodies: &mut B,
     ) -> Result<Hand, OutOfMemory>
         requires { length stack.old.items ≤ 1000 }
-        ensures going { (call : CallRequest) (before : Moment B) (begun : ℕ) → begun < self.now.limits.budget → Going (objects_of allows_call allows_resume B.allows_start B.allows_next (natives_of self.now)) (world_of info self.now) stack.old.items (frame_of self.now) call before (Asked request) (moment begun bodies.old) → IfOk result (λ hand. Going (objects_of allows_call allows_resume B.allows_start B.allows_next (natives_of self.now)) (world_of info self.now) stack.new.items (frame_of self.now) call before hand (moment (begun + 1) bodies.new)) }
+        ensures going { (call : CallRequest) (before : Moment H B) (begun : ℕ) → begun < self.now.limits.budget → Going (objects_of allows_call allows_resume B.allows_start B.allows_next H.allows_missing (natives_of self.now)) (world_of info self.now) stack.old.items (frame_of self.now) call before (Asked request) (moment begun host.old bodies.old) → IfOk result (λ hand. Going (objects_of allows_call allows_resume B.allows_start B.allows_next H.allows_missing (natives_of self.now)) (world_of info self.now) stack.new.items (frame_of self.now) call before hand (moment (begun + 1) host.new bodies.new)) }
         ensures grows { IfOk result (λ hand. length stack.new.items + weight hand ≡ length stack.old.items + 1) }
     {
         let level = stack.len() as u32 + 1;
@@ -94,16 +96,17 @@ impl Session {
     }
 
     /// Hands a node to the call that waits for it.
-    fn answer<B: Bodies>(
+    fn answer<H: Host, B: Bodies>(
         &self,
         alloc: Global,
         stack: &mut Vec<Suspended>,
         frame: Suspended,
         node: CallNode,
+        host: &mut H,
         bodies: &mut B,
     ) -> Result<Hand, OutOfMemory>
         requires { func_held (length (natives_of self.now).items.items) frame.work.pick.func ≡ true }
-        ensures going { (call : CallRequest) (before : Moment B) (begun : ℕ) → Going (objects_of allows_call allows_resume B.allows_start B.allows_next (natives_of self.now)) (world_of info self.now) (stack.old.items ++ frame ∷ []) (frame_of self.now) call before (Answered node) (moment begun bodies.old) → IfOk result (λ hand. Going (objects_of allows_call allows_resume B.allows_start B.allows_next (natives_of self.now)) (world_of info self.now) stack.new.items (frame_of self.now) call before hand (moment begun bodies.new)) }
+        ensures going { (call : CallRequest) (before : Moment H B) (begun : ℕ) → Going (objects_of allows_call allows_resume B.allows_start B.allows_next H.allows_missing (natives_of self.now)) (world_of info self.now) (stack.old.items ++ frame ∷ []) (frame_of self.now) call before (Answered node) (moment begun host.old bodies.old) → IfOk result (λ hand. Going (objects_of allows_call allows_resume B.allows_start B.allows_next H.allows_missing (natives_of self.now)) (world_of info self.now) stack.new.items (frame_of self.now) call before hand (moment begun host.new bodies.new)) }
         ensures grows { IfOk result (λ hand. length stack.new.items + weight hand ≡ length stack.old.items + 1) }
     {
         let outcome = self.resume(alloc, frame, node, bodies)?;
@@ -111,12 +114,12 @@ impl Session {
     }
 
     /// Closes each call that waits, where the budget is spent.
-    fn cut_all<B: Bodies>(
+    fn cut_all<H: Host, B: Bodies>(
         &self,
         mut stack: Vec<Suspended>,
         mut node: CallNode,
     ) -> Result<CallNode, OutOfMemory>
-        ensures { (call : CallRequest) (before after : Moment B) → Cutting (objects_of allows_call allows_resume B.allows_start B.allows_next (natives_of self.now)) (world_of info self.now) stack.items (frame_of self.now) call before node after → IfOk result (λ root. Runs (objects_of allows_call allows_resume B.allows_start B.allows_next (natives_of self.now)) (world_of info self.now) (frame_of self.now) 1 call root before after true) }
+        ensures { (call : CallRequest) (before after : Moment H B) → Cutting (objects_of allows_call allows_resume B.allows_start B.allows_next H.allows_missing (natives_of self.now)) (world_of info self.now) stack.items (frame_of self.now) call before node after → IfOk result (λ root. Runs (objects_of allows_call allows_resume B.allows_start B.allows_next H.allows_missing (natives_of self.now)) (world_of info self.now) (frame_of self.now) 1 call root before after true) }
     {
         while let Some(frame) = stack.pop() {
             node = cut(frame, node)?;
@@ -125,14 +128,15 @@ impl Session {
     }
 
     /// Begins a call: it is refused, or isn't found, or its function takes its first step.
-    fn begin<B: Bodies>(
+    fn begin<H: Host, B: Bodies>(
         &self,
         alloc: Global,
         call: CallRequest,
         level: u32,
+        host: &mut H,
         bodies: &mut B,
     ) -> Result<Outcome, OutOfMemory>
-        ensures { (n begun : ℕ) → begun < self.now.limits.budget → IfOk result (λ outcome. Comes_to (objects_of allows_call allows_resume B.allows_start B.allows_next (natives_of self.now)) (world_of info self.now) (entered (frame_of self.now) n) level call outcome (moment begun bodies.old) (moment (begun + 1) bodies.new)) }
+        ensures { (n begun : ℕ) → begun < self.now.limits.budget → IfOk result (λ outcome. Comes_to (objects_of allows_call allows_resume B.allows_start B.allows_next H.allows_missing (natives_of self.now)) (world_of info self.now) (entered (frame_of self.now) n) level call outcome (moment begun host.old bodies.old) (moment (begun + 1) host.new bodies.new)) }
     {
         match refusal(alloc, self.limits, level, &call)? {
             Some(fault) => {
@@ -145,14 +149,15 @@ impl Session {
 
     /// Begins a call that nothing refuses: it isn't found, or its function isn't for a constant, or
     /// takes its first step.
-    fn begin_unrefused<B: Bodies>(
+    fn begin_unrefused<H: Host, B: Bodies>(
         &self,
         alloc: Global,
         call: CallRequest,
         level: u32,
+        host: &mut H,
         bodies: &mut B,
     ) -> Result<Outcome, OutOfMemory>
-        ensures { (n begun : ℕ) → begun < self.now.limits.budget → refusal (world_of info self.now).engine level call ≡ None → IfOk result (λ outcome. Comes_to (objects_of allows_call allows_resume B.allows_start B.allows_next (natives_of self.now)) (world_of info self.now) (entered (frame_of self.now) n) level call outcome (moment begun bodies.old) (moment (begun + 1) bodies.new)) }
+        ensures { (n begun : ℕ) → begun < self.now.limits.budget → refusal (world_of info self.now).engine level call ≡ None → IfOk result (λ outcome. Comes_to (objects_of allows_call allows_resume B.allows_start B.allows_next H.allows_missing (natives_of self.now)) (world_of info self.now) (entered (frame_of self.now) n) level call outcome (moment begun host.old bodies.old) (moment (begun + 1) host.new bodies.new)) }
     {
         match self.pick(alloc, &call)? {
             Some(pick) => {
@@ -224,16 +229,17 @@ impl Session {
     }
 
     /// The first step of the function that is picked.
-    fn begin_picked<B: Bodies>(
+    fn begin_picked<H: Host, B: Bodies>(
         &self,
         alloc: Global,
         call: CallRequest,
         level: u32,
         pick: Pick,
+        host: &mut H,
         bodies: &mut B,
     ) -> Result<Outcome, OutOfMemory>
         requires { func_held (length (natives_of self.now).items.items) pick.func ≡ true }
-        ensures { (n begun : ℕ) → begun < self.now.limits.budget → decision (world_of info self.now).engine (entered (frame_of self.now) n) level call ≡ runs (plan_of call) pick → IfOk result (λ outcome. Comes_to (objects_of allows_call allows_resume B.allows_start B.allows_next (natives_of self.now)) (world_of info self.now) (entered (frame_of self.now) n) level call outcome (moment begun bodies.old) (moment (begun + 1) bodies.new)) }
+        ensures { (n begun : ℕ) → begun < self.now.limits.budget → decision (world_of info self.now).engine (entered (frame_of self.now) n) level call ≡ runs (plan_of call) pick → IfOk result (λ outcome. Comes_to (objects_of allows_call allows_resume B.allows_start B.allows_next H.allows_missing (natives_of self.now)) (world_of info self.now) (entered (frame_of self.now) n) level call outcome (moment begun host.old bodies.old) (moment (begun + 1) host.new bodies.new)) }
     {
         let step = self.first_step(alloc, &call, level, &pick, bodies)?;
         let work = Work {
@@ -247,30 +253,32 @@ impl Session {
     }
 
     /// The next step of a function that waits, after the answer to its request.
-    fn resume<B: Bodies>(
+    fn resume<H: Host, B: Bodies>(
         &self,
         alloc: Global,
         frame: Suspended,
         child: CallNode,
+        host: &mut H,
         bodies: &mut B,
     ) -> Result<Outcome, OutOfMemory>
         requires { func_held (length (natives_of self.now).items.items) frame.work.pick.func ≡ true }
-        ensures { (n level begun : ℕ) (inner : Frame) (call waited : CallRequest) (before mid : Moment B) → Open (objects_of allows_call allows_resume B.allows_start B.allows_next (natives_of self.now)) (world_of info self.now) (entered (frame_of self.now) n) level call frame inner waited before mid → Runs (objects_of allows_call allows_resume B.allows_start B.allows_next (natives_of self.now)) (world_of info self.now) inner (level + 1) waited child mid (moment begun bodies.old) false → IfOk result (λ outcome. Comes_to (objects_of allows_call allows_resume B.allows_start B.allows_next (natives_of self.now)) (world_of info self.now) (entered (frame_of self.now) n) level call outcome before (moment begun bodies.new)) }
+        ensures { (n level begun : ℕ) (inner : Frame) (call waited : CallRequest) (before mid : Moment H B) → Open (objects_of allows_call allows_resume B.allows_start B.allows_next H.allows_missing (natives_of self.now)) (world_of info self.now) (entered (frame_of self.now) n) level call frame inner waited before mid → Runs (objects_of allows_call allows_resume B.allows_start B.allows_next H.allows_missing (natives_of self.now)) (world_of info self.now) inner (level + 1) waited child mid (moment begun host.old bodies.old) false → IfOk result (λ outcome. Comes_to (objects_of allows_call allows_resume B.allows_start B.allows_next H.allows_missing (natives_of self.now)) (world_of info self.now) (entered (frame_of self.now) n) level call outcome before (moment begun host.new bodies.new)) }
     {
         let step = self.answered_step(alloc, &frame, &child, bodies)?;
         settle(alloc, self.limits, joined(frame, child)?, step)
     }
 
     /// The next step of a function that waits, after the answer of a child.
-    fn answered_step<B: Bodies>(
+    fn answered_step<H: Host, B: Bodies>(
         &self,
         alloc: Global,
         frame: &Suspended,
         child: &CallNode,
+        host: &mut H,
         bodies: &mut B,
     ) -> Result<NativeStep, OutOfMemory>
         requires { func_held (length (natives_of self.now).items.items) frame.now.work.pick.func ≡ true }
-        ensures { (begun : ℕ) → IfOk result (λ step. Resumes (objects_of allows_call allows_resume B.allows_start B.allows_next (natives_of self.now)) (context (frame_of self.now) frame.now.work.level (plan_of frame.now.work.call)) frame.now.work.pick.func frame.now.carry (done_of child.now) (moment begun bodies.old) step (moment begun bodies.new)) }
+        ensures { (begun : ℕ) → IfOk result (λ step. Resumes (objects_of allows_call allows_resume B.allows_start B.allows_next H.allows_missing (natives_of self.now)) (context (frame_of self.now) frame.now.work.level (plan_of frame.now.work.call)) frame.now.work.pick.func frame.now.carry (done_of child.now) (moment begun host.old bodies.old) step (moment begun host.new bodies.new)) }
     {
         let done = child.done(alloc)?;
         let carry = frame.carry.dup(alloc)?;
@@ -278,16 +286,17 @@ impl Session {
     }
 
     /// The first step of a function on the arguments of its call.
-    fn first_step<B: Bodies>(
+    fn first_step<H: Host, B: Bodies>(
         &self,
         alloc: Global,
         call: &CallRequest,
         level: u32,
         pick: &Pick,
+        host: &mut H,
         bodies: &mut B,
     ) -> Result<NativeStep, OutOfMemory>
         requires { func_held (length (natives_of self.now).items.items) pick.now.func ≡ true }
-        ensures { (begun : ℕ) → IfOk result (λ step. Starts (objects_of allows_call allows_resume B.allows_start B.allows_next (natives_of self.now)) (context (frame_of self.now) level (plan_of call.now)) pick.now.func (received_by (plan_of call.now) pick.now) (moment begun bodies.old) step (moment begun bodies.new)) }
+        ensures { (begun : ℕ) → IfOk result (λ step. Starts (objects_of allows_call allows_resume B.allows_start B.allows_next H.allows_missing (natives_of self.now)) (context (frame_of self.now) level (plan_of call.now)) pick.now.func (received_by (plan_of call.now) pick.now) (moment begun host.old bodies.old) step (moment begun host.new bodies.new)) }
     {
         let received = receive(alloc, &pick.func, shape_of(call))?;
         let ctx = context(alloc, name_of(call), position_of(call), level)?;
@@ -295,16 +304,17 @@ impl Session {
     }
 
     /// The next step of a function, after the answer to its request.
-    fn next_step<B: Bodies>(
+    fn next_step<H: Host, B: Bodies>(
         &self,
         alloc: Global,
         work: &Work,
         carry: Carry,
         done: CallDone,
+        host: &mut H,
         bodies: &mut B,
     ) -> Result<NativeStep, OutOfMemory>
         requires { func_held (length (natives_of self.now).items.items) work.now.pick.func ≡ true }
-        ensures { (begun : ℕ) → IfOk result (λ step. Resumes (objects_of allows_call allows_resume B.allows_start B.allows_next (natives_of self.now)) (context (frame_of self.now) work.now.level (plan_of work.now.call)) work.now.pick.func carry done (moment begun bodies.old) step (moment begun bodies.new)) }
+        ensures { (begun : ℕ) → IfOk result (λ step. Resumes (objects_of allows_call allows_resume B.allows_start B.allows_next H.allows_missing (natives_of self.now)) (context (frame_of self.now) work.now.level (plan_of work.now.call)) work.now.pick.func carry done (moment begun host.old bodies.old) step (moment begun host.new bodies.new)) }
     {
         let ctx = context(
             alloc,
@@ -316,16 +326,17 @@ impl Session {
     }
 
     /// The first step of a function on what it received.
-    fn start<B: Bodies>(
+    fn start<H: Host, B: Bodies>(
         &self,
         alloc: Global,
         func: &RhaiFunc,
         ctx: &NativeCallContext,
         received: Received,
+        host: &mut H,
         bodies: &mut B,
     ) -> Result<NativeStep, OutOfMemory>
         requires { func_held (length (natives_of self.now).items.items) func.now ≡ true }
-        ensures { (begun : ℕ) → IfOk result (λ step. Starts (objects_of allows_call allows_resume B.allows_start B.allows_next (natives_of self.now)) ctx.now func.now (record { first = received.first; args = received.args }) (moment begun bodies.old) step (moment begun bodies.new)) }
+        ensures { (begun : ℕ) → IfOk result (λ step. Starts (objects_of allows_call allows_resume B.allows_start B.allows_next H.allows_missing (natives_of self.now)) ctx.now func.now (record { first = received.first; args = received.args }) (moment begun host.old bodies.old) step (moment begun host.new bodies.new)) }
     {
         let Received { first, args } = received;
         match func {
@@ -342,17 +353,18 @@ impl Session {
     }
 
     /// The next step of a function in a context.
-    fn go_on<B: Bodies>(
+    fn go_on<H: Host, B: Bodies>(
         &self,
         alloc: Global,
         func: &RhaiFunc,
         ctx: &NativeCallContext,
         carry: Carry,
         done: CallDone,
+        host: &mut H,
         bodies: &mut B,
     ) -> Result<NativeStep, OutOfMemory>
         requires { func_held (length (natives_of self.now).items.items) func.now ≡ true }
-        ensures { (begun : ℕ) → IfOk result (λ step. Resumes (objects_of allows_call allows_resume B.allows_start B.allows_next (natives_of self.now)) ctx.now func.now carry done (moment begun bodies.old) step (moment begun bodies.new)) }
+        ensures { (begun : ℕ) → IfOk result (λ step. Resumes (objects_of allows_call allows_resume B.allows_start B.allows_next H.allows_missing (natives_of self.now)) ctx.now func.now carry done (moment begun host.old bodies.old) step (moment begun host.new bodies.new)) }
     {
         match func {
             RhaiFunc::Script { fn_def, .. } => {

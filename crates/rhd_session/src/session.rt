@@ -69,14 +69,15 @@ impl Session {
     }
 
     /// Answers one command.
-    fn perform<B: Bodies>(
+    fn perform<H: Host, B: Bodies>(
         &mut self,
         alloc: Global,
         command: &Command,
+        host: &mut H,
         bodies: &mut B,
     ) -> Result<Reply, OutOfMemory>
         requires { length (modules_of self.old) < 2 ^ 32 }
-        ensures replied { IfOk result (λ reply. Replied (objects_of allows_call allows_resume B.allows_start B.allows_next (natives_of self.old)) (world_of info self.old) (frame_of self.old) (moment_of self.old bodies.old) command.now reply (world_of info self.new) (frame_of self.new) (moment_of self.new bodies.new)) }
+        ensures replied { IfOk result (λ reply. Replied (objects_of allows_call allows_resume B.allows_start B.allows_next H.allows_missing (natives_of self.old)) (world_of info self.old) (frame_of self.old) (moment_of self.old host.old bodies.old) command.now reply (world_of info self.new) (frame_of self.new) (moment_of self.new host.new bodies.new)) }
         ensures failed { OnErr result ((world_of info self.new ≡ world_of info self.old) × (frame_of self.new ≡ frame_of self.old)) }
         ensures natives { natives_of self.new ≡ natives_of self.old }
         ensures rises { calls_begun_of self.old ≤ calls_begun_of self.new }
@@ -100,15 +101,16 @@ impl Session {
 
     /// Answers commands in order. Where memory runs out, the commands before are done, and the calls
     /// that were begun for the next one are spent.
-    pub fn run<B: Bodies>(
+    pub fn run<H: Host, B: Bodies>(
         &mut self,
         alloc: Global,
         commands: &[Command],
+        host: &mut H,
         bodies: &mut B,
     ) -> Result<Replies, Stopped>
         requires { length (modules_of self.old) + length commands.now < 2 ^ 32 }
-        ensures answered { IfOk result (λ replies. Answered (objects_of allows_call allows_resume B.allows_start B.allows_next (natives_of self.old)) (world_of info self.old) (frame_of self.old) (moment_of self.old bodies.old) commands.now replies (world_of info self.new) (frame_of self.new) (moment_of self.new bodies.new)) }
-        ensures stopped { IfErr result (λ stopped. (after : Moment B) × Answered (objects_of allows_call allows_resume B.allows_start B.allows_next (natives_of self.old)) (world_of info self.old) (frame_of self.old) (moment_of self.old bodies.old) (take (length stopped.replies) commands.now) stopped.replies (world_of info self.new) (frame_of self.new) after × (after.begun ≤ calls_begun_of self.new) × (length stopped.replies < length commands.now)) }
+        ensures answered { IfOk result (λ replies. Answered (objects_of allows_call allows_resume B.allows_start B.allows_next H.allows_missing (natives_of self.old)) (world_of info self.old) (frame_of self.old) (moment_of self.old host.old bodies.old) commands.now replies (world_of info self.new) (frame_of self.new) (moment_of self.new host.new bodies.new)) }
+        ensures stopped { IfErr result (λ stopped. (after : Moment H B) × Answered (objects_of allows_call allows_resume B.allows_start B.allows_next H.allows_missing (natives_of self.old)) (world_of info self.old) (frame_of self.old) (moment_of self.old host.old bodies.old) (take (length stopped.replies) commands.now) stopped.replies (world_of info self.new) (frame_of self.new) after × (after.begun ≤ calls_begun_of self.new) × (length stopped.replies < length commands.now)) }
         ensures counted { IfOk result (λ replies. length replies ≡ length commands.now) }
         ensures modules { length (modules_of self.new) ≤ length (modules_of self.old) + length commands.now }
         ensures natives { natives_of self.new ≡ natives_of self.old }
