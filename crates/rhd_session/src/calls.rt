@@ -2,7 +2,8 @@
 
 ghost use Rattle.std.specs.Prelude.{◌≡◌, ◌≤◌, ◌<◌, ◌+◌, ◌++◌, ◌∷◌, [], ℕ, Bool, true, false, IfOk, IfSome, length, Some, None};
 ghost use Rattle.rhd_func.specs.declared.request.CallRequest.{CallRequest};
-ghost use Rattle.rhd_func.specs.Shapes.{all_args};
+ghost use Rattle.rhd_func.specs.declared.request.HostAnswer.{HostAnswer};
+ghost use Rattle.rhd_func.specs.Shapes.{all_args, is_method_shape};
 ghost use Rattle.rhd_session.specs.declared.machine.Hand.TheVariants.{Asked, Answered};
 ghost use Rattle.rhd_session.specs.Engine.{Frame};
 ghost use Rattle.rhd_session.specs.World.{Moment, moment};
@@ -11,9 +12,9 @@ ghost use Rattle.rhd_value.specs.Firsts.{first_of};
 ghost use Rattle.rhd_session.specs.Held.{func_held};
 ghost use Rattle.rhd_session.specs.Asks.{looked, allowed_asks, typed_asks};
 ghost use Rattle.rhd_session.specs.Searched.{found};
-ghost use Rattle.rhd_session.specs.Plans.{plan_of};
+ghost use Rattle.rhd_session.specs.Plans.{only_natives, plan_of};
 ghost use Rattle.rhd_session.specs.NotFound.{not_found};
-ghost use Rattle.rhd_session.specs.Ends.{failed};
+ghost use Rattle.rhd_session.specs.Ends.{failed, host_end};
 ghost use Rattle.rhd_session.specs.Decisions.{refusal, decision, runs, pick_of, is_on_constant, constant_end};
 ghost use Rattle.rhd_session.specs.Seen.{seen, begun_node, done_of};
 ghost use Rattle.rhd_session.specs.Entered.{context, entered};
@@ -22,16 +23,18 @@ ghost use Rattle.rhd_session.specs.Runs.{Runs, received_by};
 ghost use Rattle.rhd_session.specs.Waits.{Open, Comes_to, Going, Cutting, weight};
 
 use crate::display::signature;
+use crate::ends::{End, accepted};
 use crate::machine::{Hand, Outcome, Suspended, Work, cut, joined, put, settle};
-use crate::node::{CallNode, Carries, Nodes};
+use crate::node::{CallNode, Carries, Nodes, Whose};
 use crate::pick::Pick;
 use crate::plan::{name_of, native_only_of, position_of, shape_of, token_of};
-use crate::received::{Received, context, context_if, receive, receives_constant};
+use crate::received::{Received, all_args, context, context_if, given, is_method_shape, receive, receives_constant};
 use crate::refusal::refusal;
 use crate::search::{find, script_key_of, typed_key_of};
 use crate::session::Session;
 use rhd_func::{
-    Bodies, CallDone, CallRequest, CallShape, Carry, NativeCallContext, NativeStep, RhaiFunc,
+    Bodies, CallDone, CallRequest, CallShape, Carry, Host, HostAnswer, NativeCallContext, NativeStep,
+    RhaiFunc,
 };
 use rhd_module::Key;
 use rhd_value::{EvalAltResult, OutOfMemory, Text};
@@ -62,16 +65,16 @@ impl Session {
                     if *begun >= self.limits.budget {
                         let level = stack.len() as u32 + 1;
                         let node = CallNode::unbegun(alloc, request, level)?;
-                        return self.cut_all::<B>(stack, node);
+                        return self.cut_all::<H, B>(stack, node);
                     }
                     *begun += 1;
-                    hand = self.ask(alloc, &mut stack, request, bodies)?;
+                    hand = self.ask(alloc, &mut stack, request, host, bodies)?;
                 }
                 Hand::Answered(node) => {
                     let Some(frame) = stack.pop() else {
                         return Ok(node);
                     };
-                    hand = self.answer(alloc, &mut stack, frame, node, bodies)?;
+                    hand = self.answer::<H, B>(alloc, &mut stack, frame, node, bodies)?;
                 }
             }
         }
@@ -91,7 +94,7 @@ impl Session {
         ensures grows { IfOk result (λ hand. length stack.new.items + weight hand ≡ length stack.old.items + 1) }
     {
         let level = stack.len() as u32 + 1;
-        let outcome = self.begin(alloc, request, level, bodies)?;
+        let outcome = self.begin(alloc, request, level, host, bodies)?;
         put(stack, outcome)
     }
 
@@ -102,14 +105,13 @@ impl Session {
         stack: &mut Vec<Suspended>,
         frame: Suspended,
         node: CallNode,
-        host: &mut H,
         bodies: &mut B,
     ) -> Result<Hand, OutOfMemory>
         requires { func_held (length (natives_of self.now).items.items) frame.work.pick.func ≡ true }
-        ensures going { (call : CallRequest) (before : Moment H B) (begun : ℕ) → Going (objects_of allows_call allows_resume B.allows_start B.allows_next H.allows_missing (natives_of self.now)) (world_of info self.now) (stack.old.items ++ frame ∷ []) (frame_of self.now) call before (Answered node) (moment begun host.old bodies.old) → IfOk result (λ hand. Going (objects_of allows_call allows_resume B.allows_start B.allows_next H.allows_missing (natives_of self.now)) (world_of info self.now) stack.new.items (frame_of self.now) call before hand (moment begun host.new bodies.new)) }
+        ensures going { (call : CallRequest) (before : Moment H B) (begun : ℕ) (host : H) → Going (objects_of allows_call allows_resume B.allows_start B.allows_next H.allows_missing (natives_of self.now)) (world_of info self.now) (stack.old.items ++ frame ∷ []) (frame_of self.now) call before (Answered node) (moment begun host bodies.old) → IfOk result (λ hand. Going (objects_of allows_call allows_resume B.allows_start B.allows_next H.allows_missing (natives_of self.now)) (world_of info self.now) stack.new.items (frame_of self.now) call before hand (moment begun host bodies.new)) }
         ensures grows { IfOk result (λ hand. length stack.new.items + weight hand ≡ length stack.old.items + 1) }
     {
-        let outcome = self.resume(alloc, frame, node, bodies)?;
+        let outcome = self.resume::<H, B>(alloc, frame, node, bodies)?;
         put(stack, outcome)
     }
 
@@ -143,7 +145,7 @@ impl Session {
                 let node = CallNode::failed(alloc, call, level, None, fault)?;
                 Ok(Outcome::Finished(node))
             }
-            None => self.begin_unrefused(alloc, call, level, bodies),
+            None => self.begin_unrefused(alloc, call, level, host, bodies),
         }
     }
 
@@ -164,9 +166,9 @@ impl Session {
                 if on_constant(&call, &pick) {
                     return Ok(Outcome::Finished(constant(alloc, call, level, pick)?));
                 }
-                self.begin_picked(alloc, call, level, pick, bodies)
+                self.begin_picked::<H, B>(alloc, call, level, pick, bodies)
             }
-            None => Ok(Outcome::Finished(missing(alloc, call, level)?)),
+            None => Ok(Outcome::Finished(unpicked(alloc, call, level, host)?)),
         }
     }
 
@@ -235,13 +237,12 @@ impl Session {
         call: CallRequest,
         level: u32,
         pick: Pick,
-        host: &mut H,
         bodies: &mut B,
     ) -> Result<Outcome, OutOfMemory>
         requires { func_held (length (natives_of self.now).items.items) pick.func ≡ true }
-        ensures { (n begun : ℕ) → begun < self.now.limits.budget → decision (world_of info self.now).engine (entered (frame_of self.now) n) level call ≡ runs (plan_of call) pick → IfOk result (λ outcome. Comes_to (objects_of allows_call allows_resume B.allows_start B.allows_next H.allows_missing (natives_of self.now)) (world_of info self.now) (entered (frame_of self.now) n) level call outcome (moment begun host.old bodies.old) (moment (begun + 1) host.new bodies.new)) }
+        ensures { (n begun : ℕ) (host : H) → begun < self.now.limits.budget → decision (world_of info self.now).engine (entered (frame_of self.now) n) level call ≡ runs (plan_of call) pick → IfOk result (λ outcome. Comes_to (objects_of allows_call allows_resume B.allows_start B.allows_next H.allows_missing (natives_of self.now)) (world_of info self.now) (entered (frame_of self.now) n) level call outcome (moment begun host bodies.old) (moment (begun + 1) host bodies.new)) }
     {
-        let step = self.first_step(alloc, &call, level, &pick, bodies)?;
+        let step = self.first_step::<H, B>(alloc, &call, level, &pick, bodies)?;
         let work = Work {
             call,
             level,
@@ -258,13 +259,12 @@ impl Session {
         alloc: Global,
         frame: Suspended,
         child: CallNode,
-        host: &mut H,
         bodies: &mut B,
     ) -> Result<Outcome, OutOfMemory>
         requires { func_held (length (natives_of self.now).items.items) frame.work.pick.func ≡ true }
-        ensures { (n level begun : ℕ) (inner : Frame) (call waited : CallRequest) (before mid : Moment H B) → Open (objects_of allows_call allows_resume B.allows_start B.allows_next H.allows_missing (natives_of self.now)) (world_of info self.now) (entered (frame_of self.now) n) level call frame inner waited before mid → Runs (objects_of allows_call allows_resume B.allows_start B.allows_next H.allows_missing (natives_of self.now)) (world_of info self.now) inner (level + 1) waited child mid (moment begun host.old bodies.old) false → IfOk result (λ outcome. Comes_to (objects_of allows_call allows_resume B.allows_start B.allows_next H.allows_missing (natives_of self.now)) (world_of info self.now) (entered (frame_of self.now) n) level call outcome before (moment begun host.new bodies.new)) }
+        ensures { (n level begun : ℕ) (host : H) (inner : Frame) (call waited : CallRequest) (before mid : Moment H B) → Open (objects_of allows_call allows_resume B.allows_start B.allows_next H.allows_missing (natives_of self.now)) (world_of info self.now) (entered (frame_of self.now) n) level call frame inner waited before mid → Runs (objects_of allows_call allows_resume B.allows_start B.allows_next H.allows_missing (natives_of self.now)) (world_of info self.now) inner (level + 1) waited child mid (moment begun host bodies.old) false → IfOk result (λ outcome. Comes_to (objects_of allows_call allows_resume B.allows_start B.allows_next H.allows_missing (natives_of self.now)) (world_of info self.now) (entered (frame_of self.now) n) level call outcome before (moment begun host bodies.new)) }
     {
-        let step = self.answered_step(alloc, &frame, &child, bodies)?;
+        let step = self.answered_step::<H, B>(alloc, &frame, &child, bodies)?;
         settle(alloc, self.limits, joined(frame, child)?, step)
     }
 
@@ -274,15 +274,14 @@ impl Session {
         alloc: Global,
         frame: &Suspended,
         child: &CallNode,
-        host: &mut H,
         bodies: &mut B,
     ) -> Result<NativeStep, OutOfMemory>
         requires { func_held (length (natives_of self.now).items.items) frame.now.work.pick.func ≡ true }
-        ensures { (begun : ℕ) → IfOk result (λ step. Resumes (objects_of allows_call allows_resume B.allows_start B.allows_next H.allows_missing (natives_of self.now)) (context (frame_of self.now) frame.now.work.level (plan_of frame.now.work.call)) frame.now.work.pick.func frame.now.carry (done_of child.now) (moment begun host.old bodies.old) step (moment begun host.new bodies.new)) }
+        ensures { (begun : ℕ) (host : H) → IfOk result (λ step. Resumes (objects_of allows_call allows_resume B.allows_start B.allows_next H.allows_missing (natives_of self.now)) (context (frame_of self.now) frame.now.work.level (plan_of frame.now.work.call)) frame.now.work.pick.func frame.now.carry (done_of child.now) (moment begun host bodies.old) step (moment begun host bodies.new)) }
     {
         let done = child.done(alloc)?;
         let carry = frame.carry.dup(alloc)?;
-        self.next_step(alloc, &frame.work, carry, done, bodies)
+        self.next_step::<H, B>(alloc, &frame.work, carry, done, bodies)
     }
 
     /// The first step of a function on the arguments of its call.
@@ -292,15 +291,14 @@ impl Session {
         call: &CallRequest,
         level: u32,
         pick: &Pick,
-        host: &mut H,
         bodies: &mut B,
     ) -> Result<NativeStep, OutOfMemory>
         requires { func_held (length (natives_of self.now).items.items) pick.now.func ≡ true }
-        ensures { (begun : ℕ) → IfOk result (λ step. Starts (objects_of allows_call allows_resume B.allows_start B.allows_next H.allows_missing (natives_of self.now)) (context (frame_of self.now) level (plan_of call.now)) pick.now.func (received_by (plan_of call.now) pick.now) (moment begun host.old bodies.old) step (moment begun host.new bodies.new)) }
+        ensures { (begun : ℕ) (host : H) → IfOk result (λ step. Starts (objects_of allows_call allows_resume B.allows_start B.allows_next H.allows_missing (natives_of self.now)) (context (frame_of self.now) level (plan_of call.now)) pick.now.func (received_by (plan_of call.now) pick.now) (moment begun host bodies.old) step (moment begun host bodies.new)) }
     {
         let received = receive(alloc, &pick.func, shape_of(call))?;
         let ctx = context(alloc, name_of(call), position_of(call), level)?;
-        self.start(alloc, &pick.func, &ctx, received, bodies)
+        self.start::<H, B>(alloc, &pick.func, &ctx, received, bodies)
     }
 
     /// The next step of a function, after the answer to its request.
@@ -310,11 +308,10 @@ impl Session {
         work: &Work,
         carry: Carry,
         done: CallDone,
-        host: &mut H,
         bodies: &mut B,
     ) -> Result<NativeStep, OutOfMemory>
         requires { func_held (length (natives_of self.now).items.items) work.now.pick.func ≡ true }
-        ensures { (begun : ℕ) → IfOk result (λ step. Resumes (objects_of allows_call allows_resume B.allows_start B.allows_next H.allows_missing (natives_of self.now)) (context (frame_of self.now) work.now.level (plan_of work.now.call)) work.now.pick.func carry done (moment begun host.old bodies.old) step (moment begun host.new bodies.new)) }
+        ensures { (begun : ℕ) (host : H) → IfOk result (λ step. Resumes (objects_of allows_call allows_resume B.allows_start B.allows_next H.allows_missing (natives_of self.now)) (context (frame_of self.now) work.now.level (plan_of work.now.call)) work.now.pick.func carry done (moment begun host bodies.old) step (moment begun host bodies.new)) }
     {
         let ctx = context(
             alloc,
@@ -322,7 +319,7 @@ impl Session {
             position_of(&work.call),
             work.level,
         )?;
-        self.go_on(alloc, &work.pick.func, &ctx, carry, done, bodies)
+        self.go_on::<H, B>(alloc, &work.pick.func, &ctx, carry, done, bodies)
     }
 
     /// The first step of a function on what it received.
@@ -332,11 +329,10 @@ impl Session {
         func: &RhaiFunc,
         ctx: &NativeCallContext,
         received: Received,
-        host: &mut H,
         bodies: &mut B,
     ) -> Result<NativeStep, OutOfMemory>
         requires { func_held (length (natives_of self.now).items.items) func.now ≡ true }
-        ensures { (begun : ℕ) → IfOk result (λ step. Starts (objects_of allows_call allows_resume B.allows_start B.allows_next H.allows_missing (natives_of self.now)) ctx.now func.now (record { first = received.first; args = received.args }) (moment begun host.old bodies.old) step (moment begun host.new bodies.new)) }
+        ensures { (begun : ℕ) (host : H) → IfOk result (λ step. Starts (objects_of allows_call allows_resume B.allows_start B.allows_next H.allows_missing (natives_of self.now)) ctx.now func.now (record { first = received.first; args = received.args }) (moment begun host bodies.old) step (moment begun host bodies.new)) }
     {
         let Received { first, args } = received;
         match func {
@@ -360,11 +356,10 @@ impl Session {
         ctx: &NativeCallContext,
         carry: Carry,
         done: CallDone,
-        host: &mut H,
         bodies: &mut B,
     ) -> Result<NativeStep, OutOfMemory>
         requires { func_held (length (natives_of self.now).items.items) func.now ≡ true }
-        ensures { (begun : ℕ) → IfOk result (λ step. Resumes (objects_of allows_call allows_resume B.allows_start B.allows_next H.allows_missing (natives_of self.now)) ctx.now func.now carry done (moment begun host.old bodies.old) step (moment begun host.new bodies.new)) }
+        ensures { (begun : ℕ) (host : H) → IfOk result (λ step. Resumes (objects_of allows_call allows_resume B.allows_start B.allows_next H.allows_missing (natives_of self.now)) ctx.now func.now carry done (moment begun host bodies.old) step (moment begun host bodies.new)) }
     {
         match func {
             RhaiFunc::Script { fn_def, .. } => {
@@ -380,6 +375,49 @@ impl Session {
             }
         }
     }
+}
+
+/// The node of a call for which no function is found. The host is asked where scripts are allowed.
+fn unpicked<H: Host>(
+    alloc: Global,
+    call: CallRequest,
+    level: u32,
+    host: &mut H,
+) -> Result<CallNode, OutOfMemory>
+    ensures alone { only_natives (plan_of call).search ≡ true → IfOk result (λ node. (host.new ≡ host.old) × (seen node ≡ begun_node call level None [] [] (failed (plan_of call).given (not_found (plan_of call).pos (plan_of call).name (all_args (plan_of call).shape))))) }
+    ensures asked { only_natives (plan_of call).search ≡ false → IfOk result (λ node. (answer : HostAnswer) × H.allows_missing host.old (plan_of call).name (all_args (plan_of call).shape) (is_method_shape (plan_of call).shape) answer host.new × (seen node ≡ begun_node call level None [] [] (host_end (plan_of call) answer))) }
+{
+    if native_only_of(&call) {
+        return missing(alloc, call, level);
+    }
+    let args = all_args(alloc, shape_of(&call))?;
+    let is_method = is_method_shape(shape_of(&call));
+    let answer = host.missing(alloc, name_of(&call), &args, is_method)?;
+    answered_by_host(alloc, call, level, answer)
+}
+
+/// The node of a call with what the host answered.
+fn answered_by_host(
+    alloc: Global,
+    call: CallRequest,
+    level: u32,
+    answer: HostAnswer,
+) -> Result<CallNode, OutOfMemory>
+    ensures { IfOk result (λ node. seen node ≡ begun_node call level None [] [] (host_end (plan_of call) answer)) }
+{
+    let first = given(alloc, &call)?;
+    let end = match answer {
+        HostAnswer::Nothing => return missing(alloc, call, level),
+        HostAnswer::Value(value) => accepted(alloc, &call, Whose::Host, first, value)?,
+        HostAnswer::Fault(fault) => End {
+            answer: Err(fault),
+            whose: Whose::Host,
+            first_after: first,
+            printed: None,
+            refused: None,
+        },
+    };
+    Ok(CallNode::ended(alloc, call, level, None, end))
 }
 
 /// The node of a call whose function isn't found.

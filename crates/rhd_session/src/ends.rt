@@ -150,7 +150,7 @@ fn unfit(
 }
 
 /// How a call ends with a value that is tested for the wanted kind alone.
-fn accepted(
+pub fn accepted(
     alloc: Global,
     call: &CallRequest,
     whose: Whose,

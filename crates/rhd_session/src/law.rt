@@ -34,7 +34,7 @@ ghost use Rattle.rhd_session.specs.Trees.{InTree, frame_at, RunsAt, AllBegun, Cu
 ghost use Rattle.rhd_session.specs.Requests.{ShowsRequests};
 
 use crate::session::Session;
-use rhd_func::Bodies;
+use rhd_func::{Bodies, Host};
 
 /// A function runs exactly where nothing refuses the call and it is what the first ask of the call
 /// that is found gives, unless that may change its first argument and this is a constant. Nothing

@@ -12,7 +12,7 @@ use crate::builtins::Builtins;
 use crate::command::Command;
 use crate::limits::{Limits, Printers};
 use crate::reply::{Replies, Reply, Stopped};
-use rhd_func::{Bodies, Natives};
+use rhd_func::{Bodies, Host, Natives};
 use rhd_module::{Module, SharedModule};
 use rhd_value::OutOfMemory;
 use std::alloc::Global;
@@ -92,7 +92,7 @@ impl Session {
             Command::Call(request) => {
                 let request = request.dup(alloc)?;
                 let mut begun = self.begun;
-                let called = self.run_call(alloc, request, &mut begun, bodies);
+                let called = self.run_call(alloc, request, &mut begun, host, bodies);
                 self.begun = begun;
                 Ok(Reply::Called(called?))
             }
@@ -122,7 +122,7 @@ impl Session {
                     replies: Replies::from_vec(replies),
                 });
             }
-            match self.perform(alloc, command, bodies) {
+            match self.perform(alloc, command, host, bodies) {
                 Ok(reply) => replies.push_reserved(reply),
                 Err(_) => {
                     return Err(Stopped {
