@@ -4,7 +4,9 @@ use Rattle.std.specs.Prelude.{Option, Some, None, not, ◌&&◌, if◌then◌els
 use Rattle.std.specs.Option.{option_or}
 use Rattle.rhd_value.specs.Firsts.{first_of, IsFirst, here, later, NoneHas}
 use Rattle.rhd_func.specs.declared.request.CallRequest.{CallRequest}
+use Rattle.rhd_func.specs.declared.request.HostAnswer.{HostAnswer}
 use Rattle.rhd_func.specs.Funcs.{is_pure, is_script}
+use Rattle.rhd_func.specs.Shapes.{all_args, is_method_shape}
 use Rattle.rhd_value.specs.Tree.{Bytes, Tree}
 use Rattle.rhd_session.specs.declared.node.CallNode.{CallNode}
 use Rattle.rhd_session.specs.declared.pick.Pick.{Pick}
@@ -16,12 +18,14 @@ use Rattle.rhd_value.specs.declared.tag.TypeTag.{TypeTag}
 use Rattle.rhd_names.specs.declared.token.OpToken.{OpToken}
 use Rattle.rhd_session.specs.Plans.{Plan, plan_of}
 use Rattle.rhd_session.specs.declared.ends.End.{End}
-use Rattle.rhd_session.specs.Decisions.{ends, runs, pick_of, decided, refusal, unless_refused, decision, is_on_constant, constant_end, picked}
+use Rattle.rhd_session.specs.Ends.{host_end}
+use Rattle.rhd_session.specs.Decisions.{ends, asks_host, runs, pick_of, decided, refusal, unless_refused, decision, is_on_constant, constant_end, picked}
 use Rattle.rhd_session.specs.Received.{received, manner_of, first_received, is_read_only}
 use Rattle.rhd_session.specs.Seen.{seen, unbegun_node}
-use Rattle.rhd_session.specs.Runs.{Runs, not_begun, ended, finished, cut_short}
-use Rattle.rhd_session.proofs.Found.{pick_asks, runs_only, decided_runs, decided_constant, decided_refused, decided_ends}
-use Rattle.rhd_session.specs.FirstAsks.{IsAnsweredFirst, EndsAlone, is_refused, isnt_found, on_constant, IsOnConstant, IsOfFirstPattern, asks_of}
+use Rattle.rhd_session.specs.Runs.{Runs, not_begun, ended, host_answered, finished, cut_short}
+use Rattle.rhd_session.proofs.Found.{pick_asks, runs_only, decided_runs, decided_constant, decided_refused, decided_ends, decided_asks, unpicked_ends, unpicked_asks}
+use Rattle.rhd_session.specs.Hosts.{HostEnds, EndsByHost}
+use Rattle.rhd_session.specs.FirstAsks.{IsAnsweredFirst, IsForHost, EndsAlone, is_refused, isnt_found, on_constant, IsOnConstant, IsOfFirstPattern, asks_of}
 
 -- what is found first is the first that is found
 pub first_is-first : {A B : Type 0} (f : A → Option B) (y : B) (xs : List A) → first_of f xs ≡ Some y → IsFirst f y xs
@@ -103,7 +107,8 @@ ends_picked e f level call own pick end false on unrefused found d = absurd cc
 
 ends_by : (e : EngineLists) (f : Frame) (level : ℕ) (call : CallRequest) (r : Option End) (o : Option Pick) (pick : Option Pick) (end : End) → refusal e level call ≡ r → pick_of e f (plan_of call) ≡ o → unless_refused r (decided (plan_of call) o) ≡ ends pick end → EndsAlone e f level call pick end
 ends_by e f level call (Some x) o pick end u is d = is_refused (cc) (u ∙ (let same : x ≡ end = cc in ap Some same))
-ends_by e f level call None None pick end u is d = isnt_found (cc) u (cc) (first_none (looked e f) (asks_of call) (sym (pick_asks e f call) ∙ is))
+ends_by e f level call None None pick end u is d =
+    let h = unpicked_ends (plan_of call) (plan_of call).search pick end d in isnt_found h.1 u h.0 h.2 (first_none (looked e f) (asks_of call) (sym (pick_asks e f call) ∙ is))
 ends_by e f level call None (Some own) pick end u is d = ends_picked e f level call own pick end (is_on_constant (plan_of call) own) refl u is d
 
 pub ends_missing : (e : EngineLists) (f : Frame) (level : ℕ) (call : CallRequest) (pick : Option Pick) (end : End) → decision e f level call ≡ ends pick end → EndsAlone e f level call pick end
@@ -112,13 +117,13 @@ ends_missing e f level call pick end d = ends_by e f level call (refusal e level
 
 pub missing_ends : (e : EngineLists) (f : Frame) (level : ℕ) (call : CallRequest) (pick : Option Pick) (end : End) → EndsAlone e f level call pick end → decision e f level call ≡ ends pick end
 missing_ends e f level call pick end (is_refused none u) = decided_refused e f level call end u ∙ (λ i. ends (sym none i) end)
-missing_ends e f level call pick end (isnt_found none u m un) =
-    decided_ends e f level call u (sym (pick_asks e f call ∙ none_first (looked e f) (asks_of call) un)) ∙ (λ i. ends (sym none i) (sym m i))
+missing_ends e f level call pick end (isnt_found none u only m un) =
+    decided_ends e f level call u only (sym (pick_asks e f call ∙ none_first (looked e f) (asks_of call) un)) ∙ (λ i. ends (sym none i) (sym m i))
 missing_ends e f level call pick end (on_constant own some u first on m) = first_constant e f level call own u first on ∙ (λ i. ends (sym some i) (sym m i))
 
 alone_first : (e : EngineLists) (f : Frame) (level : ℕ) (call : CallRequest) (shown : Option Pick) (end : End) (pick : Pick) → EndsAlone e f level call shown end → shown ≡ Some pick → (refusal e level call ≡ None) × IsAnsweredFirst e f call pick
 alone_first e f level call shown end pick (is_refused none u) h = let q : None ≡ Some pick = sym none ∙ h in absurd cc
-alone_first e f level call shown end pick (isnt_found none u m un) h = let q : None ≡ Some pick = sym none ∙ h in absurd cc
+alone_first e f level call shown end pick (isnt_found none u only m un) h = let q : None ≡ Some pick = sym none ∙ h in absurd cc
 alone_first e f level call shown end pick (on_constant own some u first on m) h =
     let q : Some own ≡ Some pick = sym some ∙ h in
     let same : own ≡ pick = cc in
@@ -127,10 +132,30 @@ alone_first e f level call shown end pick (on_constant own some u first on m) h 
 -- where nothing runs and yet there is a pick, that isn't for a constant
 pub constant_of : (e : EngineLists) (f : Frame) (level : ℕ) (call : CallRequest) (shown : Option Pick) (end : End) (pick : Pick) → EndsAlone e f level call shown end → shown ≡ Some pick → IsOnConstant (plan_of call) pick
 constant_of e f level call shown end pick (is_refused none u) h = let q : None ≡ Some pick = sym none ∙ h in absurd cc
-constant_of e f level call shown end pick (isnt_found none u m un) h = let q : None ≡ Some pick = sym none ∙ h in absurd cc
+constant_of e f level call shown end pick (isnt_found none u only m un) h = let q : None ≡ Some pick = sym none ∙ h in absurd cc
 constant_of e f level call shown end pick (on_constant own some u first on m) h =
     let q : Some own ≡ Some pick = sym some ∙ h in
     let same : own ≡ pick = cc in subst (IsOnConstant (plan_of call)) same on
+
+-- the host is asked exactly where nothing refuses the call, scripts are allowed, and no ask is found
+picked_asks : (plan : Plan) (own : Pick) (other : Plan) (b : Bool) → (if b then ends (Some own) (constant_end plan) else runs plan own) ≡ asks_host other → ⊥
+picked_asks plan own other true h = absurd cc
+picked_asks plan own other false h = absurd cc
+
+asks_by_host : (e : EngineLists) (f : Frame) (level : ℕ) (call : CallRequest) (plan : Plan) (r : Option End) (o : Option Pick) → refusal e level call ≡ r → pick_of e f (plan_of call) ≡ o → unless_refused r (decided (plan_of call) o) ≡ asks_host plan → (plan ≡ plan_of call) × IsForHost e f level call
+asks_by_host e f level call plan (Some x) o u is d = absurd cc
+asks_by_host e f level call plan None (Some own) u is d = absurd (picked_asks (plan_of call) own plan (is_on_constant (plan_of call) own) d)
+asks_by_host e f level call plan None None u is d =
+    let h = unpicked_asks (plan_of call) (plan_of call).search plan d in
+    (h.1, record { unrefused = u; scripts = h.0; unanswered = first_none (looked e f) (asks_of call) (sym (pick_asks e f call) ∙ is) })
+
+pub asks_first : (e : EngineLists) (f : Frame) (level : ℕ) (call : CallRequest) (plan : Plan) → decision e f level call ≡ asks_host plan → (plan ≡ plan_of call) × IsForHost e f level call
+unfolding decision
+asks_first e f level call plan d = asks_by_host e f level call plan (refusal e level call) (pick_of e f (plan_of call)) refl refl d
+
+pub first_asks : (e : EngineLists) (f : Frame) (level : ℕ) (call : CallRequest) (plan : Plan) → (plan ≡ plan_of call) × IsForHost e f level call → decision e f level call ≡ asks_host plan
+first_asks e f level call plan h =
+    decided_asks e f level call h.1.unrefused h.1.scripts (sym (pick_asks e f call ∙ none_first (looked e f) (asks_of call) h.1.unanswered)) ∙ ap asks_host (sym h.0)
 
 -- what becomes of a call by the first ask's function that is found
 pub first_picked : (e : EngineLists) (f : Frame) (level : ℕ) (call : CallRequest) (pick : Pick) → refusal e level call ≡ None → IsAnsweredFirst e f call pick → decision e f level call ≡ picked (plan_of call) pick
@@ -152,6 +177,9 @@ ends_pick e f level call pick shown end h d = ends_shows (plan_of call) pick sho
 pub runs_pick : (e : EngineLists) (f : Frame) (level : ℕ) (call : CallRequest) (pick : Pick) (plan : Plan) (shown : Pick) → (refusal e level call ≡ None) × IsAnsweredFirst e f call pick → decision e f level call ≡ runs plan shown → shown ≡ pick
 runs_pick e f level call pick plan shown h d = runs_shown (plan_of call) pick plan shown (is_on_constant (plan_of call) pick) (sym (first_picked e f level call pick h.0 h.1) ∙ d)
 
+pub asks_no_pick : (e : EngineLists) (f : Frame) (level : ℕ) (call : CallRequest) (pick : Pick) (plan : Plan) → (refusal e level call ≡ None) × IsAnsweredFirst e f call pick → decision e f level call ≡ asks_host plan → ⊥
+asks_no_pick e f level call pick plan h d = picked_asks (plan_of call) pick plan (is_on_constant (plan_of call) pick) (sym (first_picked e f level call pick h.0 h.1) ∙ d)
+
 -- what the native ask gives
 looked_by : (e : EngineLists) (f : Frame) (name : Bytes) (kinds : List TypeTag) (token : Option OpToken) (pick : Pick) (o : Option Pick) → first_of (native_found e f name) (patterns kinds) ≡ o → option_or o (builtin e token kinds) ≡ Some pick → IsOfFirstPattern e f name kinds token pick
 looked_by e f name kinds token pick None is h = inr (first_none (native_found e f name) (patterns kinds) is, h)
@@ -164,11 +192,17 @@ pub first_looked : (e : EngineLists) (f : Frame) (name : Bytes) (kinds : List Ty
 first_looked e f name kinds token pick (inl first) = ap (λ (o : Option Pick). option_or o (builtin e token kinds)) (is-first_first (native_found e f name) pick (patterns kinds) first)
 first_looked e f name kinds token pick (inr built) = ap (λ (o : Option Pick). option_or o (builtin e token kinds)) (none_first (native_found e f name) (patterns kinds) built.0) ∙ built.1
 
+-- the answer of a host to the plan of a call
+pub host_ends : {H B : Type 0} (o : Objects H B) (call : CallRequest) (plan : Plan) (from : H) (answer : HostAnswer) (to : H) {end : End} → plan ≡ plan_of call → o.host_answers from plan.name (all_args plan.shape) (is_method_shape plan.shape) answer to → end ≡ host_end plan answer → HostEnds o call from answer to end
+host_ends o call plan from answer to {end} is a e =
+    subst (λ (p : Plan). o.host_answers from p.name (all_args p.shape) (is_method_shape p.shape) answer to → end ≡ host_end p answer → HostEnds o call from answer to end) (sym is) (λ b k. record { answers = b; ends = k }) a e
+
 -- what a node that was begun shows: its pick is the first ask's that is found, or it ends alone
 pub shows_first : {H B : Type 0} {o : Objects H B} {w : World} {f : Frame} {level : ℕ} {call : CallRequest} {node : CallNode} {before after : Moment H B} {cut : Bool} (pick : Pick) → Runs o w f level call node before after cut → (seen node).pick ≡ Some pick → (refusal w.engine level call ≡ None) × IsAnsweredFirst w.engine f call pick
 shows_first pick (not_begun b s) h = let q : None ≡ Some pick = sym (ap (λ x. x.pick) s) ∙ h in absurd cc
 shows_first {w = w} {f = f} {level = level} {call = call} pick (ended {pick = p} {end = end} b d s) h =
     alone_first w.engine f level call p end pick (ends_missing w.engine f level call p end d) (sym (ap (λ x. x.pick) s) ∙ h)
+shows_first pick (host_answered b d a s) h = let q : None ≡ Some pick = sym (ap (λ x. x.pick) s) ∙ h in absurd cc
 shows_first {w = w} {f = f} {level = level} {call = call} pick (finished {plan = plan} {pick = p} b d starts steps e s) h =
     let q : Some p ≡ Some pick = sym (ap (λ x. x.pick) s) ∙ h in
     let same : p ≡ pick = cc in
@@ -178,11 +212,14 @@ shows_first {w = w} {f = f} {level = level} {call = call} pick (cut_short {plan 
     let same : p ≡ pick = cc in
     let r = runs_first w.engine f level call plan pick (d ∙ ap (runs plan) same) in (r.0, r.2)
 
-pub shows_missing : {H B : Type 0} {o : Objects H B} {w : World} {f : Frame} {level : ℕ} {call : CallRequest} {node : CallNode} {before after : Moment H B} {cut : Bool} → Runs o w f level call node before after cut → (seen node).begun ≡ true → (seen node).pick ≡ None → EndsAlone w.engine f level call None (seen node).end
+pub shows_missing : {H B : Type 0} {o : Objects H B} {w : World} {f : Frame} {level : ℕ} {call : CallRequest} {node : CallNode} {before after : Moment H B} {cut : Bool} → Runs o w f level call node before after cut → (seen node).begun ≡ true → (seen node).pick ≡ None → EndsAlone w.engine f level call None (seen node).end ⊎ EndsByHost o w.engine f level call before.host after.host (seen node).end
 shows_missing (not_begun b s) begun h = let q : false ≡ true = sym (ap (λ x. x.begun) s) ∙ begun in absurd cc
 shows_missing {w = w} {f = f} {level = level} {call = call} {node = node} (ended {pick = p} {end = end} b d s) begun h =
-    subst (λ (q : Option Pick). EndsAlone w.engine f level call q (seen node).end) (sym (ap (λ x. x.pick) s) ∙ h)
-    (subst (EndsAlone w.engine f level call p) (sym (ap (λ x. x.end) s)) (ends_missing w.engine f level call p end d))
+    inl (subst (λ (q : Option Pick). EndsAlone w.engine f level call q (seen node).end) (sym (ap (λ x. x.pick) s) ∙ h)
+    (subst (EndsAlone w.engine f level call p) (sym (ap (λ x. x.end) s)) (ends_missing w.engine f level call p end d)))
+shows_missing {o = o} {w = w} {f = f} {level = level} {call = call} (host_answered {before = before} {plan = plan} {answer = answer} {host = host} b d a s) begun h =
+    let r = asks_first w.engine f level call plan d in
+    inr (r.1, answer, host_ends o call plan before.host answer host r.0 a (ap (λ x. x.end) s))
 shows_missing (finished {pick = p} b d starts steps e s) begun h = let q : Some p ≡ None = sym (ap (λ x. x.pick) s) ∙ h in absurd cc
 shows_missing (cut_short {pick = p} b d starts steps r s) begun h = let q : Some p ≡ None = sym (ap (λ x. x.pick) s) ∙ h in absurd cc
 
@@ -190,5 +227,6 @@ shows_missing (cut_short {pick = p} b d starts steps r s) begun h = let q : Some
 pub shows_unbegun : {H B : Type 0} {o : Objects H B} {w : World} {f : Frame} {level : ℕ} {call : CallRequest} {node : CallNode} {before after : Moment H B} {cut : Bool} → Runs o w f level call node before after cut → (seen node).begun ≡ false → (before.begun ≡ w.engine.limits.budget) × (after ≡ before) × (seen node ≡ unbegun_node call level)
 shows_unbegun (not_begun b s) h = (b, refl, s)
 shows_unbegun (ended b d s) h = let q : true ≡ false = sym (ap (λ x. x.begun) s) ∙ h in absurd cc
+shows_unbegun (host_answered b d a s) h = let q : true ≡ false = sym (ap (λ x. x.begun) s) ∙ h in absurd cc
 shows_unbegun (finished b d starts steps e s) h = let q : true ≡ false = sym (ap (λ x. x.begun) s) ∙ h in absurd cc
 shows_unbegun (cut_short b d starts steps r s) h = let q : true ≡ false = sym (ap (λ x. x.begun) s) ∙ h in absurd cc

@@ -29,7 +29,7 @@ use Rattle.rhd_session.specs.Held.{func_held, all_held, builtins_held}
 use Rattle.rhd_session.specs.Asks.{Asked, typed, script, native, looked, params_of, typed_key, typed_asks, allowed_asks, native_ask, native_found, builtin, builtin_pick}
 use Rattle.rhd_session.specs.FirstAsks.{asks_of}
 use Rattle.rhd_session.specs.NotFound.{not_found}
-use Rattle.rhd_session.specs.Plans.{token_in, only_natives, Plan, plan_of}
+use Rattle.rhd_session.specs.Plans.{Search, by_name, token_in, only_natives, Plan, plan_of}
 use Rattle.rhd_session.specs.Patterns.{patterns}
 use Rattle.rhd_session.specs.Operators.{operator_eq}
 use Rattle.rhd_session.specs.Display.{display}
@@ -37,7 +37,7 @@ use Rattle.rhd_session.proofs.Tables.{table_held}
 use Rattle.rhd_session.specs.Entered.{entered}
 use Rattle.rhd_session.specs.declared.ends.End.{End}
 use Rattle.rhd_session.specs.Ends.{failed}
-use Rattle.rhd_session.specs.Decisions.{ends, runs, pick_of, decided, locked_place, locked_text, refusal, unless_refused, decision, is_on_constant, constant_end}
+use Rattle.rhd_session.specs.Decisions.{ends, runs, pick_of, decided, locked_place, locked_text, refusal, unless_refused, decision, is_on_constant, constant_end, asks_host, unpicked}
 use Rattle.rhd_session.proofs.HeldLaws.{found_is_held}
 
 -- the pick is the first ask's that is found
@@ -165,17 +165,43 @@ decided_constant e f level call pick unrefused found on =
     ap (λ (o : Option End). unless_refused o (decided (plan_of call) (pick_of e f (plan_of call)))) unrefused ∙ ap (decided (plan_of call)) (sym found)
     ∙ ap (λ (b : Bool). if b then ends (Some pick) (constant_end (plan_of call)) else runs (plan_of call) pick) on
 
--- without one it isn't found
-pub decided_ends : (e : EngineLists) (f : Frame) (level : ℕ) (call : CallRequest) → refusal e level call ≡ None → None ≡ pick_of e f (plan_of call)
-    → decision e f level call ≡ ends None (failed (plan_of call).given (not_found (plan_of call).pos (plan_of call).name (all_args (plan_of call).shape)))
+-- without one it isn't found, where natives alone are meant; else the host is asked
+unpicked_alone : (plan : Plan) (search : Search) → only_natives search ≡ true → unpicked plan search ≡ ends None (failed plan.given (not_found plan.pos plan.name (all_args plan.shape)))
+unpicked_alone plan (by_name token true) h = refl
+unpicked_alone plan (by_name token false) h = absurd cc
+
+unpicked_host : (plan : Plan) (search : Search) → only_natives search ≡ false → unpicked plan search ≡ asks_host plan
+unpicked_host plan (by_name token true) h = absurd cc
+unpicked_host plan (by_name token false) h = refl
+
+pub unpicked_ends : (plan : Plan) (search : Search) (pick : Option Pick) (end : End) → unpicked plan search ≡ ends pick end → (only_natives search ≡ true) × (pick ≡ None) × (end ≡ failed plan.given (not_found plan.pos plan.name (all_args plan.shape)))
+unpicked_ends plan (by_name token true) pick end h = (refl, cc, cc)
+unpicked_ends plan (by_name token false) pick end h = absurd cc
+
+pub unpicked_asks : (plan : Plan) (search : Search) (other : Plan) → unpicked plan search ≡ asks_host other → (only_natives search ≡ false) × (other ≡ plan)
+unpicked_asks plan (by_name token true) other h = absurd cc
+unpicked_asks plan (by_name token false) other h = (refl, cc)
+
+unpicked_runs : (plan : Plan) (search : Search) (other : Plan) (pick : Pick) → unpicked plan search ≡ runs other pick → ⊥
+unpicked_runs plan (by_name token true) other pick h = absurd cc
+unpicked_runs plan (by_name token false) other pick h = absurd cc
+
+decided_unpicked : (e : EngineLists) (f : Frame) (level : ℕ) (call : CallRequest) → refusal e level call ≡ None → None ≡ pick_of e f (plan_of call) → decision e f level call ≡ unpicked (plan_of call) (plan_of call).search
 unfolding decision
-decided_ends e f level call unrefused found =
+decided_unpicked e f level call unrefused found =
     ap (λ (o : Option End). unless_refused o (decided (plan_of call) (pick_of e f (plan_of call)))) unrefused ∙ ap (decided (plan_of call)) (sym found)
+
+pub decided_ends : (e : EngineLists) (f : Frame) (level : ℕ) (call : CallRequest) → refusal e level call ≡ None → only_natives (plan_of call).search ≡ true → None ≡ pick_of e f (plan_of call)
+    → decision e f level call ≡ ends None (failed (plan_of call).given (not_found (plan_of call).pos (plan_of call).name (all_args (plan_of call).shape)))
+decided_ends e f level call unrefused only found = decided_unpicked e f level call unrefused found ∙ unpicked_alone (plan_of call) (plan_of call).search only
+
+pub decided_asks : (e : EngineLists) (f : Frame) (level : ℕ) (call : CallRequest) → refusal e level call ≡ None → only_natives (plan_of call).search ≡ false → None ≡ pick_of e f (plan_of call) → decision e f level call ≡ asks_host (plan_of call)
+decided_asks e f level call unrefused scripts found = decided_unpicked e f level call unrefused found ∙ unpicked_host (plan_of call) (plan_of call).search scripts
 
 -- a function that runs is within the limit, with the plan of its call and the pick
 pub runs_only : (o : Option End) (p : Plan) (q : Option Pick) (plan : Plan) (pick : Pick) → unless_refused o (decided p q) ≡ runs plan pick → (o ≡ None) × (plan ≡ p) × (q ≡ Some pick) × (is_on_constant p pick ≡ false)
 runs_only (Some end) p q plan pick e = absurd cc
-runs_only None p None plan pick e = absurd cc
+runs_only None p None plan pick e = absurd (unpicked_runs p p.search plan pick e)
 runs_only None p (Some r) plan pick e =
     let by : (b : Bool) → is_on_constant p r ≡ b → (if b then ends (Some r) (constant_end p) else runs p r) ≡ runs plan pick → (◌≡◌ {A = Option End} None None) × (plan ≡ p) × (Some r ≡ Some pick) × (is_on_constant p pick ≡ false) =
     elim [

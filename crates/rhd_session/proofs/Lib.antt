@@ -13,4 +13,5 @@ pub mod TreePlants
 pub mod Places
 pub mod Locked
 pub mod LastSteps
+pub mod HostEnds
 pub mod NodeEnds

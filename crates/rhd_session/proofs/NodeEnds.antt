@@ -18,28 +18,33 @@ use Rattle.rhd_func.specs.declared.request.CallShape.TheVariants.{Plain, ByRef, 
 use Rattle.rhd_func.specs.declared.request.NativeStep.{NativeStep}
 use Rattle.rhd_func.specs.declared.request.NativeStep.TheVariants.{Done}
 use Rattle.rhd_func.specs.Funcs.{is_method, is_script}
-use Rattle.rhd_func.specs.Shapes.{first_given, given, pos_of}
+use Rattle.rhd_func.specs.declared.request.HostAnswer.{HostAnswer}
+use Rattle.rhd_func.specs.declared.request.HostAnswer.TheVariants.{Value}
+use Rattle.rhd_func.specs.Shapes.{all_args, first_given, given, pos_of}
 use Rattle.rhd_session.specs.Engine.{Frame}
 use Rattle.rhd_session.specs.World.{World, Objects, Moment}
 use Rattle.rhd_session.specs.declared.ends.End.{End}
 use Rattle.rhd_session.specs.declared.limits.Limits.{Limits}
 use Rattle.rhd_session.specs.declared.node.CallNode.{CallNode}
-use Rattle.rhd_session.specs.declared.node.Whose.TheVariants.{Call, Called}
+use Rattle.rhd_session.specs.declared.node.Whose.TheVariants.{Call, Called, Host}
 use Rattle.rhd_session.specs.declared.pick.Pick.{Pick}
 use Rattle.rhd_session.specs.Display.{display}
 use Rattle.rhd_session.specs.Plans.{Plan, plan_of}
 use Rattle.rhd_session.specs.Received.{manner_of, has_the_given}
-use Rattle.rhd_session.specs.Ends.{first_at_end, end_of}
+use Rattle.rhd_session.specs.NotFound.{not_found}
+use Rattle.rhd_session.specs.Ends.{failed, refusing, first_at_end, end_of}
 use Rattle.rhd_session.specs.Decisions.{locked_place, refusal, constant_end}
 use Rattle.rhd_session.specs.Decisions as decisions
 use Rattle.rhd_session.specs.FirstAsks.{EndsAlone, is_refused, isnt_found, on_constant, IsAnsweredFirst, IsOnConstant, missing_end}
-use Rattle.rhd_session.specs.Causes.{IsOwn, IsForNoConstant, IsFirstLocked, NamesLocked, AreWithin, IsTooLarge, IsOfOtherKind, EndsWith, RefusesKind, RefusesSize, RefusesValue, for_kind, for_size, gave_back, GivesBack}
+use Rattle.rhd_session.specs.Causes.{IsOwn, IsForNoConstant, IsFirstLocked, NamesLocked, AreWithin, IsTooLarge, IsOfOtherKind, EndsWith, RefusesKind, RefusesSize, RefusesHosts, RefusesValue, for_kind, for_size, for_host, gave_back, GivesBack}
 use Rattle.rhd_session.specs.Entered.{context}
+use Rattle.rhd_session.specs.Hosts.{HostEnds}
 use Rattle.rhd_session.specs.Seen.{Seen, seen, begun_node, unbegun_node, cut_end}
 use Rattle.rhd_session.specs.Steps.{Starts}
-use Rattle.rhd_session.specs.Runs.{Runs, not_begun, ended, finished, cut_short, Steps, received_by}
+use Rattle.rhd_session.specs.Runs.{Runs, not_begun, ended, host_answered, finished, cut_short, Steps, received_by}
 use Rattle.rhd_session.proofs.Found.{plan_pos, deep_end, locked_end, refused_where, refusal_is}
-use Rattle.rhd_session.proofs.FirstAnswered.{ends_missing, runs_first, first_constant}
+use Rattle.rhd_session.proofs.FirstAnswered.{ends_missing, runs_first, asks_first, first_constant, asks_no_pick, host_ends}
+use Rattle.rhd_session.proofs.HostEnds.{HostSays, says_nothing, says_fault, says_other, says_value, host_says, host_other, host_first}
 use Rattle.rhd_session.proofs.LastSteps.{EndsBy, fails, is_large, is_other, fits, ends_by, large_ends, other_ends}
 use Rattle.rhd_session.proofs.Locked.{place_first, first_place}
 
@@ -116,6 +121,29 @@ number (ErrorRuntime text pos) = 15
 no_fault : {fault own : EvalAltResult} (end : End) → end.answer ≡ Err own → end.answer ≡ Err fault → (number fault ≡ number own → ⊥) → ⊥
 no_fault end e h n = n (ap number (not_own end e h))
 
+-- the fault of a call that isn't found is one of the first four
+missing_number : (pos : Position) (name : Bytes) (args : List Tree) → number (not_found pos name args) ≤ 4
+missing_number pos name args = omega arith
+
+no_unfound : (plan : Plan) {fault : EvalAltResult} (end : End) → end ≡ failed plan.given (not_found plan.pos plan.name (all_args plan.shape)) → IsOwn end fault → (number fault ≤ 4 → ⊥) → ⊥
+no_unfound plan {fault} end e h n =
+    let q = ap number (not_own end (ap (λ (x : End). x.answer) e) h.1) in
+    n (omega (arith, q, missing_number plan.pos plan.name (all_args plan.shape)))
+
+no_missing : (call : CallRequest) {fault : EvalAltResult} (end : End) → end ≡ missing_end call → IsOwn end fault → (number fault ≤ 4 → ⊥) → ⊥
+no_missing call end e h n = no_unfound (plan_of call) end e h n
+
+-- the host's own answer is no fault of the call's own
+is_hosts : (end : End) {fault : EvalAltResult} → end.whose ≡ Host → IsOwn end fault → ⊥
+is_hosts end e h = let q : Host ≡ Call = sym e ∙ h.0 in absurd cc
+
+-- a call that the host answers ends with no fault of its own but one of these and that of a kind
+no_host : {plan : Plan} {answer : HostAnswer} {fault : EvalAltResult} (end : End) → HostSays plan answer end → IsOwn end fault → (number fault ≤ 4 → ⊥) → (number fault ≡ 7 → ⊥) → ⊥
+no_host {plan} end (says_nothing e) h n k = no_unfound plan end e h n
+no_host end (says_fault fault e) h n k = is_hosts end (ap (λ (x : End). x.whose) e) h
+no_host end (says_other v kind is other e) h n k = k (ap number (not_own end (ap (λ (x : End). x.answer) e) h.1))
+no_host end (says_value v e) h n k = is_hosts end (ap (λ (x : End). x.whose) e) h
+
 is_called : (end : End) {fault : EvalAltResult} → end.whose ≡ Called → IsOwn end fault → ⊥
 is_called end e h = let q : Called ≡ Call = sym e ∙ h.0 in absurd cc
 
@@ -169,6 +197,7 @@ module _ {H B : Type 0} (o : Objects H B) (w : World) where
     is_deep : w.engine.limits.level < level → seen node ≡ begun_node call level None [] [] (deep_end call) → ShowsEnd f level call node cut
     is_locked : (n : ℕ) → level ≤ w.engine.limits.level → locked_place (plan_of call).shape ≡ Some n → seen node ≡ begun_node call level None [] [] (locked_end call n) → ShowsEnd f level call node cut
     is_missing : level ≤ w.engine.limits.level → locked_place (plan_of call).shape ≡ None → seen node ≡ begun_node call level None [] [] (missing_end call) → ShowsEnd f level call node cut
+    by_host : (from to : H) (answer : HostAnswer) → level ≤ w.engine.limits.level → locked_place (plan_of call).shape ≡ None → (seen node).call ≡ call → HostEnds o (seen node).call from answer to (seen node).end → (seen node).pick ≡ None → HostSays (plan_of (seen node).call) answer (seen node).end → ShowsEnd f level call node cut
     is_constant : (own : Pick) → level ≤ w.engine.limits.level → locked_place (plan_of call).shape ≡ None → refusal w.engine level call ≡ None → IsAnsweredFirst w.engine f call own → IsOnConstant (plan_of call) own → seen node ≡ begun_node call level (Some own) [] [] (constant_end (plan_of call)) → ShowsEnd f level call node cut
     has_ended : (pick : Pick) (last : NativeStep) → level ≤ w.engine.limits.level → locked_place (plan_of call).shape ≡ None → (seen node).call ≡ call → EndsWith o w f (seen node) pick last → EndsBy w.engine.limits (plan_of (seen node).call) pick last (seen node).end → ShowsEnd f level call node cut
     was_cut : (pick : Pick) → cut ≡ true → level ≤ w.engine.limits.level → locked_place (plan_of call).shape ≡ None → (seen node).begun ≡ true → (seen node).pick ≡ Some pick → (seen node).end ≡ cut_end call → ShowsEnd f level call node cut
@@ -203,7 +232,7 @@ module _ {H B : Type 0} (o : Objects H B) (w : World) where
         | inr locked ↦ is_locked locked.1 locked.0 locked.2 (s ∙ (λ i. begun_node call level (none i) [] [] (locked.3 i)))
       ] in
       by (refused_parts call w.engine.limits.level level (ltb w.engine.limits.level level) (locked_place (plan_of call).shape) end refl (sym (refusal_is w.engine level call) ∙ refused))
-  alone_by f level call node cut pick end (isnt_found none unrefused_is missing un) s =
+  alone_by f level call node cut pick end (isnt_found none unrefused_is only missing un) s =
       let u = unrefused level call unrefused_is in is_missing u.0 u.1 (s ∙ (λ i. begun_node call level (none i) [] [] (missing i)))
   alone_by f level call node cut pick end (on_constant own some unrefused_is first on constant) s =
       let u = unrefused level call unrefused_is in is_constant own u.0 u.1 unrefused_is first on (s ∙ (λ i. begun_node call level (some i) [] [] (constant i)))
@@ -212,6 +241,12 @@ module _ {H B : Type 0} (o : Objects H B) (w : World) where
   runs_end (not_begun b s) = isnt_begun s
   runs_end (ended {f = f} {level = level} {call = call} {node = node} {pick = pick} {end = end} b d s) =
       alone_by f level call node false pick end (ends_missing w.engine f level call pick end d) s
+  runs_end (host_answered {f = f} {level = level} {call = call} {node = node} {before = before} {plan = plan} {answer = answer} {host = host} b d a s) =
+      let r = asks_first w.engine f level call plan d in
+      let u = unrefused level call r.1.unrefused in
+      let own : plan ≡ plan_of (seen node).call = r.0 ∙ ap plan_of (sym (ap (λ (x : Seen). x.call) s)) in
+      let ended' = host_ends o (seen node).call plan before.host answer host own a (ap (λ (x : Seen). x.end) s) in
+      by_host before.host host answer u.0 u.1 (ap (λ (x : Seen). x.call) s) ended' (ap (λ (x : Seen). x.pick) s) (host_says (plan_of (seen node).call) answer (seen node).end ended'.ends)
   runs_end (finished {f = f} {level = level} {call = call} {node = node} {before = before} {started = started} {after = after} {plan = plan} {pick = pick} {first = first} {last = last} {carries = carries} {children = children} {end = end} b d starts steps e s) =
       let r = runs_first w.engine f level call plan pick d in
       let u = unrefused level call r.0 in
@@ -234,7 +269,8 @@ module _ {H B : Type 0} (o : Objects H B) (w : World) where
   race_only text pos (isnt_begun s) begun h = let q : false ≡ true = sym (ap (λ (x : Seen). x.begun) s) ∙ begun in absurd cc
   race_only {node = node} text pos (is_deep deep s) begun h = absurd (no_fault (seen node).end (ap (λ (x : Seen). x.end.answer) s) h.1 (λ q. absurd (omega (arith, q))))
   race_only {call = call} {node = node} text pos (is_locked n l place s) begun h = (l, (n, place_first (plan_of call).shape n place, not_own (seen node).end (ap (λ (x : Seen). x.end.answer) s) h.1))
-  race_only {node = node} text pos (is_missing l none s) begun h = absurd (no_fault (seen node).end (ap (λ (x : Seen). x.end.answer) s) h.1 (λ q. absurd (omega (arith, q))))
+  race_only {call = call} {node = node} text pos (is_missing l none s) begun h = absurd (no_missing call (seen node).end (ap (λ (x : Seen). x.end) s) h (λ q. absurd (omega (arith, q))))
+  race_only {node = node} text pos (by_host from to answer l none c ended none' says) begun h = absurd (no_host (seen node).end says h (λ q. absurd (omega (arith, q))) (λ q. absurd (omega (arith, q))))
   race_only {node = node} text pos (is_constant own l none u first on s) begun h = absurd (no_fault (seen node).end (ap (λ (x : Seen). x.end.answer) s) h.1 (λ q. absurd (omega (arith, q))))
   race_only {node = node} text pos (has_ended pick last l none c came by) begun h =
       let no : OwnSize w.engine.limits (plan_of (seen node).call) pick last (seen node).end (ErrorDataRace text pos) ⊎ OwnKind w.engine.limits (plan_of (seen node).call) pick last (seen node).end (ErrorDataRace text pos) → ⊥ =
@@ -251,6 +287,7 @@ module _ {H B : Type 0} (o : Objects H B) (w : World) where
       let same : m ≡ n = cc in
       s ∙ ap (λ (k : ℕ). begun_node call level None [] [] (locked_end call k)) same
   race_shown {call = call} n (is_missing l' none s) begun l first = let q : None ≡ Some n = sym none ∙ first_place (plan_of call).shape n first in absurd cc
+  race_shown {call = call} n (by_host from to answer l' none c ended none' says) begun l first = let q : None ≡ Some n = sym none ∙ first_place (plan_of call).shape n first in absurd cc
   race_shown {call = call} n (is_constant own l' none u found on s) begun l first = let q : None ≡ Some n = sym none ∙ first_place (plan_of call).shape n first in absurd cc
   race_shown {call = call} n (has_ended pick last l' none c came by) begun l first = let q : None ≡ Some n = sym none ∙ first_place (plan_of call).shape n first in absurd cc
   race_shown {call = call} n (was_cut pick c l' none begun' shown e) begun l first = let q : None ≡ Some n = sym none ∙ first_place (plan_of call).shape n first in absurd cc
@@ -271,7 +308,8 @@ module _ {H B : Type 0} (o : Objects H B) (w : World) where
   constant_only name pos (isnt_begun s) begun h = let q : false ≡ true = sym (ap (λ (x : Seen). x.begun) s) ∙ begun in absurd cc
   constant_only {node = node} name pos (is_deep deep s) begun h = absurd (no_fault (seen node).end (ap (λ (x : Seen). x.end.answer) s) h.1 (λ q. absurd (omega (arith, q))))
   constant_only {node = node} name pos (is_locked n l place s) begun h = absurd (no_fault (seen node).end (ap (λ (x : Seen). x.end.answer) s) h.1 (λ q. absurd (omega (arith, q))))
-  constant_only {node = node} name pos (is_missing l none s) begun h = absurd (no_fault (seen node).end (ap (λ (x : Seen). x.end.answer) s) h.1 (λ q. absurd (omega (arith, q))))
+  constant_only {call = call} {node = node} name pos (is_missing l none s) begun h = absurd (no_missing call (seen node).end (ap (λ (x : Seen). x.end) s) h (λ q. absurd (omega (arith, q))))
+  constant_only {node = node} name pos (by_host from to answer l none c ended none' says) begun h = absurd (no_host (seen node).end says h (λ q. absurd (omega (arith, q))) (λ q. absurd (omega (arith, q))))
   constant_only {node = node} name pos (is_constant own l none u first on s) begun h = record { pick = own; unrefused = u; first = first; on = on; says = not_own (seen node).end (ap (λ (x : Seen). x.end.answer) s) h.1 }
   constant_only {node = node} name pos (has_ended pick last l none c came by) begun h =
       absurd (no_other (seen node).end (ErrorNonPureMethodCallOnConstant name pos) by (λ q. absurd (omega (arith, q))) (λ q. absurd (omega (arith, q))) h)
@@ -285,6 +323,7 @@ module _ {H B : Type 0} (o : Objects H B) (w : World) where
       let shown : p ≡ Some pick = cc in
       let same : end ≡ constant_end (plan_of call) = cc in
       s ∙ (λ i. begun_node call level (shown i) [] [] (same i))
+  constant_shown pick (host_answered {f = f} {level = level} {call = call} {plan = plan} b d a s) begun u first on = absurd (asks_no_pick w.engine f level call pick plan (u, first) d)
   constant_shown pick (finished {f = f} {level = level} {call = call} {plan = plan} {pick = p} b d starts steps e s) begun u first on =
       let q : decisions.runs plan p ≡ decisions.ends (Some pick) (constant_end (plan_of call)) = sym d ∙ first_constant w.engine f level call pick u first on in absurd cc
   constant_shown pick (cut_short {f = f} {level = level} {call = call} {plan = plan} {pick = p} b d starts steps r s) begun u first on =
@@ -326,16 +365,50 @@ module _ {H B : Type 0} (o : Objects H B) (w : World) where
     refused = r.refused;
   }
 
-  kind_only : {f : Frame} {level : ℕ} {call : CallRequest} {node : CallNode} {cut : Bool} (wanted got : Bytes) (pos : Position) → ShowsEnd f level call node cut → IsOwn (seen node).end (ErrorMismatchOutputType wanted got pos) → RefusesKind o w f (seen node) (ErrorMismatchOutputType wanted got pos)
+  -- a value of the host's that isn't of the wanted kind
+  hosts_other : (node : CallNode) {from to : H} {answer : HostAnswer} (v : Tree) (kind : TypeTag) → (seen node).pick ≡ None → HostEnds o (seen node).call from answer to (seen node).end → answer ≡ Value v → IsOfOtherKind (plan_of (seen node).call).want kind v
+      → (seen node).end ≡ refusing (plan_of (seen node).call).given v (ErrorMismatchOutputType (type_name kind) (display v) (plan_of (seen node).call).pos)
+      → RefusesHosts o (seen node) (ErrorMismatchOutputType (type_name kind) (display v) (plan_of (seen node).call).pos)
+  hosts_other node {from} {to} v kind alone ended is other e = record {
+    from = from;
+    to = to;
+    value = v;
+    kind = kind;
+    alone = alone;
+    ended = subst (λ (x : HostAnswer). HostEnds o (seen node).call from x to (seen node).end) is ended;
+    other = other;
+    says = ap (λ (p : Position). ErrorMismatchOutputType (type_name kind) (display v) p) (plan_pos (seen node).call);
+    refused = ap (λ (x : End). x.refused) e;
+  }
+
+  hosts_kind : (node : CallNode) {from to : H} {answer : HostAnswer} {fault : EvalAltResult} → HostEnds o (seen node).call from answer to (seen node).end → (seen node).pick ≡ None → HostSays (plan_of (seen node).call) answer (seen node).end → IsOwn (seen node).end fault → (number fault ≤ 4 → ⊥)
+      → RefusesHosts o (seen node) fault
+  hosts_kind node ended alone (says_nothing e) h n = absurd (no_unfound (plan_of (seen node).call) (seen node).end e h n)
+  hosts_kind node ended alone (says_fault own e) h n = absurd (is_hosts (seen node).end (ap (λ (x : End). x.whose) e) h)
+  hosts_kind node ended alone (says_other v kind is other e) h n = subst (RefusesHosts o (seen node)) (sym (not_own (seen node).end (ap (λ (x : End). x.answer) e) h.1)) (hosts_other node v kind alone ended is other e)
+  hosts_kind node ended alone (says_value v e) h n = absurd (is_hosts (seen node).end (ap (λ (x : End). x.whose) e) h)
+
+  hosts_refused : {f : Frame} (node : CallNode) {from to : H} {answer : HostAnswer} (value : Tree) → HostEnds o (seen node).call from answer to (seen node).end → (seen node).pick ≡ None → HostSays (plan_of (seen node).call) answer (seen node).end → (seen node).end.refused ≡ Some value
+      → RefusesValue o w f (seen node) value
+  unfolding hosts_other
+  hosts_refused node value ended alone (says_nothing e) h = let q : None ≡ Some value = sym (ap (λ (x : End). x.refused) e) ∙ h in absurd cc
+  hosts_refused node value ended alone (says_fault own e) h = let q : None ≡ Some value = sym (ap (λ (x : End). x.refused) e) ∙ h in absurd cc
+  hosts_refused node value ended alone (says_other v kind is other e) h =
+      let q : Some v ≡ Some value = sym (ap (λ (x : End). x.refused) e) ∙ h in
+      let same : v ≡ value = cc in for_host (hosts_other node v kind alone ended is other e) same
+  hosts_refused node value ended alone (says_value v e) h = let q : None ≡ Some value = sym (ap (λ (x : End). x.refused) e) ∙ h in absurd cc
+
+  kind_only : {f : Frame} {level : ℕ} {call : CallRequest} {node : CallNode} {cut : Bool} (wanted got : Bytes) (pos : Position) → ShowsEnd f level call node cut → IsOwn (seen node).end (ErrorMismatchOutputType wanted got pos) → RefusesKind o w f (seen node) (ErrorMismatchOutputType wanted got pos) ⊎ RefusesHosts o (seen node) (ErrorMismatchOutputType wanted got pos)
   kind_only {node = node} wanted got pos (isnt_begun s) h = absurd (no_fault (seen node).end (ap (λ (x : Seen). x.end.answer) s) h.1 (λ q. absurd (omega (arith, q))))
   kind_only {node = node} wanted got pos (is_deep deep s) h = absurd (no_fault (seen node).end (ap (λ (x : Seen). x.end.answer) s) h.1 (λ q. absurd (omega (arith, q))))
   kind_only {node = node} wanted got pos (is_locked n l place s) h = absurd (no_fault (seen node).end (ap (λ (x : Seen). x.end.answer) s) h.1 (λ q. absurd (omega (arith, q))))
-  kind_only {node = node} wanted got pos (is_missing l none s) h = absurd (no_fault (seen node).end (ap (λ (x : Seen). x.end.answer) s) h.1 (λ q. absurd (omega (arith, q))))
+  kind_only {call = call} {node = node} wanted got pos (is_missing l none s) h = absurd (no_missing call (seen node).end (ap (λ (x : Seen). x.end) s) h (λ q. absurd (omega (arith, q))))
+  kind_only {node = node} wanted got pos (by_host from to answer l none c ended none' says) h = inr (hosts_kind node ended none' says h (λ q. absurd (omega (arith, q))))
   kind_only {node = node} wanted got pos (is_constant own l none u first on s) h = absurd (no_fault (seen node).end (ap (λ (x : Seen). x.end.answer) s) h.1 (λ q. absurd (omega (arith, q))))
   kind_only {f = f} {node = node} wanted got pos (has_ended pick last l none c came by) h =
       let one : OwnSize w.engine.limits (plan_of (seen node).call) pick last (seen node).end (ErrorMismatchOutputType wanted got pos) ⊎ OwnKind w.engine.limits (plan_of (seen node).call) pick last (seen node).end (ErrorMismatchOutputType wanted got pos) → RefusesKind o w f (seen node) (ErrorMismatchOutputType wanted got pos) =
       elim [ inl r ↦ (let q = ap number r.says in absurd (omega (arith, q))) | inr r ↦ kind_of_last node came r ]
-      in one (own_last (seen node).end (ErrorMismatchOutputType wanted got pos) by h)
+      in inl (one (own_last (seen node).end (ErrorMismatchOutputType wanted got pos) by h))
   kind_only {node = node} wanted got pos (was_cut pick c l none begun shown e) h = absurd (no_fault (seen node).end (ap (λ (x : End). x.answer) e) h.1 (λ q. absurd (omega (arith, q))))
 
   kind_back : {f : Frame} (node : CallNode) (fault : EvalAltResult) → RefusesKind o w f (seen node) fault → IsOwn (seen node).end fault
@@ -343,15 +416,25 @@ module _ {H B : Type 0} (o : Objects H B) (w : World) where
       let e = other_ends w.engine (plan_of (seen node).call) r.pick r.value r.back r.kind (seen node).end r.within r.other r.ended.ends in
       (ap (λ (x : End). x.whose) e, ap (λ (x : End). x.answer) e ∙ ap (λ (p : Position). Err (ErrorMismatchOutputType (type_name r.kind) (display r.value) p)) (plan_pos (seen node).call) ∙ ap Err (sym r.says))
 
+  hosts_back : (node : CallNode) (fault : EvalAltResult) → RefusesHosts o (seen node) fault → IsOwn (seen node).end fault
+  hosts_back node fault r =
+      let e = host_other (plan_of (seen node).call) r.value r.kind (seen node).end r.other r.ended.ends in
+      (ap (λ (x : End). x.whose) e, ap (λ (x : End). x.answer) e ∙ ap (λ (p : Position). Err (ErrorMismatchOutputType (type_name r.kind) (display r.value) p)) (plan_pos (seen node).call) ∙ ap Err (sym r.says))
+
+  kinds_back : {f : Frame} (node : CallNode) (fault : EvalAltResult) → RefusesKind o w f (seen node) fault ⊎ RefusesHosts o (seen node) fault → IsOwn (seen node).end fault
+  kinds_back node fault (inl r) = kind_back node fault r
+  kinds_back node fault (inr r) = hosts_back node fault r
+
   pub kind_exactly : {f : Frame} {level : ℕ} {call : CallRequest} {node : CallNode} {cut : Bool} (wanted got : Bytes) (pos : Position) → ShowsEnd f level call node cut
-      → IsOwn (seen node).end (ErrorMismatchOutputType wanted got pos) ↔ RefusesKind o w f (seen node) (ErrorMismatchOutputType wanted got pos)
-  kind_exactly {node = node} wanted got pos ends = (kind_only wanted got pos ends, kind_back node (ErrorMismatchOutputType wanted got pos))
+      → IsOwn (seen node).end (ErrorMismatchOutputType wanted got pos) ↔ (RefusesKind o w f (seen node) (ErrorMismatchOutputType wanted got pos) ⊎ RefusesHosts o (seen node) (ErrorMismatchOutputType wanted got pos))
+  kind_exactly {node = node} wanted got pos ends = (kind_only wanted got pos ends, kinds_back node (ErrorMismatchOutputType wanted got pos))
 
   size_only : {f : Frame} {level : ℕ} {call : CallRequest} {node : CallNode} {cut : Bool} (what : Bytes) (pos : Position) → ShowsEnd f level call node cut → IsOwn (seen node).end (ErrorDataTooLarge what pos) → RefusesSize o w f (seen node) (ErrorDataTooLarge what pos)
   size_only {node = node} what pos (isnt_begun s) h = absurd (no_fault (seen node).end (ap (λ (x : Seen). x.end.answer) s) h.1 (λ q. absurd (omega (arith, q))))
   size_only {node = node} what pos (is_deep deep s) h = absurd (no_fault (seen node).end (ap (λ (x : Seen). x.end.answer) s) h.1 (λ q. absurd (omega (arith, q))))
   size_only {node = node} what pos (is_locked n l place s) h = absurd (no_fault (seen node).end (ap (λ (x : Seen). x.end.answer) s) h.1 (λ q. absurd (omega (arith, q))))
-  size_only {node = node} what pos (is_missing l none s) h = absurd (no_fault (seen node).end (ap (λ (x : Seen). x.end.answer) s) h.1 (λ q. absurd (omega (arith, q))))
+  size_only {call = call} {node = node} what pos (is_missing l none s) h = absurd (no_missing call (seen node).end (ap (λ (x : Seen). x.end) s) h (λ q. absurd (omega (arith, q))))
+  size_only {node = node} what pos (by_host from to answer l none c ended none' says) h = absurd (no_host (seen node).end says h (λ q. absurd (omega (arith, q))) (λ q. absurd (omega (arith, q))))
   size_only {node = node} what pos (is_constant own l none u first on s) h = absurd (no_fault (seen node).end (ap (λ (x : Seen). x.end.answer) s) h.1 (λ q. absurd (omega (arith, q))))
   size_only {f = f} {node = node} what pos (has_ended pick last l none c came by) h =
       let one : OwnSize w.engine.limits (plan_of (seen node).call) pick last (seen node).end (ErrorDataTooLarge what pos) ⊎ OwnKind w.engine.limits (plan_of (seen node).call) pick last (seen node).end (ErrorDataTooLarge what pos) → RefusesSize o w f (seen node) (ErrorDataTooLarge what pos) =
@@ -373,7 +456,8 @@ module _ {H B : Type 0} (o : Objects H B) (w : World) where
   spends_not (isnt_begun s) lasts begun h = let q : false ≡ true = sym (ap (λ (x : Seen). x.begun) s) ∙ begun in absurd cc
   spends_not {node = node} (is_deep deep s) lasts begun h = no_fault (seen node).end (ap (λ (x : Seen). x.end.answer) s) h.1 (λ q. absurd (omega (arith, q)))
   spends_not {node = node} (is_locked n l place s) lasts begun h = no_fault (seen node).end (ap (λ (x : Seen). x.end.answer) s) h.1 (λ q. absurd (omega (arith, q)))
-  spends_not {node = node} (is_missing l none s) lasts begun h = no_fault (seen node).end (ap (λ (x : Seen). x.end.answer) s) h.1 (λ q. absurd (omega (arith, q)))
+  spends_not {call = call} {node = node} (is_missing l none s) lasts begun h = no_missing call (seen node).end (ap (λ (x : Seen). x.end) s) h (λ q. absurd (omega (arith, q)))
+  spends_not {node = node} (by_host from to answer l none c ended none' says) lasts begun h = no_host (seen node).end says h (λ q. absurd (omega (arith, q))) (λ q. absurd (omega (arith, q)))
   spends_not {node = node} (is_constant own l none u first on s) lasts begun h = no_fault (seen node).end (ap (λ (x : Seen). x.end.answer) s) h.1 (λ q. absurd (omega (arith, q)))
   spends_not {call = call} {node = node} (has_ended pick last l none c came by) lasts begun h = no_other (seen node).end (ErrorTooManyOperations (pos_of call)) by (λ q. absurd (omega (arith, q))) (λ q. absurd (omega (arith, q))) h
   spends_not (was_cut pick c l none begun' shown e) lasts begun h = let q : true ≡ false = sym c ∙ lasts in absurd cc
@@ -383,7 +467,8 @@ module _ {H B : Type 0} (o : Objects H B) (w : World) where
   overflows (isnt_begun s) begun h = let q : false ≡ true = sym (ap (λ (x : Seen). x.begun) s) ∙ begun in absurd cc
   overflows (is_deep deep s) begun h = deep
   overflows {node = node} (is_locked n l place s) begun h = absurd (no_fault (seen node).end (ap (λ (x : Seen). x.end.answer) s) h.1 (λ q. absurd (omega (arith, q))))
-  overflows {node = node} (is_missing l none s) begun h = absurd (no_fault (seen node).end (ap (λ (x : Seen). x.end.answer) s) h.1 (λ q. absurd (omega (arith, q))))
+  overflows {call = call} {node = node} (is_missing l none s) begun h = absurd (no_missing call (seen node).end (ap (λ (x : Seen). x.end) s) h (λ q. absurd (omega (arith, q))))
+  overflows {node = node} (by_host from to answer l none c ended none' says) begun h = absurd (no_host (seen node).end says h (λ q. absurd (omega (arith, q))) (λ q. absurd (omega (arith, q))))
   overflows {node = node} (is_constant own l none u first on s) begun h = absurd (no_fault (seen node).end (ap (λ (x : Seen). x.end.answer) s) h.1 (λ q. absurd (omega (arith, q))))
   overflows {call = call} {node = node} (has_ended pick last l none c came by) begun h = absurd (no_other (seen node).end (ErrorStackOverflow (pos_of call)) by (λ q. absurd (omega (arith, q))) (λ q. absurd (omega (arith, q))) h)
   overflows {node = node} (was_cut pick c l none begun' shown e) begun h = absurd (no_fault (seen node).end (ap (λ (x : End). x.answer) e) h.1 (λ q. absurd (omega (arith, q))))
@@ -395,6 +480,7 @@ module _ {H B : Type 0} (o : Objects H B) (w : World) where
   refused_only value (is_deep deep s) h = let q : None ≡ Some value = sym (ap (λ (x : Seen). x.end.refused) s) ∙ h in absurd cc
   refused_only value (is_locked n l place s) h = let q : None ≡ Some value = sym (ap (λ (x : Seen). x.end.refused) s) ∙ h in absurd cc
   refused_only value (is_missing l none s) h = let q : None ≡ Some value = sym (ap (λ (x : Seen). x.end.refused) s) ∙ h in absurd cc
+  refused_only {node = node} value (by_host from to answer l none c ended none' says) h = hosts_refused node value ended none' says h
   refused_only value (is_constant own l none u first on s) h = let q : None ≡ Some value = sym (ap (λ (x : Seen). x.end.refused) s) ∙ h in absurd cc
   refused_only {f = f} {node = node} value (has_ended pick last l none c came by) h =
       let one : RefusedLast w.engine.limits (plan_of (seen node).call) pick last (seen node).end value → RefusesValue o w f (seen node) value =
@@ -405,6 +491,7 @@ module _ {H B : Type 0} (o : Objects H B) (w : World) where
   refused_back : {f : Frame} (node : CallNode) (value : Tree) → RefusesValue o w f (seen node) value → (seen node).end.refused ≡ Some value
   refused_back node value (for_kind r e) = r.refused ∙ ap Some e
   refused_back node value (for_size r e) = r.refused ∙ ap Some e
+  refused_back node value (for_host r e) = r.refused ∙ ap Some e
 
   pub refused_exactly : {f : Frame} {level : ℕ} {call : CallRequest} {node : CallNode} {cut : Bool} (value : Tree) → ShowsEnd f level call node cut → ((seen node).end.refused ≡ Some value) ↔ RefusesValue o w f (seen node) value
   refused_exactly {node = node} value ends = (refused_only value ends, refused_back node value)
@@ -415,6 +502,7 @@ module _ {H B : Type 0} (o : Objects H B) (w : World) where
   first_alone (is_deep deep s) h = ap (λ (x : Seen). x.end.first_after) s
   first_alone (is_locked n l place s) h = ap (λ (x : Seen). x.end.first_after) s
   first_alone {call = call} (is_missing l none s) h = ap (λ (x : Seen). x.end.first_after) s ∙ plan_given call
+  first_alone {call = call} (by_host from to answer l none c ended none' says) h = host_first says ∙ ap (λ (k : CallRequest). (plan_of k).given) c ∙ plan_given call
   first_alone (is_constant own l none u first on s) h = let q : Some own ≡ None = sym (ap (λ (x : Seen). x.pick) s) ∙ h in absurd cc
   first_alone (has_ended pick last l none c came by) h = let q : Some pick ≡ None = sym came.shown ∙ h in absurd cc
   first_alone (was_cut pick c l none begun shown e) h = let q : Some pick ≡ None = sym shown ∙ h in absurd cc
@@ -430,6 +518,7 @@ module _ {H B : Type 0} (o : Objects H B) (w : World) where
   ran_first pick (is_deep deep s) lasts h = let q : None ≡ Some pick = sym (ap (λ (x : Seen). x.pick) s) ∙ h in absurd cc
   ran_first pick (is_locked n l place s) lasts h = let q : None ≡ Some pick = sym (ap (λ (x : Seen). x.pick) s) ∙ h in absurd cc
   ran_first pick (is_missing l none s) lasts h = let q : None ≡ Some pick = sym (ap (λ (x : Seen). x.pick) s) ∙ h in absurd cc
+  ran_first pick (by_host from to answer l none c ended none' says) lasts h = let q : None ≡ Some pick = sym none' ∙ h in absurd cc
   ran_first {call = call} pick (is_constant own l none u first on s) lasts h =
       let q : Some own ≡ Some pick = sym (ap (λ (x : Seen). x.pick) s) ∙ h in
       let same : own ≡ pick = cc in inr (subst (IsOnConstant (plan_of call)) same on, ap (λ (x : Seen). x.end.first_after) s ∙ plan_given call)

@@ -1,5 +1,5 @@
 -- What each call of a tree shows, and where it ends with fault 9 or 10.
-use Rattle.std.proofs.Common.{◌≡◌, ℕ, ◌<◌, Bool, true, false, ltb, [], refl, sym, ap, ◌∙◌, arith}
+use Rattle.std.proofs.Common.{◌≡◌, ℕ, ◌<◌, Bool, true, false, ltb, [], refl, sym, ap, ◌∙◌, ◌⊎◌, inl, inr, arith}
 use Rattle.std.specs.Prelude.{◌↔◌, Option, None, Some, Err}
 use Rattle.std.proofs.lemmas.Bool.{ltb-true}
 use Rattle.rhd_value.specs.declared.fault.EvalAltResult.TheVariants.{ErrorTooManyOperations, ErrorStackOverflow}
@@ -13,14 +13,15 @@ use Rattle.rhd_session.specs.World.{World, Objects, Moment}
 use Rattle.rhd_session.specs.Plans.{plan_of}
 use Rattle.rhd_session.specs.declared.ends.End.{End}
 use Rattle.rhd_session.specs.Ends.{failed}
-use Rattle.rhd_session.specs.Decisions.{ends, runs, locked_place, refusal}
+use Rattle.rhd_session.specs.Decisions.{ends, asks_host, runs, locked_place, refusal}
 use Rattle.rhd_session.specs.FirstAsks.{IsAnsweredFirst, EndsAlone}
+use Rattle.rhd_session.specs.Hosts.{EndsByHost}
 use Rattle.rhd_session.specs.Seen.{Seen, seen, begun_node, unbegun_node}
-use Rattle.rhd_session.specs.Runs.{Runs, not_begun, ended, finished, cut_short}
+use Rattle.rhd_session.specs.Runs.{Runs, not_begun, ended, host_answered, finished, cut_short}
 use Rattle.rhd_session.specs.Trees.{InTree, is_root, frame_at}
 use Rattle.rhd_session.proofs.Found.{runs_within, decided_deep, deep_end, locked_end, refused_where, refusal_is, deep_refused}
 use Rattle.rhd_session.proofs.NodeEnds.{runs_end, spends_not, overflows}
-use Rattle.rhd_session.proofs.FirstAnswered.{ends_pick, runs_pick, shows_first, shows_missing, shows_unbegun}
+use Rattle.rhd_session.proofs.FirstAnswered.{ends_pick, runs_pick, asks_no_pick, shows_first, shows_missing, shows_unbegun}
 use Rattle.rhd_session.proofs.TreeLaws.{tree_runs, runs_begun}
 
 not_deep : (call : CallRequest) (n : ℕ) → locked_end call n ≡ deep_end call → ⊥
@@ -43,6 +44,7 @@ module _ {H B : Type 0} (o : Objects H B) (w : World) where
   begun_within : {f : Frame} {level : ℕ} {call : CallRequest} {node : CallNode} {before after : Moment H B} {cut : Bool} → Runs o w f level call node before after cut → before.begun ≡ w.engine.limits.budget → (seen node).begun ≡ false
   begun_within (not_begun b s) h = ap (λ (x : Seen). x.begun) s
   begun_within (ended b d s) h = absurd (omega arith)
+  begun_within (host_answered b d a s) h = absurd (omega arith)
   begun_within (finished b d starts steps e s) h = absurd (omega arith)
   begun_within (cut_short b d starts steps r s) h = absurd (omega arith)
 
@@ -53,6 +55,7 @@ module _ {H B : Type 0} (o : Objects H B) (w : World) where
   cut_answers : {f : Frame} {level : ℕ} {call : CallRequest} {node : CallNode} {before after : Moment H B} {cut : Bool} → Runs o w f level call node before after cut → cut ≡ true → ((seen node).end.whose ≡ Call) × ((seen node).end.answer ≡ Err (ErrorTooManyOperations (pos_of call)))
   cut_answers (not_begun b s) h = (ap (λ (x : Seen). x.end.whose) s, ap (λ (x : Seen). x.end.answer) s)
   cut_answers (ended b d s) h = absurd cc
+  cut_answers (host_answered b d a s) h = absurd cc
   cut_answers (finished b d starts steps e s) h = absurd cc
   cut_answers (cut_short b d starts steps r s) h = (ap (λ (x : Seen). x.end.whose) s, ap (λ (x : Seen). x.end.answer) s)
 
@@ -71,6 +74,7 @@ module _ {H B : Type 0} (o : Objects H B) (w : World) where
       let p : pick ≡ None = cc in
       let e : end ≡ deep_end call = cc in
       s ∙ (λ i. begun_node call level (p i) [] [] (e i))
+  deep_shown (host_answered {f = f} {level = level} {call = call} {plan = plan} b d a s) begun h = let q : asks_host plan ≡ ends None (deep_end call) = sym d ∙ decided_deep w.engine f level call h in absurd cc
   deep_shown (finished {f = f} {level = level} {call = call} {plan = plan} {pick = pick} b d starts steps e s) begun h = absurd (omega (arith, runs_within w.engine f level call plan pick d))
   deep_shown (cut_short {f = f} {level = level} {call = call} {plan = plan} {pick = pick} b d starts steps r s) begun h = absurd (omega (arith, runs_within w.engine f level call plan pick d))
 
@@ -84,6 +88,7 @@ module _ {H B : Type 0} (o : Objects H B) (w : World) where
   first_shown : {f : Frame} {level : ℕ} {call : CallRequest} {node : CallNode} {before after : Moment H B} {cut : Bool} (pick : Pick) → Runs o w f level call node before after cut → (seen node).begun ≡ true → (refusal w.engine level call ≡ None) × IsAnsweredFirst w.engine f call pick → (seen node).pick ≡ Some pick
   first_shown pick (not_begun b s) begun h = let q : false ≡ true = sym (ap (λ (x : Seen). x.begun) s) ∙ begun in absurd cc
   first_shown pick (ended {f = f} {level = level} {call = call} {pick = p} {end = end} b d s) begun h = ap (λ (x : Seen). x.pick) s ∙ ends_pick w.engine f level call pick p end h d
+  first_shown pick (host_answered {f = f} {level = level} {call = call} {plan = plan} b d a s) begun h = absurd (asks_no_pick w.engine f level call pick plan h d)
   first_shown pick (finished {f = f} {level = level} {call = call} {plan = plan} {pick = p} b d starts steps e s) begun h = ap (λ (x : Seen). x.pick) s ∙ ap Some (runs_pick w.engine f level call pick plan p h d)
   first_shown pick (cut_short {f = f} {level = level} {call = call} {plan = plan} {pick = p} b d starts steps r s) begun h = ap (λ (x : Seen). x.pick) s ∙ ap Some (runs_pick w.engine f level call pick plan p h d)
 
@@ -92,8 +97,13 @@ module _ {H B : Type 0} (o : Objects H B) (w : World) where
       ((seen node).pick ≡ Some pick) ↔ ((refusal w.engine (seen node).level (seen node).call ≡ None) × IsAnsweredFirst w.engine (frame_at f inside) (seen node).call pick)
   tree_picked inside pick r begun = (λ h. shows_first pick (tree_runs o w inside r).3 h, λ h. first_shown pick (tree_runs o w inside r).3 begun h)
 
-  pub tree_alone : {node root : CallNode} (inside : InTree node root) {f : Frame} {level : ℕ} {call : CallRequest} {before after : Moment H B} {cut : Bool} → Runs o w f level call root before after cut → (seen node).begun ≡ true → (seen node).pick ≡ None → EndsAlone w.engine (frame_at f inside) (seen node).level (seen node).call None (seen node).end
-  tree_alone inside r begun h = shows_missing (tree_runs o w inside r).3 begun h
+  pub tree_alone : {node root : CallNode} (inside : InTree node root) {f : Frame} {level : ℕ} {call : CallRequest} {before after : Moment H B} {cut : Bool} → Runs o w f level call root before after cut → (seen node).begun ≡ true → (seen node).pick ≡ None →
+      EndsAlone w.engine (frame_at f inside) (seen node).level (seen node).call None (seen node).end ⊎ ((from : H) × (to : H) × EndsByHost o w.engine (frame_at f inside) (seen node).level (seen node).call from to (seen node).end)
+  tree_alone {node = node} inside {f} r begun h =
+      let own = tree_runs o w inside r in
+      let by : EndsAlone w.engine (frame_at f inside) (seen node).level (seen node).call None (seen node).end ⊎ EndsByHost o w.engine (frame_at f inside) (seen node).level (seen node).call own.0.host own.1.host (seen node).end → EndsAlone w.engine (frame_at f inside) (seen node).level (seen node).call None (seen node).end ⊎ ((from : H) × (to : H) × EndsByHost o w.engine (frame_at f inside) (seen node).level (seen node).call from to (seen node).end) =
+      elim [ inl alone ↦ inl alone | inr asked ↦ inr (own.0.host, own.1.host, asked) ]
+      in by (shows_missing own.3 begun h)
 
   pub tree_unbegun : {node root : CallNode} (inside : InTree node root) {f : Frame} {level : ℕ} {call : CallRequest} {before after : Moment H B} {cut : Bool} → Runs o w f level call root before after cut → (seen node).begun ≡ false → seen node ≡ unbegun_node (seen node).call (seen node).level
   tree_unbegun inside r h = (shows_unbegun (tree_runs o w inside r).3 h).2

@@ -21,7 +21,7 @@ use Rattle.rhd_session.specs.declared.ends.End.{End}
 use Rattle.rhd_session.specs.Entered.{context, entered}
 use Rattle.rhd_session.specs.Seen.{Seen, seen, begun_node, unbegun_node, cut_end}
 use Rattle.rhd_session.specs.Steps.{Starts}
-use Rattle.rhd_session.specs.Runs.{Runs, not_begun, ended, finished, cut_short, Steps, none_yet, one_more, received_by}
+use Rattle.rhd_session.specs.Runs.{Runs, not_begun, ended, host_answered, finished, cut_short, Steps, none_yet, one_more, received_by}
 use Rattle.rhd_session.specs.Trees.{InTree, is_root, is_below, frame_at, RunsAt, AllBegun, CutTree, cut_here, cut_below, begun_in, begun_in_nodes, begun_in_row}
 use Rattle.rhd_session.specs.Requests.{Requests, no_more, the_last, one_then, ShowsRequests}
 use Rattle.rhd_session.proofs.Found.{runs_within, runs_plan}
@@ -72,6 +72,7 @@ module _ {H B : Type 0} (o : Objects H B) (w : World) where
   pub runs_shows : {f : Frame} {level : ℕ} {call : CallRequest} {node : CallNode} {before after : Moment H B} {cut : Bool} → Runs o w f level call node before after cut → ((seen node).call ≡ call) × ((seen node).level ≡ level)
   runs_shows (not_begun b s) = (ap (λ (x : Seen). x.call) s, ap (λ (x : Seen). x.level) s)
   runs_shows (ended b d s) = (ap (λ (x : Seen). x.call) s, ap (λ (x : Seen). x.level) s)
+  runs_shows (host_answered b d a s) = (ap (λ (x : Seen). x.call) s, ap (λ (x : Seen). x.level) s)
   runs_shows (finished b d starts steps e s) = (ap (λ (x : Seen). x.call) s, ap (λ (x : Seen). x.level) s)
   runs_shows (cut_short b d starts steps r s) = (ap (λ (x : Seen). x.call) s, ap (λ (x : Seen). x.level) s)
 
@@ -80,6 +81,7 @@ module _ {H B : Type 0} (o : Objects H B) (w : World) where
     pub runs_count : {f : Frame} {level : ℕ} {call : CallRequest} {node : CallNode} {before after : Moment H B} {cut : Bool} → Runs o w f level call node before after cut → after.begun ≡ before.begun + begun_in node
     runs_count (not_begun {node = node} b s) = omega (arith, unbegun_count node s)
     runs_count (ended {node = node} b d s) = omega (arith, begun_count node s)
+    runs_count (host_answered {node = node} b d a s) = omega (arith, begun_count node s)
     runs_count (finished {node = node} b d starts steps e s) = omega (arith, begun_count node s, starts_begun starts, steps_count steps)
     runs_count (cut_short {node = node} {child = child} {children = children} b d starts steps r s) = omega (arith, begun_count node s, starts_begun starts, sum_by_push begun_in children child, steps_count steps, runs_count r)
 
@@ -92,6 +94,7 @@ module _ {H B : Type 0} (o : Objects H B) (w : World) where
     pub runs_spend : {f : Frame} {level : ℕ} {call : CallRequest} {node : CallNode} {before after : Moment H B} {cut : Bool} → Runs o w f level call node before after cut → before.begun ≤ w.engine.limits.budget → after.begun ≤ w.engine.limits.budget
     runs_spend (not_begun b s) h = h
     runs_spend (ended b d s) h = omega arith
+    runs_spend (host_answered b d a s) h = omega arith
     runs_spend (finished b d starts steps e s) h = steps_spend steps (omega (arith, starts_begun starts))
     runs_spend (cut_short b d starts steps r s) h = runs_spend r (steps_spend steps (omega (arith, starts_begun starts)))
 
@@ -103,6 +106,7 @@ module _ {H B : Type 0} (o : Objects H B) (w : World) where
   pub runs_spent : {f : Frame} {level : ℕ} {call : CallRequest} {node : CallNode} {before after : Moment H B} {cut : Bool} → Runs o w f level call node before after cut → cut ≡ true → after.begun ≡ w.engine.limits.budget
   runs_spent (not_begun b s) spent = b
   runs_spent (ended b d s) spent = absurd cc
+  runs_spent (host_answered b d a s) spent = absurd cc
   runs_spent (finished b d starts steps e s) spent = absurd cc
   runs_spent (cut_short b d starts steps r s) spent = runs_spent r refl
 
@@ -111,6 +115,7 @@ module _ {H B : Type 0} (o : Objects H B) (w : World) where
     pub runs_begun : {f : Frame} {level : ℕ} {call : CallRequest} {node : CallNode} {before after : Moment H B} {cut : Bool} → Runs o w f level call node before after cut → cut ≡ false → AllBegun node
     runs_begun (not_begun b s) lasts = absurd cc
     runs_begun (ended {node = node} b d s) lasts = all_begun node s (All-nil AllBegun)
+    runs_begun (host_answered {node = node} b d a s) lasts = all_begun node s (All-nil AllBegun)
     runs_begun (finished {node = node} b d starts steps e s) lasts = all_begun node s (steps_begun steps)
     runs_begun (cut_short b d starts steps r s) lasts = absurd cc
 
@@ -122,6 +127,7 @@ module _ {H B : Type 0} (o : Objects H B) (w : World) where
   pub runs_cut : {f : Frame} {level : ℕ} {call : CallRequest} {node : CallNode} {before after : Moment H B} {cut : Bool} → Runs o w f level call node before after cut → cut ≡ true → CutTree node
   runs_cut (not_begun b s) spent = cut_here (s ∙ sym (ap (λ (x : Seen). unbegun_node x.call x.level) s))
   runs_cut (ended b d s) spent = absurd cc
+  runs_cut (host_answered b d a s) spent = absurd cc
   runs_cut (finished b d starts steps e s) spent = absurd cc
   runs_cut (cut_short {child = child} {children = children} b d starts steps r s) spent =
       cut_below children (ap (λ (x : Seen). x.begun) s) (ap (λ (x : Seen). x.end) s ∙ sym (ap (λ (x : Seen). cut_end x.call) s)) (ap (λ (x : Seen). x.children) s) (steps_begun steps) (runs_cut r refl)
@@ -134,6 +140,7 @@ module _ {H B : Type 0} (o : Objects H B) (w : World) where
   pub runs_many : {f : Frame} {level : ℕ} {call : CallRequest} {node : CallNode} {before after : Moment H B} {cut : Bool} → Runs o w f level call node before after cut → length (seen node).carries ≡ length (seen node).children
   runs_many (not_begun {node = node} b s) = same_many node [] [] (ap (λ (x : Seen). x.carries) s) (ap (λ (x : Seen). x.children) s) refl
   runs_many (ended {node = node} b d s) = same_many node [] [] (ap (λ (x : Seen). x.carries) s) (ap (λ (x : Seen). x.children) s) refl
+  runs_many (host_answered {node = node} b d a s) = same_many node [] [] (ap (λ (x : Seen). x.carries) s) (ap (λ (x : Seen). x.children) s) refl
   runs_many (finished {node = node} {carries = carries} {children = children} b d starts steps e s) = same_many node carries children (ap (λ (x : Seen). x.carries) s) (ap (λ (x : Seen). x.children) s) (steps_many steps)
   runs_many (cut_short {node = node} {child = child} {carries = carries} {carry = carry} {children = children} b d starts steps r s) =
       same_many node (carries ++ carry ∷ []) (children ++ child ∷ []) (ap (λ (x : Seen). x.carries) s) (ap (λ (x : Seen). x.children) s) (many_push carries children carry child (steps_many steps))
@@ -169,6 +176,7 @@ module _ {H B : Type 0} (o : Objects H B) (w : World) where
   runs_requests pick (not_begun b s) h free = let q : None ≡ Some pick = sym (ap (λ (x : Seen). x.pick) s) ∙ h in absurd cc
   runs_requests pick (ended {f = f} {level = level} {call = call} {pick = p} {end = end} b d s) h free =
       absurd (free (constant_of w.engine f level call p end pick (ends_missing w.engine f level call p end d) (sym (ap (λ (x : Seen). x.pick) s) ∙ h)))
+  runs_requests pick (host_answered b d a s) h free = let q : None ≡ Some pick = sym (ap (λ (x : Seen). x.pick) s) ∙ h in absurd cc
   runs_requests pick (finished {f = f} {level = level} {call = call} {node = node} {plan = plan} {pick = p} {first = first} {carries = carries} {children = children} {end = end} b d starts steps e s) h free =
       shows_by f level call node plan p pick first carries children end false _ _ (runs_plan w.engine f level call plan p d) s h starts
       (subst (λ (ks : List Carry). Requests o w f level call plan p first ks children end false) (append-nil carries)
@@ -182,6 +190,7 @@ module _ {H B : Type 0} (o : Objects H B) (w : World) where
   pub runs_alone : {f : Frame} {level : ℕ} {call : CallRequest} {node : CallNode} {before after : Moment H B} {cut : Bool} → Runs o w f level call node before after cut → (seen node).pick ≡ None → ((seen node).carries ≡ []) × ((seen node).children ≡ [])
   runs_alone (not_begun b s) h = (ap (λ (x : Seen). x.carries) s, ap (λ (x : Seen). x.children) s)
   runs_alone (ended b d s) h = (ap (λ (x : Seen). x.carries) s, ap (λ (x : Seen). x.children) s)
+  runs_alone (host_answered b d a s) h = (ap (λ (x : Seen). x.carries) s, ap (λ (x : Seen). x.children) s)
   runs_alone (finished {pick = p} b d starts steps e s) h = let q : Some p ≡ None = sym (ap (λ (x : Seen). x.pick) s) ∙ h in absurd cc
   runs_alone (cut_short {pick = p} b d starts steps r s) h = let q : Some p ≡ None = sym (ap (λ (x : Seen). x.pick) s) ∙ h in absurd cc
 
@@ -189,6 +198,7 @@ module _ {H B : Type 0} (o : Objects H B) (w : World) where
   pub runs_constant : {f : Frame} {level : ℕ} {call : CallRequest} {node : CallNode} {before after : Moment H B} {cut : Bool} (pick : Pick) → Runs o w f level call node before after cut → (seen node).pick ≡ Some pick → IsOnConstant (plan_of call) pick → ((seen node).carries ≡ []) × ((seen node).children ≡ [])
   runs_constant pick (not_begun b s) h on = (ap (λ (x : Seen). x.carries) s, ap (λ (x : Seen). x.children) s)
   runs_constant pick (ended b d s) h on = (ap (λ (x : Seen). x.carries) s, ap (λ (x : Seen). x.children) s)
+  runs_constant pick (host_answered b d a s) h on = (ap (λ (x : Seen). x.carries) s, ap (λ (x : Seen). x.children) s)
   runs_constant pick (finished {f = f} {level = level} {call = call} {plan = plan} {pick = p} b d starts steps e s) h on =
       let q : Some p ≡ Some pick = sym (ap (λ (x : Seen). x.pick) s) ∙ h in
       let same : p ≡ pick = cc in absurd ((runs_first w.engine f level call plan p d).3 (subst (IsOnConstant (plan_of call)) (sym same) on))
@@ -212,6 +222,7 @@ module _ {H B : Type 0} (o : Objects H B) (w : World) where
   pub runs_run : {f : Frame} {level : ℕ} {call : CallRequest} {node : CallNode} {before after : Moment H B} {cut : Bool} → Runs o w f level call node before after cut → All (RunsUnder f level) (seen node).children
   runs_run (not_begun {f = f} {level = level} {node = node} b s) = none_run f level (seen node).children (ap (λ (x : Seen). x.children) s)
   runs_run (ended {f = f} {level = level} {node = node} b d s) = none_run f level (seen node).children (ap (λ (x : Seen). x.children) s)
+  runs_run (host_answered {f = f} {level = level} {node = node} b d a s) = none_run f level (seen node).children (ap (λ (x : Seen). x.children) s)
   runs_run (finished {f = f} {level = level} {node = node} {children = children} b d starts steps e s) = All-same (RunsUnder f level) (seen node).children children (ap (λ (x : Seen). x.children) s) (steps_run steps)
   runs_run (cut_short {f = f} {level = level} {waited = waited} {node = node} {child = child} {mid = mid} {after = after} {children = children} b d starts steps r s) =
       All-same (RunsUnder f level) (seen node).children (children ++ child ∷ []) (ap (λ (x : Seen). x.children) s)
@@ -247,6 +258,7 @@ module _ {H B : Type 0} (o : Objects H B) (w : World) where
   asks_within : {f : Frame} {level : ℕ} {call : CallRequest} {node : CallNode} {before after : Moment H B} {cut : Bool} (child : CallNode) → Runs o w f level call node before after cut → Contains (seen node).children child → level ≤ w.engine.limits.level
   asks_within child (not_begun {node = node} b s) among = absurd (no_children child (seen node).children (ap (λ (x : Seen). x.children) s) among)
   asks_within child (ended {node = node} b d s) among = absurd (no_children child (seen node).children (ap (λ (x : Seen). x.children) s) among)
+  asks_within child (host_answered {node = node} b d a s) among = absurd (no_children child (seen node).children (ap (λ (x : Seen). x.children) s) among)
   asks_within child (finished {f = f} {level = level} {call = call} {plan = plan} {pick = p} b d starts steps e s) among = runs_within w.engine f level call plan p d
   asks_within child (cut_short {f = f} {level = level} {call = call} {plan = plan} {pick = p} b d starts steps r s) among = runs_within w.engine f level call plan p d
 

@@ -13,6 +13,7 @@ use Rattle.rhd_func.specs.declared.request.CallShape.{CallShape}
 use Rattle.rhd_func.specs.declared.request.CallShape.TheVariants.{Plain, ByRef, Method}
 use Rattle.rhd_func.specs.declared.request.NativeStep.{NativeStep}
 use Rattle.rhd_func.specs.declared.request.NativeStep.TheVariants.{Done, Failed, Ask}
+use Rattle.rhd_func.specs.declared.request.HostAnswer.TheVariants.{Value}
 use Rattle.rhd_func.specs.Funcs.{is_script}
 use Rattle.rhd_func.specs.Shapes.{pos_of}
 use Rattle.rhd_session.specs.Engine.{EngineLists, Frame}
@@ -27,6 +28,7 @@ use Rattle.rhd_session.specs.Ends.{first_at_end, end_of}
 use Rattle.rhd_session.specs.Decisions.{locked_text, refusal}
 use Rattle.rhd_session.specs.FirstAsks.{IsAnsweredFirst, IsOnConstant}
 use Rattle.rhd_session.specs.Entered.{context}
+use Rattle.rhd_session.specs.Hosts.{HostEnds}
 use Rattle.rhd_session.specs.Seen.{Seen}
 use Rattle.rhd_session.specs.Steps.{Starts}
 use Rattle.rhd_session.specs.Runs.{Steps, received_by}
@@ -131,10 +133,23 @@ pub record RefusesSize {H B : Type 0} (o : Objects H B) (w : World) (f : Frame) 
   pub says : fault ≡ ErrorDataTooLarge what (pos_of node.call)
   pub refused : node.end.refused ≡ Some value
 
--- The node's call refuses this value, for its kind or for a size.
+-- The host answered a value that isn't of the wanted kind; the fault says so, and the node shows the value.
+pub record RefusesHosts {H B : Type 0} (o : Objects H B) (node : Seen) (fault : EvalAltResult) : Type 0 where
+  pub from : H
+  pub to : H
+  pub value : Tree
+  pub kind : TypeTag
+  pub alone : node.pick ≡ None
+  pub ended : HostEnds o node.call from (Value value) to node.end
+  pub other : IsOfOtherKind (plan_of node.call).want kind value
+  pub says : fault ≡ ErrorMismatchOutputType (type_name kind) (display value) (pos_of node.call)
+  pub refused : node.end.refused ≡ Some value
+
+-- The node's call refuses this value, for its kind or for a size, or for its kind where it is the host's.
 pub data RefusesValue {H B : Type 0} (o : Objects H B) (w : World) (f : Frame) (node : Seen) (value : Tree) : Type 0 where
   for_kind : {fault : EvalAltResult} (r : RefusesKind o w f node fault) → r.value ≡ value → RefusesValue o w f node value
   for_size : {fault : EvalAltResult} (r : RefusesSize o w f node fault) → r.value ≡ value → RefusesValue o w f node value
+  for_host : {fault : EvalAltResult} (r : RefusesHosts o node fault) → r.value ≡ value → RefusesValue o w f node value
 
 -- what a function gave back of its first argument
 abbrev pub gave_back : NativeStep → Option Tree

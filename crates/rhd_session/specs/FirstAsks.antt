@@ -15,7 +15,7 @@ use Rattle.rhd_session.specs.Asks.{Asked, asks, looked, native_found, builtin}
 use Rattle.rhd_session.specs.Patterns.{patterns}
 use Rattle.rhd_session.specs.Received.{received, manner_of, first_received}
 use Rattle.rhd_session.specs.NotFound.{not_found}
-use Rattle.rhd_session.specs.Plans.{Search, by_name, Plan, plan_of}
+use Rattle.rhd_session.specs.Plans.{Search, by_name, only_natives, Plan, plan_of}
 use Rattle.rhd_session.specs.declared.ends.End.{End}
 use Rattle.rhd_session.specs.Ends.{failed}
 use Rattle.rhd_session.specs.Decisions.{refusal, constant_end}
@@ -51,11 +51,17 @@ pub record IsOnConstant (plan : Plan) (pick : Pick) : Type 0 where
   pub receives : first_received (received (manner_of pick.func) plan.shape) ≡ Some first
   pub constant : first.marks.read_only ≡ true
 
--- Nothing runs: the call is refused so; or nothing refuses it and no ask is found; or the function of the first that is found isn't for a constant.
+-- Nothing runs: the call is refused so; or nothing refuses it, natives alone are meant and no ask is found; or the function of the first that is found isn't for a constant.
 pub data EndsAlone (e : EngineLists) (f : Frame) (level : ℕ) (call : CallRequest) (pick : Option Pick) (end : End) : Type 0 where
   is_refused : pick ≡ None → refusal e level call ≡ Some end → EndsAlone e f level call pick end
-  isnt_found : pick ≡ None → refusal e level call ≡ None → end ≡ missing_end call → IsUnanswered e f call → EndsAlone e f level call pick end
+  isnt_found : pick ≡ None → refusal e level call ≡ None → only_natives (plan_of call).search ≡ true → end ≡ missing_end call → IsUnanswered e f call → EndsAlone e f level call pick end
   on_constant : (own : Pick) → pick ≡ Some own → refusal e level call ≡ None → IsAnsweredFirst e f call own → IsOnConstant (plan_of call) own → end ≡ constant_end (plan_of call) → EndsAlone e f level call pick end
+
+-- The host is asked: nothing refuses the call, scripts are allowed and no ask is found.
+pub record IsForHost (e : EngineLists) (f : Frame) (level : ℕ) (call : CallRequest) : Type 0 where
+  pub unrefused : refusal e level call ≡ None
+  pub scripts : only_natives (plan_of call).search ≡ false
+  pub unanswered : IsUnanswered e f call
 
 -- what the native ask gives: the first pattern's native that is found, or, where none is, the built-in
 abbrev pub IsOfFirstPattern : EngineLists → Frame → Bytes → List TypeTag → Option OpToken → Pick → Type 0

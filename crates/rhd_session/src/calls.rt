@@ -384,8 +384,8 @@ fn unpicked<H: Host>(
     level: u32,
     host: &mut H,
 ) -> Result<CallNode, OutOfMemory>
-    ensures alone { only_natives (plan_of call).search ≡ true → IfOk result (λ node. (host.new ≡ host.old) × (seen node ≡ begun_node call level None [] [] (failed (plan_of call).given (not_found (plan_of call).pos (plan_of call).name (all_args (plan_of call).shape))))) }
-    ensures asked { only_natives (plan_of call).search ≡ false → IfOk result (λ node. (answer : HostAnswer) × H.allows_missing host.old (plan_of call).name (all_args (plan_of call).shape) (is_method_shape (plan_of call).shape) answer host.new × (seen node ≡ begun_node call level None [] [] (host_end (plan_of call) answer))) }
+    ensures alone { IfOk result (λ node. only_natives (plan_of call).search ≡ true → (host.new ≡ host.old) × (seen node ≡ begun_node call level None [] [] (failed (plan_of call).given (not_found (plan_of call).pos (plan_of call).name (all_args (plan_of call).shape))))) }
+    ensures asked { IfOk result (λ node. only_natives (plan_of call).search ≡ false → (answer : HostAnswer) × H.allows_missing host.old (plan_of call).name (all_args (plan_of call).shape) (is_method_shape (plan_of call).shape) answer host.new × (seen node ≡ begun_node call level None [] [] (host_end (plan_of call) answer))) }
 {
     if native_only_of(&call) {
         return missing(alloc, call, level);

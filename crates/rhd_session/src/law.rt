@@ -1,6 +1,6 @@
 //! Laws of calls.
 
-ghost use Rattle.std.specs.Prelude.{◌≡◌, ◌↔◌, ◌+◌, ◌<◌, ◌≤◌, ℕ, Bool, true, false, if◌then◌else◌, List, [], length, Option, Some, None, Err};
+ghost use Rattle.std.specs.Prelude.{◌≡◌, ◌↔◌, ◌⊎◌, ◌+◌, ◌<◌, ◌≤◌, ℕ, Bool, true, false, if◌then◌else◌, List, [], length, Option, Some, None, Err};
 ghost use Rattle.std.specs.List.{Contains, sum_by};
 ghost use Rattle.rhd_value.specs.declared.fault.EvalAltResult.TheVariants.{ErrorNonPureMethodCallOnConstant, ErrorDataRace, ErrorMismatchOutputType, ErrorTooManyOperations, ErrorStackOverflow, ErrorDataTooLarge};
 ghost use Rattle.rhd_value.specs.declared.tag.Position.{Position};
@@ -21,9 +21,10 @@ ghost use Rattle.rhd_session.specs.Searched.{found};
 ghost use Rattle.rhd_session.specs.Plans.{Plan, plan_of};
 ghost use Rattle.rhd_session.specs.declared.ends.End.{End};
 ghost use Rattle.rhd_session.specs.Ends.{failed};
-ghost use Rattle.rhd_session.specs.Decisions.{ends, runs, locked_place, locked_text, refusal, decision, constant_end};
-ghost use Rattle.rhd_session.specs.Causes.{IsOwn, IsForNoConstant, IsFirstLocked, NamesLocked, RefusesKind, RefusesSize, RefusesValue, GivesBack};
-ghost use Rattle.rhd_session.specs.FirstAsks.{IsAnsweredFirst, IsOnConstant, EndsAlone, IsOfFirstPlace, IsOfFirstPattern};
+ghost use Rattle.rhd_session.specs.Decisions.{ends, asks_host, runs, locked_place, locked_text, refusal, decision, constant_end};
+ghost use Rattle.rhd_session.specs.Causes.{IsOwn, IsForNoConstant, IsFirstLocked, NamesLocked, RefusesKind, RefusesHosts, RefusesSize, RefusesValue, GivesBack};
+ghost use Rattle.rhd_session.specs.FirstAsks.{IsAnsweredFirst, IsForHost, IsOnConstant, EndsAlone, IsOfFirstPlace, IsOfFirstPattern};
+ghost use Rattle.rhd_session.specs.Hosts.{EndsByHost};
 ghost use Rattle.rhd_session.specs.Asks.{native, looked};
 ghost use Rattle.rhd_session.specs.World.{Moment};
 ghost use Rattle.rhd_session.specs.Objects.{objects_of};
@@ -38,20 +39,23 @@ use rhd_func::{Bodies, Host};
 
 /// A function runs exactly where nothing refuses the call and it is what the first ask of the call
 /// that is found gives, unless that may change its first argument and this is a constant. Nothing
-/// runs exactly where the call is refused, or no ask is found, or for such a constant. A native is
-/// asked for by each pattern in turn, in all modules, and then among the built-ins.
+/// runs exactly where the call is refused, or no ask of a call for natives alone is found, or for
+/// such a constant. The host is asked exactly where nothing refuses another call and no ask is
+/// found. A native is asked for by each pattern in turn, in all modules, and then among the
+/// built-ins.
 pub fn a_call_is_answered_by_the_first_declaration()
     ensures runs { (e : EngineLists) (f : Frame) (level : ℕ) (call : CallRequest) (plan : Plan) (pick : Pick) → (decision e f level call ≡ runs plan pick) ↔ ((refusal e level call ≡ None) × (plan ≡ plan_of call) × IsAnsweredFirst e f call pick × (IsOnConstant (plan_of call) pick → ⊥)) }
     ensures ends { (e : EngineLists) (f : Frame) (level : ℕ) (call : CallRequest) (pick : Option Pick) (end : End) → (decision e f level call ≡ ends pick end) ↔ EndsAlone e f level call pick end }
+    ensures host { (e : EngineLists) (f : Frame) (level : ℕ) (call : CallRequest) (plan : Plan) → (decision e f level call ≡ asks_host plan) ↔ ((plan ≡ plan_of call) × IsForHost e f level call) }
     ensures place { (e : EngineLists) (f : Frame) (key : Key) (pick : Pick) → (found e f key ≡ Some pick) ↔ IsOfFirstPlace e f key pick }
     ensures pattern { (e : EngineLists) (f : Frame) (name : Bytes) (kinds : List TypeTag) (token : Option OpToken) (pick : Pick) → (looked e f (native name kinds token) ≡ Some pick) ↔ IsOfFirstPattern e f name kinds token pick }
 {}
 
 /// What a session's node shows: the function of the first ask that is found, where nothing refuses
-/// the call; or why nothing ran; or that the budget was spent before it.
+/// the call; or why nothing ran, or what the host answered; or that the budget was spent before it.
 pub fn a_node_shows_the_first_declaration<H: Host, B: Bodies>(session: &Session)
     ensures shown { (f : Frame) (level : ℕ) (call : CallRequest) (node : CallNode) (before after : Moment H B) (cut : Bool) (pick : Pick) → Runs (objects_of allows_call allows_resume B.allows_start B.allows_next H.allows_missing (natives_of session.now)) (world_of info session.now) f level call node before after cut → (seen node).pick ≡ Some pick → (refusal (world_of info session.now).engine level call ≡ None) × IsAnsweredFirst (world_of info session.now).engine f call pick }
-    ensures alone { (f : Frame) (level : ℕ) (call : CallRequest) (node : CallNode) (before after : Moment H B) (cut : Bool) → Runs (objects_of allows_call allows_resume B.allows_start B.allows_next H.allows_missing (natives_of session.now)) (world_of info session.now) f level call node before after cut → (seen node).begun ≡ true → (seen node).pick ≡ None → EndsAlone (world_of info session.now).engine f level call None (seen node).end }
+    ensures alone { (f : Frame) (level : ℕ) (call : CallRequest) (node : CallNode) (before after : Moment H B) (cut : Bool) → Runs (objects_of allows_call allows_resume B.allows_start B.allows_next H.allows_missing (natives_of session.now)) (world_of info session.now) f level call node before after cut → (seen node).begun ≡ true → (seen node).pick ≡ None → EndsAlone (world_of info session.now).engine f level call None (seen node).end ⊎ EndsByHost (objects_of allows_call allows_resume B.allows_start B.allows_next H.allows_missing (natives_of session.now)) (world_of info session.now).engine f level call before.host after.host (seen node).end }
     ensures unbegun { (f : Frame) (level : ℕ) (call : CallRequest) (node : CallNode) (before after : Moment H B) (cut : Bool) → Runs (objects_of allows_call allows_resume B.allows_start B.allows_next H.allows_missing (natives_of session.now)) (world_of info session.now) f level call node before after cut → (seen node).begun ≡ false → (before.begun ≡ (world_of info session.now).engine.limits.budget) × (after ≡ before) × (seen node ≡ unbegun_node call level) }
 {}
 
@@ -91,10 +95,11 @@ pub fn each_call_of_a_tree_runs_by_itself<H: Host, B: Bodies>(session: &Session)
 {}
 
 /// Each call of a tree that is begun has as its pick the function of the first ask that is found in
-/// its frame, exactly where nothing refuses the call. Without a pick it is refused, or isn't found.
+/// its frame, exactly where nothing refuses the call. Without a pick it is refused, or isn't found,
+/// or the host answers it.
 pub fn each_call_of_a_tree_shows_the_first_declaration<H: Host, B: Bodies>(session: &Session)
     ensures shown { (f : Frame) (level : ℕ) (call : CallRequest) (root node : CallNode) (before after : Moment H B) (cut : Bool) (inside : InTree node root) (pick : Pick) → Runs (objects_of allows_call allows_resume B.allows_start B.allows_next H.allows_missing (natives_of session.now)) (world_of info session.now) f level call root before after cut → (seen node).begun ≡ true → ((seen node).pick ≡ Some pick) ↔ ((refusal (world_of info session.now).engine (seen node).level (seen node).call ≡ None) × IsAnsweredFirst (world_of info session.now).engine (frame_at f inside) (seen node).call pick) }
-    ensures alone { (f : Frame) (level : ℕ) (call : CallRequest) (root node : CallNode) (before after : Moment H B) (cut : Bool) (inside : InTree node root) → Runs (objects_of allows_call allows_resume B.allows_start B.allows_next H.allows_missing (natives_of session.now)) (world_of info session.now) f level call root before after cut → (seen node).begun ≡ true → (seen node).pick ≡ None → EndsAlone (world_of info session.now).engine (frame_at f inside) (seen node).level (seen node).call None (seen node).end }
+    ensures alone { (f : Frame) (level : ℕ) (call : CallRequest) (root node : CallNode) (before after : Moment H B) (cut : Bool) (inside : InTree node root) → Runs (objects_of allows_call allows_resume B.allows_start B.allows_next H.allows_missing (natives_of session.now)) (world_of info session.now) f level call root before after cut → (seen node).begun ≡ true → (seen node).pick ≡ None → EndsAlone (world_of info session.now).engine (frame_at f inside) (seen node).level (seen node).call None (seen node).end ⊎ ((from : H) × (to : H) × EndsByHost (objects_of allows_call allows_resume B.allows_start B.allows_next H.allows_missing (natives_of session.now)) (world_of info session.now).engine (frame_at f inside) (seen node).level (seen node).call from to (seen node).end) }
     ensures unbegun { (f : Frame) (level : ℕ) (call : CallRequest) (root node : CallNode) (before after : Moment H B) (cut : Bool) → Runs (objects_of allows_call allows_resume B.allows_start B.allows_next H.allows_missing (natives_of session.now)) (world_of info session.now) f level call root before after cut → InTree node root → (seen node).begun ≡ false → seen node ≡ unbegun_node (seen node).call (seen node).level }
 {}
 
@@ -124,11 +129,11 @@ pub fn a_constant_ends_the_call<H: Host, B: Bodies>(session: &Session)
 {}
 
 /// A call ends with a mismatch of its own exactly where its function ended with a value, no limit
-/// was passed, and the value isn't of the wanted kind; or with a size of its own exactly where a
-/// limit was passed, by the value or by the first argument that a native had. The node shows the
-/// value, and a node shows a refused value in these two cases alone.
+/// was passed, and the value isn't of the wanted kind, or where the host's value isn't; or with a
+/// size of its own exactly where a limit was passed, by the value or by the first argument that a
+/// native had. The node shows the value, and a node shows a refused value in these cases alone.
 pub fn a_value_is_refused_for_its_kind_or_size<H: Host, B: Bodies>(session: &Session)
-    ensures kind { (f : Frame) (level : ℕ) (call : CallRequest) (node : CallNode) (before after : Moment H B) (cut : Bool) (wanted got : Bytes) (pos : Position) → Runs (objects_of allows_call allows_resume B.allows_start B.allows_next H.allows_missing (natives_of session.now)) (world_of info session.now) f level call node before after cut → IsOwn (seen node).end (ErrorMismatchOutputType wanted got pos) ↔ RefusesKind (objects_of allows_call allows_resume B.allows_start B.allows_next H.allows_missing (natives_of session.now)) (world_of info session.now) f (seen node) (ErrorMismatchOutputType wanted got pos) }
+    ensures kind { (f : Frame) (level : ℕ) (call : CallRequest) (node : CallNode) (before after : Moment H B) (cut : Bool) (wanted got : Bytes) (pos : Position) → Runs (objects_of allows_call allows_resume B.allows_start B.allows_next H.allows_missing (natives_of session.now)) (world_of info session.now) f level call node before after cut → IsOwn (seen node).end (ErrorMismatchOutputType wanted got pos) ↔ (RefusesKind (objects_of allows_call allows_resume B.allows_start B.allows_next H.allows_missing (natives_of session.now)) (world_of info session.now) f (seen node) (ErrorMismatchOutputType wanted got pos) ⊎ RefusesHosts (objects_of allows_call allows_resume B.allows_start B.allows_next H.allows_missing (natives_of session.now)) (seen node) (ErrorMismatchOutputType wanted got pos)) }
     ensures size { (f : Frame) (level : ℕ) (call : CallRequest) (node : CallNode) (before after : Moment H B) (cut : Bool) (what : Bytes) (pos : Position) → Runs (objects_of allows_call allows_resume B.allows_start B.allows_next H.allows_missing (natives_of session.now)) (world_of info session.now) f level call node before after cut → IsOwn (seen node).end (ErrorDataTooLarge what pos) ↔ RefusesSize (objects_of allows_call allows_resume B.allows_start B.allows_next H.allows_missing (natives_of session.now)) (world_of info session.now) f (seen node) (ErrorDataTooLarge what pos) }
     ensures refused { (f : Frame) (level : ℕ) (call : CallRequest) (node : CallNode) (before after : Moment H B) (cut : Bool) (value : Tree) → Runs (objects_of allows_call allows_resume B.allows_start B.allows_next H.allows_missing (natives_of session.now)) (world_of info session.now) f level call node before after cut → ((seen node).end.refused ≡ Some value) ↔ RefusesValue (objects_of allows_call allows_resume B.allows_start B.allows_next H.allows_missing (natives_of session.now)) (world_of info session.now) f (seen node) value }
 {}
