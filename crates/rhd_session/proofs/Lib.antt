@@ -2,6 +2,7 @@ pub mod Registers
 pub mod HeldLaws
 pub mod Stepped
 pub mod Found
+pub mod Unpicked
 pub mod Stack
 pub mod Lists
 pub mod Tables

@@ -7,7 +7,7 @@ use Rattle.rhd_session.proofs.session.Session.run.Goals as goal
 pub returns-then-is_err-clause-stopped : goal.returns-then-is_err-clause-stopped
 returns-then-is_err-clause-stopped g c =
     let h : c.loop-command.command-index ≤ length c.args.commands.now = omega arith in (
-      moment_of c.loop-command.self c.loop-command.bodies,
+      moment_of c.loop-command.self c.loop-command.host c.loop-command.bodies,
       stopped_at _ _ _ _ c.args.commands.now c.loop-command.command-index c.loop-command.replies.items c.from_vec.result _ _ _ _ _ h (c.from_vec.ensures ∙ c.reserve.ensures.items) refl refl c.loop-command.invariant.answered,
       omega arith,
       stopped_before _ _ _ _ c.args.commands.now c.loop-command.command-index c.loop-command.replies.items c.from_vec.result _ _ _ c.loop-command-test.true (c.from_vec.ensures ∙ c.reserve.ensures.items) c.loop-command.invariant.answered,
@@ -16,7 +16,7 @@ returns-then-is_err-clause-stopped g c =
 pub returns-in-Err-clause-stopped : goal.returns-in-Err-clause-stopped
 returns-in-Err-clause-stopped g c =
     let h : c.loop-command.command-index ≤ length c.args.commands.now = omega arith in (
-      moment_of c.loop-command.self c.loop-command.bodies,
+      moment_of c.loop-command.self c.loop-command.host c.loop-command.bodies,
       stopped_at _ _ _ _ c.args.commands.now c.loop-command.command-index c.loop-command.replies.items c.from_vec-in-Err.result _ _ _ _ _ h (c.from_vec-in-Err.ensures ∙ c.reserve.ensures.items) c.in-Err.ensures.failed.0 c.in-Err.ensures.failed.1 c.loop-command.invariant.answered,
       c.in-Err.ensures.rises,
       stopped_before _ _ _ _ c.args.commands.now c.loop-command.command-index c.loop-command.replies.items c.from_vec-in-Err.result _ _ _ c.loop-command-test.true (c.from_vec-in-Err.ensures ∙ c.reserve.ensures.items) c.loop-command.invariant.answered,

@@ -67,7 +67,7 @@ pub loop-hand-preserved : goal.loop-hand-preserved
 loop-hand-preserved g c =
     let going = rw (c.in-Answered.is, c.in-Some.ensures.items) at c.loop-hand.invariant.going in
     record {
-      going = c.in_ok-hand-in-Answered.ensures.going c.args.call (moment c.args.begun.now c.args.host.now c.args.bodies.now) c.loop-hand.begun going;
+      going = c.in_ok-hand-in-Answered.ensures.going c.args.call (moment c.args.begun.now c.args.host.now c.args.bodies.now) c.loop-hand.begun c.loop-hand.host going;
       within = c.loop-hand.invariant.within;
       rises = c.loop-hand.invariant.rises;
     }
