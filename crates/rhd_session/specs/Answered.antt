@@ -36,5 +36,5 @@ abbrev pub Answered : {H B : Type 0} → Objects H B → World → Frame → Mom
 Answered o w f before [] [] w2 f2 after = (w2 ≡ w) × (f2 ≡ f) × (after ≡ before)
 Answered o w f before [] (reply ∷ replies) w2 f2 after = ⊥
 Answered o w f before (command ∷ commands) [] w2 f2 after = ⊥
-Answered {B} o w f before (command ∷ commands) (reply ∷ replies) w2 f2 after =
+Answered {H} {B} o w f before (command ∷ commands) (reply ∷ replies) w2 f2 after =
     (w1 : World) × (f1 : Frame) × (mid : Moment H B) × Replied o w f before command reply w1 f1 mid × Answered o w1 f1 mid commands replies w2 f2 after

@@ -17,4 +17,4 @@ pub record HostEnds {H B : Type 0} (o : Objects H B) (call : CallRequest) (from 
 
 -- the call is one for the host, and ends so
 abbrev pub EndsByHost : {H B : Type 0} → Objects H B → EngineLists → Frame → ℕ → CallRequest → H → H → End → Type 0
-EndsByHost o e f level call from to end = IsForHost e f level call × ((answer : HostAnswer) × HostEnds o call from answer to end)
+EndsByHost o e f level call from to end = IsForHost e f level call × (answer : HostAnswer) × HostEnds o call from answer to end

@@ -39,7 +39,7 @@ pub data Requests {H B : Type 0} (o : Objects H B) (w : World) (f : Frame) (leve
 
 -- The function that a node shows starts on what it receives, and its requests are the node's children, in order.
 abbrev pub ShowsRequests : {H B : Type 0} → Objects H B → World → Frame → Seen → Pick → Bool → Type 0
-ShowsRequests {B} o w f node pick cut =
+ShowsRequests {H} {B} o w f node pick cut =
     let plan = plan_of node.call in
     (before : Moment H B) × (first : NativeStep) × (after : Moment H B) × Starts o (context f node.level plan) pick.func (received_by plan pick) before first after
     × Requests o w f node.level node.call plan pick first node.carries node.children node.end cut

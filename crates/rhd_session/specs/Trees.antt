@@ -21,7 +21,7 @@ frame_at f (is_below {root = root} among inner) = frame_at (entered f (seen root
 
 -- the node's call runs in this frame at its level, between some moments
 abbrev pub RunsAt : {H B : Type 0} → Objects H B → World → Frame → CallNode → Type 0
-RunsAt {B} o w f node = (before : Moment H B) × (after : Moment H B) × (cut : Bool) × Runs o w f (seen node).level (seen node).call node before after cut
+RunsAt {H} {B} o w f node = (before : Moment H B) × (after : Moment H B) × (cut : Bool) × Runs o w f (seen node).level (seen node).call node before after cut
 
 -- every call of a tree was begun
 abbrev pub AllBegun : CallNode → Type 0
