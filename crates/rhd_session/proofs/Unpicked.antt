@@ -1,18 +1,24 @@
 -- What becomes of a call for which no function is found.
-use Rattle.std.proofs.Common.{◌≡◌, ℕ, ◌<◌, Bool, true, false, [], refl, sym, ap, subst}
-use Rattle.std.specs.Prelude.{Option, None}
+use Rattle.std.proofs.Common.{◌≡◌, ℕ, ◌<◌, Bool, true, false, [], refl, sym, ap, subst, ◌∙◌}
+use Rattle.std.specs.Prelude.{Option, None, Err}
+use Rattle.rhd_value.specs.Tree.{Tree}
+use Rattle.rhd_value.specs.declared.fault.EvalAltResult.{EvalAltResult}
 use Rattle.rhd_func.specs.declared.request.CallRequest.{CallRequest}
+use Rattle.rhd_func.specs.declared.request.CallRequest.TheVariants.{Named}
 use Rattle.rhd_func.specs.declared.request.HostAnswer.{HostAnswer}
-use Rattle.rhd_func.specs.Shapes.{all_args, is_method_shape}
+use Rattle.rhd_func.specs.declared.request.HostAnswer.TheVariants.{Nothing, Value, Fault}
+use Rattle.rhd_func.specs.Shapes.{all_args, given, is_method_shape}
 use Rattle.rhd_session.specs.Engine.{Frame}
 use Rattle.rhd_session.specs.World.{World, Objects, Moment, one_begun}
 use Rattle.rhd_session.specs.declared.node.CallNode.{CallNode}
+use Rattle.rhd_session.specs.declared.ends.End.{End}
+use Rattle.rhd_session.specs.declared.node.Whose.TheVariants.{Host}
 use Rattle.rhd_session.specs.declared.pick.Pick.{Pick}
 use Rattle.rhd_session.specs.Plans.{only_natives, plan_of}
 use Rattle.rhd_session.specs.NotFound.{not_found}
-use Rattle.rhd_session.specs.Ends.{failed, host_end}
+use Rattle.rhd_session.specs.Ends.{failed, accepted, host_end}
 use Rattle.rhd_session.specs.Decisions.{pick_of, refusal}
-use Rattle.rhd_session.specs.Seen.{seen, begun_node}
+use Rattle.rhd_session.specs.Seen.{Seen, seen, begun_node}
 use Rattle.rhd_session.specs.Runs.{Runs, ended, host_answered}
 use Rattle.rhd_session.proofs.Found.{decided_ends, decided_asks}
 
@@ -32,3 +38,27 @@ module _ {H B : Type 0} (o : Objects H B) (w : World) (f : Frame) (level : ℕ) 
         | false ↦ (λ e. let a = asked e in host_answered within (decided_asks w.engine f level call unrefused e none) a.1 a.2)
       ] in
       by (only_natives (plan_of call).search) refl
+
+plan_given : (call : CallRequest) → given call ≡ (plan_of call).given
+plan_given (Named name token native_only shape want pos) = refl
+
+-- how a call ends with each answer of the host
+abbrev answered_node : CallRequest → ℕ → HostAnswer → Seen
+answered_node call level answer = begun_node call level None [] [] (host_end (plan_of call) answer)
+
+pub nothing_ends : (call : CallRequest) (level : ℕ) (answer : HostAnswer) (node : CallNode) → answer ≡ Nothing → seen node ≡ begun_node call level None [] [] (failed (plan_of call).given (not_found (plan_of call).pos (plan_of call).name (all_args (plan_of call).shape)))
+    → seen node ≡ begun_node call level None [] [] (host_end (plan_of call) answer)
+unfolding host_end
+nothing_ends call level answer node is s = s ∙ ap (answered_node call level) (sym is)
+
+pub value_ends : (call : CallRequest) (level : ℕ) (answer : HostAnswer) (v : Tree) (first : Option Tree) (end : End) (node : CallNode) → answer ≡ Value v → first ≡ given call → end ≡ accepted (plan_of call) Host first v → seen node ≡ begun_node call level None [] [] end
+    → seen node ≡ begun_node call level None [] [] (host_end (plan_of call) answer)
+unfolding host_end
+value_ends call level answer v first end node is f e s =
+    s ∙ ap (λ (x : End). begun_node call level None [] [] x) (e ∙ ap (λ (x : Option Tree). accepted (plan_of call) Host x v) (f ∙ plan_given call)) ∙ ap (answered_node call level) (sym is)
+
+pub fault_ends : (call : CallRequest) (level : ℕ) (answer : HostAnswer) (fault : EvalAltResult) (first : Option Tree) (node : CallNode) → answer ≡ Fault fault → first ≡ given call → seen node ≡ begun_node call level None [] [] (record { answer = Err fault; whose = Host; first_after = first; printed = None; refused = None })
+    → seen node ≡ begun_node call level None [] [] (host_end (plan_of call) answer)
+unfolding host_end
+fault_ends call level answer fault first node is f s =
+    s ∙ ap (λ (x : Option Tree). begun_node call level None [] [] (record { answer = Err fault; whose = Host; first_after = x; printed = None; refused = None })) (f ∙ plan_given call) ∙ ap (answered_node call level) (sym is)

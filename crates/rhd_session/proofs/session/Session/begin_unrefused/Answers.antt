@@ -25,4 +25,4 @@ pub returns-in_ok-unpicked-in-None : goal.returns-in_ok-unpicked-in-None
 unfolding world_of objects_of
 returns-in_ok-unpicked-in-None g c = λ n begun within unrefused.
     let none = sym c.in-None.is ∙ c.in_ok-pick.ensures.pick ∙ sym (pick_entered (world_of (λ z. (goal.PluginFunc-dyn g z).info z.1) c.args.self.now).engine (frame_of c.args.self.now) n c.args.call) in
-    it_is_answered (unpicked_runs _ _ (entered (frame_of c.args.self.now) n) c.args.level c.args.call c.in_ok-unpicked-in-None.ok (moment begun c.args.host.now c.args.bodies.now) c.unpicked.new.host within unrefused none c.in_ok-unpicked-in-None.ensures.alone c.in_ok-unpicked-in-None.ensures.asked)
+    it_is_answered (unpicked_runs _ _ (entered (frame_of c.args.self.now) n) c.args.level c.args.call _ (moment begun c.args.host.now c.args.bodies.now) c.unpicked.new.host within unrefused none c.in_ok-unpicked-in-None.ensures.alone c.in_ok-unpicked-in-None.ensures.asked)
