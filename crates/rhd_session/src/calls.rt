@@ -28,13 +28,15 @@ use crate::machine::{Hand, Outcome, Suspended, Work, cut, joined, put, settle};
 use crate::node::{CallNode, Carries, Nodes, Whose};
 use crate::pick::Pick;
 use crate::plan::{name_of, native_only_of, position_of, shape_of, token_of};
-use crate::received::{Received, all_args, context, context_if, given, is_method_shape, receive, receives_constant};
+use crate::received::{
+    Received, all_args, context, context_if, given, is_method_shape, receive, receives_constant,
+};
 use crate::refusal::refusal;
 use crate::search::{find, script_key_of, typed_key_of};
 use crate::session::Session;
 use rhd_func::{
-    Bodies, CallDone, CallRequest, CallShape, Carry, Host, HostAnswer, NativeCallContext, NativeStep,
-    RhaiFunc,
+    Bodies, CallDone, CallRequest, CallShape, Carry, Host, HostAnswer, NativeCallContext,
+    NativeStep, RhaiFunc,
 };
 use rhd_module::Key;
 use rhd_value::{EvalAltResult, OutOfMemory, Text};

@@ -24,8 +24,7 @@ pub use builtins::{Builtins, Operator};
 pub use command::{Command, Commands, ModuleId};
 pub use law::{
     a_call_is_answered_by_the_first_declaration, a_call_shows_its_first_argument,
-    a_constant_ends_the_call,
-    a_locked_argument_ends_the_call, a_node_shows_the_first_declaration,
+    a_constant_ends_the_call, a_locked_argument_ends_the_call, a_node_shows_the_first_declaration,
     a_spent_budget_ends_the_tree, a_value_is_refused_for_its_kind_or_size,
     each_call_of_a_tree_runs_by_itself, each_call_of_a_tree_shows_the_first_declaration,
     the_calls_begun_are_counted_by_the_tree, the_children_of_a_node_are_its_requests,
