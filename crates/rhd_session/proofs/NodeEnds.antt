@@ -1,6 +1,9 @@
 -- How each call of a tree ends.
 use Rattle.std.proofs.Common.{◌≡◌, ℕ, ◌<◌, ◌≤◌, Bool, true, false, ltb, List, [], refl, sym, ap, ◌∙◌, subst, ◌⊎◌, inl, inr, arith}
-use Rattle.std.specs.Prelude.{◌↔◌, if◌then◌else◌, Option, None, Some, Err}
+use Rattle.std.specs.Prelude.{◌↔◌, ◌∷◌, if◌then◌else◌, Option, None, Some, Err, map, drop, nat_eq, codes, unwrap_or}
+use Rattle.std.specs.List.{starts_with}
+use Rattle.rhd_value.specs.Firsts.{first_some, where_holds}
+use Rattle.rhd_value.specs.Same.{text_eq}
 use Rattle.std.proofs.lemmas.Bool.{ltb-true, ltb-false}
 use Rattle.rhd_value.specs.Tree.{Bytes, Tree}
 use Rattle.rhd_value.specs.Kinds.{type_name}
@@ -28,10 +31,10 @@ use Rattle.rhd_session.specs.declared.limits.Limits.{Limits}
 use Rattle.rhd_session.specs.declared.node.CallNode.{CallNode}
 use Rattle.rhd_session.specs.declared.node.Whose.TheVariants.{Call, Called, Host}
 use Rattle.rhd_session.specs.declared.pick.Pick.{Pick}
-use Rattle.rhd_session.specs.Display.{display}
+use Rattle.rhd_session.specs.Display.{display, signature}
 use Rattle.rhd_session.specs.Plans.{Plan, plan_of}
 use Rattle.rhd_session.specs.Received.{manner_of, has_the_given}
-use Rattle.rhd_session.specs.NotFound.{not_found}
+use Rattle.rhd_session.specs.NotFound.{get_index, set_index, get_property, set_property, not_found}
 use Rattle.rhd_session.specs.Ends.{failed, refusing, first_at_end, end_of}
 use Rattle.rhd_session.specs.Decisions.{locked_place, refusal, constant_end}
 use Rattle.rhd_session.specs.Decisions as decisions
@@ -122,8 +125,43 @@ no_fault : {fault own : EvalAltResult} (end : End) → end.answer ≡ Err own �
 no_fault end e h n = n (ap number (not_own end e h))
 
 -- the fault of a call that isn't found is one of the first four
+get_index_number : (pos : Position) (ts : List Bytes) → number (get_index pos ts) ≤ 4
+get_index_number pos [] = omega arith
+get_index_number pos (a ∷ []) = omega arith
+get_index_number pos (a ∷ b ∷ []) = omega arith
+get_index_number pos (a ∷ b ∷ c ∷ ts) = omega arith
+
+set_index_number : (pos : Position) (ts : List Bytes) → number (set_index pos ts) ≤ 4
+set_index_number pos [] = omega arith
+set_index_number pos (a ∷ []) = omega arith
+set_index_number pos (a ∷ b ∷ []) = omega arith
+set_index_number pos (a ∷ b ∷ c ∷ []) = omega arith
+set_index_number pos (a ∷ b ∷ c ∷ d ∷ ts) = omega arith
+
+get_property_number : (pos : Position) (prop : Bytes) (ts : List Bytes) → number (get_property pos prop ts) ≤ 4
+get_property_number pos prop [] = omega arith
+get_property_number pos prop (a ∷ []) = omega arith
+get_property_number pos prop (a ∷ b ∷ ts) = omega arith
+
+set_property_number : (pos : Position) (prop : Bytes) (ts : List Bytes) → number (set_property pos prop ts) ≤ 4
+set_property_number pos prop [] = omega arith
+set_property_number pos prop (a ∷ []) = omega arith
+set_property_number pos prop (a ∷ b ∷ []) = omega arith
+set_property_number pos prop (a ∷ b ∷ c ∷ ts) = omega arith
+
+-- by the tests of the name
+named_number : (pos : Position) (prop : Bytes) (ts : List Bytes) (last : EvalAltResult) (i j g s : Bool) → number last ≤ 4
+    → number (unwrap_or (first_some (where_holds i (get_index pos ts) ∷ where_holds j (set_index pos ts) ∷ where_holds g (get_property pos prop ts) ∷ where_holds s (set_property pos prop ts) ∷ [])) last) ≤ 4
+named_number pos prop ts last true j g s h = get_index_number pos ts
+named_number pos prop ts last false true g s h = set_index_number pos ts
+named_number pos prop ts last false false true s h = get_property_number pos prop ts
+named_number pos prop ts last false false false true h = set_property_number pos prop ts
+named_number pos prop ts last false false false false h = h
+
 missing_number : (pos : Position) (name : Bytes) (args : List Tree) → number (not_found pos name args) ≤ 4
-missing_number pos name args = omega arith
+unfolding not_found
+missing_number pos name args =
+    named_number pos (drop 4 name) (map display args) (ErrorFunctionNotFound (signature name args) pos) (text_eq name (codes "index$get$")) (text_eq name (codes "index$set$")) (starts_with nat_eq name (codes "get$")) (starts_with nat_eq name (codes "set$")) (omega arith)
 
 no_unfound : (plan : Plan) {fault : EvalAltResult} (end : End) → end ≡ failed plan.given (not_found plan.pos plan.name (all_args plan.shape)) → IsOwn end fault → (number fault ≤ 4 → ⊥) → ⊥
 no_unfound plan {fault} end e h n =

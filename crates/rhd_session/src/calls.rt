@@ -22,9 +22,9 @@ ghost use Rattle.rhd_session.specs.Steps.{Starts, Resumes};
 ghost use Rattle.rhd_session.specs.Runs.{Runs, received_by};
 ghost use Rattle.rhd_session.specs.Waits.{Open, Comes_to, Going, Cutting, weight};
 
-use crate::display::signature;
 use crate::ends::{End, accepted};
 use crate::machine::{Hand, Outcome, Suspended, Work, cut, joined, put, settle};
+use crate::missing::not_found;
 use crate::node::{CallNode, Carries, Nodes, Whose};
 use crate::pick::Pick;
 use crate::plan::{name_of, native_only_of, position_of, shape_of, token_of};
@@ -424,8 +424,7 @@ fn answered_by_host(
 fn missing(alloc: Global, call: CallRequest, level: u32) -> Result<CallNode, OutOfMemory>
     ensures { IfOk result (λ node. seen node ≡ begun_node call level None [] [] (failed (plan_of call).given (not_found (plan_of call).pos (plan_of call).name (all_args (plan_of call).shape)))) }
 {
-    let signature = signature(alloc, name_of(&call), shape_of(&call))?;
-    let fault = EvalAltResult::ErrorFunctionNotFound(signature, position_of(&call));
+    let fault = not_found(alloc, &call)?;
     CallNode::failed(alloc, call, level, None, fault)
 }
 

@@ -10,6 +10,7 @@ mod ends;
 mod law;
 mod limits;
 mod machine;
+mod missing;
 mod node;
 mod patterns;
 mod pick;
