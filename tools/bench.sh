@@ -1,8 +1,13 @@
 #!/usr/bin/env bash
 # Times the program on texts of 20,000 and 200,000 lines, half of them `register` and half `call`,
-# over few names; on one call whose native asks 10,000 and 100,000 others; and on texts of wide and
-# deep values of 0.3 and 3 MB, which are read, passed to natives, and printed. Prints the seconds of
-# both sizes and their ratio, which is near 10 where it is linear.
+# over few names; on one call whose native asks 10,000 and 100,000 others; on texts of wide and deep
+# values of 0.3 and 3 MB, which are read, passed to natives, and printed; on 10,000 and 100,000 calls
+# of a name with three overloads; on as many calls that find a native with parameters of any type;
+# and on 1,000 and 10,000 calls with seventeen arguments that aren't found. Prints the seconds of both
+# sizes and their ratio, which is near 10 where it is linear, and how many calls that is in a second.
+#
+# tools/bench.sh [TWIN]: where another program of the same words is given, it is timed beside this one
+# on the texts that its words `gen-run KIND COUNT SEED` print, of the kinds whose lines stand.
 set -eu
 top=$(cd "$(dirname "$0")/.." && pwd)
 work=$(mktemp -d)
@@ -18,10 +23,11 @@ text() {
     }'
 }
 
+# The seconds of a program, this one if none is named, on a text.
 seconds() {
     local start end
     start=$(date +%s%N)
-    "$top/rhd" run <"$1" >"$work/out"
+    "${2:-$top/rhd}" run <"$1" >"$work/out"
     end=$(date +%s%N)
     awk -v ns=$((end - start)) 'BEGIN { printf "%.3f", ns / 1e9 }'
 }
@@ -29,7 +35,7 @@ seconds() {
 best() {
     local least='' i now
     for i in 1 2 3 4 5; do
-        now=$(seconds "$1")
+        now=$(seconds "$@")
         least=$(awk -v a="${least:-$now}" -v b="$now" 'BEGIN { print (a < b) ? a : b }')
     done
     echo "$least"
@@ -54,12 +60,35 @@ values() {
     }'
 }
 
+overloads() {
+    awk -v calls="$1" 'BEGIN {
+        print "register f 1\nregister f 6\nregister f 9"
+        for (i = 0; i < calls; i++) print "call f " (i % 3 ? (i % 3 == 1 ? "\"t" i "\"" : "[" i "]") : i)
+    }'
+}
+
+any_type() {
+    awk -v calls="$1" 'BEGIN {
+        print "register f 4\nregister f 5\nregister f 17"
+        for (i = 0; i < calls; i++) print "call f " (i % 3 ? (i % 3 == 1 ? "true \047c\047" : i " true") : "() ()")
+    }'
+}
+
+not_found() {
+    awk -v calls="$1" 'BEGIN {
+        print "register f 14"
+        for (i = 0; i < 16; i++) ints = ints " 1"
+        for (i = 0; i < calls; i++) print "call f" ints " \047a\047"
+    }'
+}
+
 compare() {
     local small large
     small=$(best "$work/small")
     large=$(best "$work/large")
-    printf '%-32s %8s s\n' "$1, $2" "$small" "$1, $3" "$large"
-    awk -v a="$small" -v b="$large" 'BEGIN { printf "%-32s %8.2f\n", "ratio", b / a }'
+    printf '%-40s %8s s\n' "$1, $2" "$small" "$1, $3" "$large"
+    awk -v a="$small" -v b="$large" 'BEGIN { printf "%-40s %8.2f\n", "ratio", b / a }'
+    awk -v n="${3//,/}" -v b="$large" 'BEGIN { printf "%-40s %8d\n", "in a second", n / b }'
 }
 
 text 20000 >"$work/small"
@@ -71,3 +100,33 @@ compare 'calls asked by one native' 10,000 100,000
 values 100 >"$work/small"
 values 1000 >"$work/large"
 compare 'lines of values' 100 1,000
+overloads 10000 >"$work/small"
+overloads 100000 >"$work/large"
+compare 'calls of three overloads' 10,000 100,000
+any_type 10000 >"$work/small"
+any_type 100000 >"$work/large"
+compare 'calls of natives for any type' 10,000 100,000
+not_found 1000 >"$work/small"
+not_found 10000 >"$work/large"
+compare 'calls of 17 arguments not found' 1,000 10,000
+
+# Times both programs on a kind of text, of two counts.
+beside() {
+    local kind=$1 small=$2 large=$3 ours_small ours_large twin_small twin_large
+    "$twin" gen-run "$kind" "$small" 1 >"$work/small"
+    "$twin" gen-run "$kind" "$large" 1 >"$work/large"
+    ours_small=$(best "$work/small" "$program")
+    twin_small=$(best "$work/small" "$twin")
+    ours_large=$(best "$work/large" "$program")
+    twin_large=$(best "$work/large" "$twin")
+    printf '%-10s %8s %8s s, the twin %8s %8s s\n' "$kind" "$ours_small" "$ours_large" "$twin_small" "$twin_large"
+    awk -v a="$ours_small" -v b="$ours_large" -v c="$twin_small" -v d="$twin_large" \
+        'BEGIN { printf "%-10s %8.2f growth, %8.2f times the twin, which grows %.2f\n", "", b / a, b / d, d / c }'
+}
+
+if [ $# -gt 0 ]; then
+    twin=$1
+    program=$top/crates/rhd_tool/out/rhd_tool
+    beside calls 20000 200000
+    beside values 3000 30000
+fi

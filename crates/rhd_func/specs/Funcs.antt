@@ -4,6 +4,18 @@ use Rattle.rhd_value.specs.declared.tag.FnId.{FnId}
 use Rattle.rhd_func.specs.declared.func.RhaiFunc.{RhaiFunc}
 use Rattle.rhd_func.specs.declared.func.RhaiFunc.TheVariants.{Pure, Method, Script}
 
+-- whether it may be called on a constant: one that takes all its arguments by value always may
+abbrev pub is_pure : RhaiFunc → Bool
+is_pure (Pure id context pure volatile) = true
+is_pure (Method id context pure volatile) = pure
+is_pure (Script def env) = false
+
+-- whether it may answer otherwise the next time
+abbrev pub is_volatile : RhaiFunc → Bool
+is_volatile (Pure id context pure volatile) = volatile
+is_volatile (Method id context pure volatile) = volatile
+is_volatile (Script def env) = true
+
 abbrev pub is_method : RhaiFunc → Bool
 is_method (Pure id context pure volatile) = false
 is_method (Method id context pure volatile) = true

@@ -1,5 +1,5 @@
 -- The arguments of a call.
-use Rattle.std.specs.Prelude.{List, ◌∷◌, Option, None, Some}
+use Rattle.std.specs.Prelude.{Bool, true, false, List, ◌∷◌, Option, None, Some}
 use Rattle.rhd_value.specs.Tree.{Tree}
 use Rattle.rhd_value.specs.declared.tag.Position.{Position}
 use Rattle.rhd_func.specs.declared.request.CallShape.{CallShape}
@@ -21,7 +21,13 @@ first_given (Method object args) = Some object
 
 -- the same of a request
 abbrev pub given : CallRequest → Option Tree
-given (Named name native_only shape want pos) = first_given shape
+given (Named name token native_only shape want pos) = first_given shape
 
 abbrev pub pos_of : CallRequest → Position
-pos_of (Named name native_only shape want pos) = pos
+pos_of (Named name token native_only shape want pos) = pos
+
+-- whether it is the call of a method, with an object
+abbrev pub is_method_shape : CallShape → Bool
+is_method_shape (Plain args) = false
+is_method_shape (ByRef first args) = false
+is_method_shape (Method object args) = true

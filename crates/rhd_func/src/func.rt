@@ -1,7 +1,7 @@
 //! The function that a declaration names.
 
 ghost use Rattle.std.specs.Prelude.{◌≡◌, IfOk};
-ghost use Rattle.rhd_func.specs.Funcs.{is_method, has_context, is_script, native_of};
+ghost use Rattle.rhd_func.specs.Funcs.{is_pure, is_volatile, is_method, has_context, is_script, native_of};
 
 use crate::access::{EnvId, FnAccess};
 use rhd_value::{FnId, OutOfMemory, Text, Texts};
@@ -92,6 +92,29 @@ pub enum RhaiFunc {
 }
 
 impl RhaiFunc {
+    /// Whether it may be called on a constant. One that takes all its arguments by value always
+    /// may. Of a script nothing of this kind is said.
+    pub fn is_pure(&self) -> bool
+        ensures { result ≡ is_pure self.now }
+    {
+        match self {
+            RhaiFunc::Pure { .. } => true,
+            RhaiFunc::Method { is_pure, .. } => *is_pure,
+            RhaiFunc::Script { .. } => false,
+        }
+    }
+
+    /// Whether it may answer otherwise the next time. A script always may.
+    pub fn is_volatile(&self) -> bool
+        ensures { result ≡ is_volatile self.now }
+    {
+        match self {
+            RhaiFunc::Pure { is_volatile, .. } => *is_volatile,
+            RhaiFunc::Method { is_volatile, .. } => *is_volatile,
+            RhaiFunc::Script { .. } => true,
+        }
+    }
+
     /// Whether it is a native that takes its first argument by reference.
     pub fn is_method(&self) -> bool
         ensures { result ≡ is_method self.now }

@@ -5,6 +5,7 @@
 mod access;
 mod bodies;
 mod func;
+mod host;
 mod native;
 mod natives;
 mod request;
@@ -12,6 +13,9 @@ mod request;
 pub use access::{EnvId, FnAccess, FnNamespace};
 pub use bodies::Bodies;
 pub use func::{BodyId, RhaiFunc, ScriptFuncDef, SharedDef};
+pub use host::Host;
 pub use native::PluginFunc;
 pub use natives::Natives;
-pub use request::{CallDone, CallRequest, CallShape, Carry, NativeCallContext, NativeStep};
+pub use request::{
+    CallDone, CallRequest, CallShape, Carry, HostAnswer, NativeCallContext, NativeStep,
+};

@@ -2,6 +2,7 @@
 
 ghost use Rattle.std.specs.Prelude.{IfOk, ◌≡◌};
 
+use rhd_names::OpToken;
 use rhd_value::{Dynamic, EvalAltResult, OutOfMemory, Position, Text, TypeTag, Values};
 use std::alloc::Global;
 
@@ -22,6 +23,8 @@ pub enum CallRequest {
     /// A call by name.
     Named {
         name: Text,
+        /// The token that the name is, if it is one.
+        token: Option<OpToken>,
         /// Whether only natives may answer.
         native_only: bool,
         shape: CallShape,
@@ -56,12 +59,14 @@ impl CallRequest {
         match self {
             CallRequest::Named {
                 name,
+                token,
                 native_only,
                 shape,
                 want,
                 pos,
             } => Ok(CallRequest::Named {
                 name: name.dup(alloc)?,
+                token: *token,
                 native_only: *native_only,
                 shape: shape.dup(alloc)?,
                 want: *want,
@@ -120,6 +125,15 @@ pub enum NativeStep {
         request: CallRequest,
         carry: Carry,
     },
+}
+
+/// What the host answers to a call that no function answers.
+#[derive(Drop)]
+pub enum HostAnswer {
+    /// It has none.
+    Nothing,
+    Value(Dynamic),
+    Fault(EvalAltResult),
 }
 
 /// What a native may know of the call.

@@ -1,3 +1,5 @@
 pub mod Puts
 pub mod FirstFound
 pub mod PutIn
+pub mod Noted
+pub mod Places

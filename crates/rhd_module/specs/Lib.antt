@@ -3,3 +3,5 @@ pub mod Tree
 pub mod Shown
 pub mod Registered
 pub mod FirstDeclarations
+pub mod Matching
+pub mod Natives

@@ -1,11 +1,14 @@
 //! What a function is found by.
 
 ghost use Rattle.std.specs.Prelude.{◌≡◌, ◌++◌, IfOk, length};
+ghost use Rattle.std.specs.Option.{option_copied};
 ghost use Rattle.std.specs.Cmp.{partial_equiv_from_equiv};
 ghost use Rattle.std.specs.Hash as fed;
 ghost use Rattle.rhd_module.specs.Keys.{path_eq, key_eq, key_eq_equiv, key_name, key_params, key_input, key_alike};
+ghost use Rattle.rhd_module.specs.Matching.{types_match, key_matches};
+ghost use Rattle.rhd_module.specs.Natives.{native_name};
 
-use rhd_value::{OutOfMemory, Text, Texts, Types};
+use rhd_value::{OutOfMemory, Text, Texts, TypeTag, Types};
 use std::alloc::Global;
 use std::hash::{Hash, Hasher};
 
@@ -56,7 +59,39 @@ fn dup_path(alloc: Global, path: &Option<Texts>) -> Result<Option<Texts>, OutOfM
     }
 }
 
+/// Whether each type is its kind, or, behind the first ones, `Dynamic`.
+fn types_match(exact: usize, types: &[TypeTag], kinds: &[TypeTag]) -> bool
+    ensures { result ≡ types_match exact types.now kinds.now }
+{
+    match types {
+        [] => kinds.is_empty(),
+        [first, more @ ..] => match kinds {
+            [] => false,
+            [kind, others @ ..] => {
+                let any = exact == 0 && *first == TypeTag::Dynamic;
+                (*first == *kind || any) && types_match(exact.saturating_sub(1), more, others)
+            }
+        },
+    }
+}
+
 impl Key {
+    /// Whether it is that of a native of this name, without a path, each of whose types is the
+    /// argument's kind, or, behind the first `exact` ones, `Dynamic`.
+    pub fn matches(&self, exact: usize, name: &Text, kinds: &[TypeTag]) -> bool
+        ensures { result ≡ key_matches exact name.now kinds.now self.now }
+    {
+        match self {
+            Key::Script { .. } => false,
+            Key::Typed { .. } => false,
+            Key::Native {
+                path,
+                name: own,
+                types,
+            } => path.is_none() && (*own == *name && types_match(exact, types.as_slice(), kinds)),
+        }
+    }
+
     /// An equal key.
     pub fn dup(&self, alloc: Global) -> Result<Key, OutOfMemory>
         ensures { IfOk result (λ key. key ≡ self.now) }
@@ -94,6 +129,17 @@ impl Key {
             Key::Script { name, .. } => name,
             Key::Typed { name, .. } => name,
             Key::Native { name, .. } => name,
+        }
+    }
+
+    /// The name of a native, where the key has no path.
+    pub(crate) fn native_name(&self) -> Option<&Text>
+        ensures { option_copied result ≡ native_name self.now }
+    {
+        match self {
+            Key::Script { .. } => None,
+            Key::Typed { .. } => None,
+            Key::Native { path, name, .. } => { if path.is_none() { Some(name) } else { None } }
         }
     }
 

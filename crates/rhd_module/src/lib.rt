@@ -6,6 +6,7 @@ mod fault;
 mod key;
 mod law;
 mod module;
+mod natives;
 mod registration;
 mod shared;
 

@@ -1,17 +1,22 @@
 //! A module.
 
-ghost use Rattle.std.specs.Prelude.{◌≡◌, OnOk, OnErr, IfOk};
+ghost use Rattle.std.specs.Prelude.{◌≡◌, ℕ, List, ◌++◌, is_none, OnOk, OnErr, IfOk};
+ghost use Rattle.std.specs.Map.{lookup};
 ghost use Rattle.std.specs.Option.{option_copied, option_map};
 ghost use Rattle.rhd_module.specs.Tree.{empty_module};
 ghost use Rattle.rhd_module.specs.Shown.{own_decl};
-ghost use Rattle.rhd_module.specs.Registered.{with_decl, script_key, script_decl};
+ghost use Rattle.rhd_module.specs.Registered.{put, with_decl, script_key, script_decl};
+ghost use Rattle.rhd_module.specs.Keys.{key_eq};
+ghost use Rattle.rhd_module.specs.Matching.{may_match};
+ghost use Rattle.rhd_module.specs.Natives.{noted, place_at, matches_at};
 
 use crate::declaration::Declaration;
 use crate::key::Key;
+use crate::natives::Natives;
 use crate::registration::{script_declaration, script_key};
 use indexmap::IndexMap;
 use rhd_func::{RhaiFunc, SharedDef};
-use rhd_value::OutOfMemory;
+use rhd_value::{OutOfMemory, Text, TypeTag};
 use std::alloc::{AllocError, Global};
 use std::marker::Model;
 
@@ -19,14 +24,52 @@ use std::marker::Model;
 #[derive(Drop)]
 pub struct Module {
     declarations: IndexMap<Key, Declaration>,
+    /// Where the natives of a name stand among the declarations.
+    natives: Natives,
 }
 
 impl Model for Module {
     ghost use Rattle.rhd_module.specs.Tree.{ModuleTree};
+    ghost use Rattle.rhd_module.specs.Natives.{IsIndex};
 
     ghost Value = { ModuleTree };
 
     ghost view = { λ m. record { own = record { eager = m.declarations.entries } } };
+
+    ghost invariant = { λ m. IsIndex m.natives m.declarations.entries };
+}
+
+/// Puts a declaration under a key. Whether no equal key was there, so that it went last.
+#[tactic(auto, using(crate::proofs::Puts::put_is))]
+fn put(
+    declarations: &mut IndexMap<Key, Declaration>,
+    key: Key,
+    declaration: Declaration,
+) -> Result<bool, OutOfMemory>
+    ensures answer { IfOk result (λ last. last ≡ is_none (lookup (key_eq key) declarations.old.entries)) }
+    ensures ok { OnOk result (declarations.new.entries ≡ put key declaration declarations.old.entries) }
+    ensures err { OnErr result (declarations.new.entries ≡ declarations.old.entries) }
+{
+    let was = declarations.insert(key, declaration)?;
+    Ok(was.is_none())
+}
+
+/// Notes the place of a declaration under its name, if it is a native's without a path.
+fn note_place(
+    natives: &mut Natives,
+    declarations: &IndexMap<Key, Declaration>,
+    place: usize,
+) -> Result<(), OutOfMemory>
+    ensures ok { OnOk result ((name : List ℕ) → noted natives.new name ≡ noted natives.old name ++ place_at name declarations.now.entries place) }
+    ensures err { OnErr result ((name : List ℕ) → noted natives.new name ≡ noted natives.old name) }
+{
+    let Some((key, _declaration)) = declarations.get_index(place) else {
+        return Ok(());
+    };
+    match key.native_name() {
+        Some(name) => natives.note(*declarations.allocator(), name, place),
+        None => Ok(()),
+    }
 }
 
 impl Module {
@@ -36,17 +79,26 @@ impl Module {
     {
         Module {
             declarations: IndexMap::new(alloc),
+            natives: Natives::new(alloc),
         }
     }
 
     /// Puts a declaration under a key: an equal key keeps its place, else it goes last.
-    #[tactic(auto, using(crate::proofs::Puts::put_is))]
     pub fn set_fn(&mut self, key: Key, declaration: Declaration) -> Result<(), OutOfMemory>
         ensures ok { OnOk result (self.new ≡ with_decl key declaration self.old) }
         ensures err { OnErr result (self.new ≡ self.old) }
     {
-        self.declarations.insert(key, declaration)?;
-        Ok(())
+        let place = self.declarations.len();
+        if !put(&mut self.declarations, key, declaration)? {
+            return Ok(());
+        }
+        match note_place(&mut self.natives, &self.declarations, place) {
+            Ok(()) => Ok(()),
+            Err(OutOfMemory) => {
+                self.declarations.truncate(place);
+                Err(OutOfMemory)
+            }
+        }
     }
 
     /// The function that is declared under a key.
@@ -57,6 +109,29 @@ impl Module {
         match self.declarations.get(key) {
             Some(declaration) => Some(&declaration.func),
             None => None,
+        }
+    }
+
+    /// Whether a native is declared under this name each of whose types is the argument's kind, or,
+    /// behind the first `exact` ones, `Dynamic`.
+    pub fn may_match(&self, exact: usize, name: &Text, kinds: &[TypeTag]) -> bool
+        ensures { result ≡ may_match self.now exact name.now kinds.now }
+    {
+        for place in self.natives.places(name) {
+            if self.matches_at(*place, exact, name, kinds) {
+                return true;
+            }
+        }
+        false
+    }
+
+    /// Whether the declaration at a place has such a key.
+    fn matches_at(&self, place: usize, exact: usize, name: &Text, kinds: &[TypeTag]) -> bool
+        ensures { result ≡ matches_at self.now exact name.now kinds.now place }
+    {
+        match self.declarations.get_index(place) {
+            Some((key, _declaration)) => key.matches(exact, name, kinds),
+            None => false,
         }
     }
 

@@ -1,1 +1,2 @@
 pub mod EachToken
+pub mod Narrowed

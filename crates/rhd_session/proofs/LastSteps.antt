@@ -24,8 +24,11 @@ use Rattle.rhd_session.specs.declared.node.Whose.TheVariants.{Called}
 use Rattle.rhd_session.specs.declared.pick.Pick.{Pick}
 use Rattle.rhd_session.specs.Display.{display}
 use Rattle.rhd_session.specs.Plans.{Plan}
-use Rattle.rhd_session.specs.Ends.{refusing, not_wanted, too_large, first_at_end, first_too_large, unfit, done, handed_on, end_of}
-use Rattle.rhd_session.specs.Causes.{IsWithin, Passes, by_arrays, by_maps, by_texts, HasFirst, AreWithin, IsTooLarge, the_value, the_first, IsOfOtherKind}
+use Rattle.rhd_session.specs.Ends.{refusing, not_wanted, too_large, first_at_end, first_too_large, unfit, showing, done, handed_on, end_of}
+use Rattle.rhd_session.specs.Printed.{printer, no_text, printed_text, said}
+use Rattle.rhd_session.specs.Prints.{IsPrintable, Makes}
+use Rattle.rhd_session.specs.Causes.{IsWithin, Passes, by_arrays, by_maps, by_texts, HasFirst, AreWithin, IsTooLarge, the_value, the_first, IsOfOtherKind, IsMismatch, isnt_text, isnt_wanted}
+use Rattle.rhd_session.proofs.PrintedEnds.{makes_said, said_makes, untold, no_text_untold, unprinted, printable, printable_text}
 
 some_same : {A : Type 0} (a b : A) → Some a ≡ Some b → b ≡ a
 some_same a b h = cc
@@ -181,45 +184,74 @@ unwanted_other (Some kind) pos v fault h = let p = any_by kind pos v fault (tag_
 pub other_unwanted : (want : Option TypeTag) (pos : Position) (v : Tree) (kind : TypeTag) → IsOfOtherKind want kind v → not_wanted want pos v ≡ Some (ErrorMismatchOutputType (type_name kind) (display v) pos)
 other_unwanted want pos v kind h = ap (λ (o : Option TypeTag). not_wanted o pos v) h.0 ∙ kind_tested kind pos v h.1 ∙ kind_other kind pos v (tag_eq kind (tag_of v)) refl h.2
 
--- how a call ends whose function answered a value, by the two tests
+-- how a call ends whose function answered a value, by the tests: of sizes, of a text for a printer, and of its kind
 abbrev pub fits_end : Option Tree → Tree → End
-fits_end first v = record { answer = Ok v; whose = Called; first_after = first; refused = None }
+fits_end first v = record { answer = Ok v; whose = Called; first_after = first; printed = None; refused = None }
 
-abbrev done_from : Option Tree → Tree → Option EvalAltResult → Option EvalAltResult → End
-done_from first v (Some fault) other = refusing first v fault
-done_from first v None (Some fault) = refusing first v fault
-done_from first v None None = fits_end first v
+abbrev done_from : Option Tree → Tree → Option Bytes → Tree → Option EvalAltResult → Option EvalAltResult → Option EvalAltResult → End
+done_from first v shown made (Some fault) text other = refusing first v fault
+done_from first v shown made None (Some fault) other = refusing first v fault
+done_from first v shown made None None (Some fault) = showing shown (refusing first made fault)
+done_from first v shown made None None None = showing shown (fits_end first made)
 
-done_is : (first : Option Tree) (v : Tree) (o p : Option EvalAltResult) →
-    ◌≡◌ {A = End} (elim o as (λ _. End) [ None ↦ elim p as (λ _. End) [ None ↦ fits_end first v | Some fault ↦ refusing first v fault ] | Some fault ↦ refusing first v fault ]) (done_from first v o p)
-done_is first v (Some fault) p = refl
-done_is first v None (Some fault) = refl
-done_is first v None None = refl
+done_is : (first : Option Tree) (v : Tree) (shown : Option Bytes) (made : Tree) (o t p : Option EvalAltResult) →
+    ◌≡◌ {A = End}
+    (elim o as (λ _. End) [
+      | None ↦ elim t as (λ _. End) [ None ↦ showing shown (elim p as (λ _. End) [ None ↦ fits_end first made | Some fault ↦ refusing first made fault ]) | Some fault ↦ refusing first v fault ]
+      | Some fault ↦ refusing first v fault
+    ])
+    (done_from first v shown made o t p)
+done_is first v shown made (Some fault) t p = refl
+done_is first v shown made None (Some fault) p = refl
+done_is first v shown made None None (Some fault) = refl
+done_is first v shown made None None None = refl
 
-pub done_tests : (limits : Limits) (plan : Plan) (pick : Pick) (back : Option Tree) (v : Tree) → done limits plan pick back v ≡ done_from (first_at_end plan pick back) v (unfit limits plan pick back v) (not_wanted plan.want plan.pos v)
-done_tests limits plan pick back v = done_is (first_at_end plan pick back) v (unfit limits plan pick back v) (not_wanted plan.want plan.pos v)
+-- the text that a call prints, and what it makes of its function's value
+abbrev pub shown_by : EngineLists → Plan → Pick → Tree → Option Bytes
+shown_by e plan pick v = printed_text (printer e.printers plan pick) v
+
+abbrev made_by : EngineLists → Plan → Pick → Tree → Tree
+made_by e plan pick v = said (printer e.printers plan pick) v
+
+abbrev tests : EngineLists → Plan → Pick → Option Tree → Tree → Option EvalAltResult → Option EvalAltResult → Option EvalAltResult → End
+tests e plan pick back v o t p = done_from (first_at_end plan pick back) v (shown_by e plan pick v) (made_by e plan pick v) o t p
+
+done_tests : (e : EngineLists) (plan : Plan) (pick : Pick) (back : Option Tree) (v : Tree) →
+    done e.limits e.printers plan pick back v ≡ tests e plan pick back v (unfit e.limits plan pick back v) (no_text (printer e.printers plan pick) plan.pos v) (not_wanted plan.want plan.pos (made_by e plan pick v))
+done_tests e plan pick back v =
+    done_is (first_at_end plan pick back) v (shown_by e plan pick v) (made_by e plan pick v) (unfit e.limits plan pick back v) (no_text (printer e.printers plan pick) plan.pos v) (not_wanted plan.want plan.pos (made_by e plan pick v))
 
 -- How a call ends with the last step of its function.
-pub data EndsBy (limits : Limits) (plan : Plan) (pick : Pick) (step : NativeStep) (end : End) : Type 0 where
-  fails : (fault : EvalAltResult) (back : Option Tree) → step ≡ Failed fault back → end ≡ handed_on plan pick back fault → EndsBy limits plan pick step end
-  is_large : (v : Tree) (back : Option Tree) (what : Bytes) → step ≡ Done v back → IsTooLarge limits plan pick back v what → end ≡ refusing (first_at_end plan pick back) v (ErrorDataTooLarge what plan.pos) → EndsBy limits plan pick step end
-  is_other : (v : Tree) (back : Option Tree) (kind : TypeTag) → step ≡ Done v back → AreWithin limits plan pick back v → IsOfOtherKind plan.want kind v → end ≡ refusing (first_at_end plan pick back) v (ErrorMismatchOutputType (type_name kind) (display v) plan.pos) → EndsBy limits plan pick step end
-  fits : (v : Tree) (back : Option Tree) → step ≡ Done v back → AreWithin limits plan pick back v → not_wanted plan.want plan.pos v ≡ None → end ≡ fits_end (first_at_end plan pick back) v → EndsBy limits plan pick step end
+pub data EndsBy (e : EngineLists) (plan : Plan) (pick : Pick) (step : NativeStep) (end : End) : Type 0 where
+  fails : (fault : EvalAltResult) (back : Option Tree) → step ≡ Failed fault back → end ≡ handed_on plan pick back fault → EndsBy e plan pick step end
+  is_large : (v : Tree) (back : Option Tree) (what : Bytes) → step ≡ Done v back → IsTooLarge e.limits plan pick back v what → end ≡ refusing (first_at_end plan pick back) v (ErrorDataTooLarge what plan.pos) → EndsBy e plan pick step end
+  is_other : (v made : Tree) (back : Option Tree) (wanted : Bytes) → step ≡ Done v back → AreWithin e.limits plan pick back v → IsMismatch e.printers plan pick v wanted made
+      → end ≡ showing (shown_by e plan pick v) (refusing (first_at_end plan pick back) made (ErrorMismatchOutputType wanted (display made) plan.pos)) → EndsBy e plan pick step end
+  fits : (v made : Tree) (back : Option Tree) → step ≡ Done v back → AreWithin e.limits plan pick back v → IsPrintable e.printers plan pick v → Makes e.printers plan pick v made → not_wanted plan.want plan.pos made ≡ None
+      → end ≡ showing (shown_by e plan pick v) (fits_end (first_at_end plan pick back) made) → EndsBy e plan pick step end
 
-done_by : (limits : Limits) (plan : Plan) (pick : Pick) (v : Tree) (back : Option Tree) (end : End) (o p : Option EvalAltResult) → unfit limits plan pick back v ≡ o → not_wanted plan.want plan.pos v ≡ p → end ≡ done_from (first_at_end plan pick back) v o p
-    → EndsBy limits plan pick (Done v back) end
-done_by limits plan pick v back end (Some fault) p is k h =
-    let l = unfit_large limits plan pick back v fault is in
+done_by : (e : EngineLists) (plan : Plan) (pick : Pick) (v : Tree) (back : Option Tree) (end : End) (o t p : Option EvalAltResult) → unfit e.limits plan pick back v ≡ o → no_text (printer e.printers plan pick) plan.pos v ≡ t → not_wanted plan.want plan.pos (made_by e plan pick v) ≡ p
+    → end ≡ tests e plan pick back v o t p → EndsBy e plan pick (Done v back) end
+done_by e plan pick v back end (Some fault) t p is n k h =
+    let l = unfit_large e.limits plan pick back v fault is in
     is_large v back l.0 refl l.1 (h ∙ ap (refusing (first_at_end plan pick back) v) l.2)
-done_by limits plan pick v back end None (Some fault) is k h =
-    let l = unwanted_other plan.want plan.pos v fault k in
-    is_other v back l.0 refl (fit_within limits plan pick back v is) l.1 (h ∙ ap (refusing (first_at_end plan pick back) v) l.2)
-done_by limits plan pick v back end None None is k h = fits v back refl (fit_within limits plan pick back v is) k h
+done_by e plan pick v back end None (Some fault) p is n k h =
+    let u = untold e.printers plan pick v fault n in
+    is_other v v back (codes "string") refl (fit_within e.limits plan pick back v is) (isnt_text u.prints u.none refl refl)
+    (h ∙ (λ i. showing (sym u.unprinted i) (refusing (first_at_end plan pick back) v (u.says i))))
+done_by e plan pick v back end None None (Some fault) is n k h =
+    let l = unwanted_other plan.want plan.pos (made_by e plan pick v) fault k in
+    is_other v (made_by e plan pick v) back (type_name l.0) refl (fit_within e.limits plan pick back v is)
+    (isnt_wanted l.0 (printable e.printers plan pick v n) (makes_said e.printers plan pick v (printer e.printers plan pick) refl) l.1 refl)
+    (h ∙ ap (λ (x : EvalAltResult). showing (shown_by e plan pick v) (refusing (first_at_end plan pick back) (made_by e plan pick v) x)) l.2)
+done_by e plan pick v back end None None None is n k h =
+    fits v (made_by e plan pick v) back refl (fit_within e.limits plan pick back v is) (printable e.printers plan pick v n) (makes_said e.printers plan pick v (printer e.printers plan pick) refl) k h
 
-pub ends_by : (e : EngineLists) (plan : Plan) (pick : Pick) (step : NativeStep) (end : End) → end_of e plan pick step ≡ Some end → EndsBy e.limits plan pick step end
+pub ends_by : (e : EngineLists) (plan : Plan) (pick : Pick) (step : NativeStep) (end : End) → end_of e plan pick step ≡ Some end → EndsBy e plan pick step end
 unfolding end_of
 ends_by e plan pick (Done v back) end h =
-    done_by e.limits plan pick v back end (unfit e.limits plan pick back v) (not_wanted plan.want plan.pos v) refl refl (some_same (done e.limits plan pick back v) end h ∙ done_tests e.limits plan pick back v)
+    done_by e plan pick v back end (unfit e.limits plan pick back v) (no_text (printer e.printers plan pick) plan.pos v) (not_wanted plan.want plan.pos (made_by e plan pick v)) refl refl refl
+    (some_same (done e.limits e.printers plan pick back v) end h ∙ done_tests e plan pick back v)
 ends_by e plan pick (Failed fault back) end h = fails fault back refl (some_same (handed_on plan pick back fault) end h)
 ends_by e plan pick (Ask request carry) end h = absurd (none_some end h)
 
@@ -227,12 +259,53 @@ ends_by e plan pick (Ask request carry) end h = absurd (none_some end h)
 pub large_ends : (e : EngineLists) (plan : Plan) (pick : Pick) (v : Tree) (back : Option Tree) (what : Bytes) (end : End) → IsTooLarge e.limits plan pick back v what → end_of e plan pick (Done v back) ≡ Some end → end ≡ refusing (first_at_end plan pick back) v (ErrorDataTooLarge what plan.pos)
 unfolding end_of
 large_ends e plan pick v back what end large h =
-    some_same (done e.limits plan pick back v) end h ∙ done_tests e.limits plan pick back v
-    ∙ ap (λ (o : Option EvalAltResult). done_from (first_at_end plan pick back) v o (not_wanted plan.want plan.pos v)) (large_unfit e.limits plan pick back v what large)
+    some_same (done e.limits e.printers plan pick back v) end h ∙ done_tests e plan pick back v
+    ∙ ap (λ (o : Option EvalAltResult). tests e plan pick back v o (no_text (printer e.printers plan pick) plan.pos v) (not_wanted plan.want plan.pos (made_by e plan pick v))) (large_unfit e.limits plan pick back v what large)
 
-pub other_ends : (e : EngineLists) (plan : Plan) (pick : Pick) (v : Tree) (back : Option Tree) (kind : TypeTag) (end : End) → AreWithin e.limits plan pick back v → IsOfOtherKind plan.want kind v → end_of e plan pick (Done v back) ≡ Some end
-    → end ≡ refusing (first_at_end plan pick back) v (ErrorMismatchOutputType (type_name kind) (display v) plan.pos)
+-- within the limits the other tests say how the call ends
+within_ends : (e : EngineLists) (plan : Plan) (pick : Pick) (v : Tree) (back : Option Tree) (end : End) → AreWithin e.limits plan pick back v → end_of e plan pick (Done v back) ≡ Some end
+    → end ≡ tests e plan pick back v None (no_text (printer e.printers plan pick) plan.pos v) (not_wanted plan.want plan.pos (made_by e plan pick v))
 unfolding end_of
-other_ends e plan pick v back kind end within other h =
-    some_same (done e.limits plan pick back v) end h ∙ done_tests e.limits plan pick back v
-    ∙ (λ i. done_from (first_at_end plan pick back) v (within_fit e.limits plan pick back v within i) (other_unwanted plan.want plan.pos v kind other i))
+within_ends e plan pick v back end within h =
+    some_same (done e.limits e.printers plan pick back v) end h ∙ done_tests e plan pick back v
+    ∙ ap (λ (o : Option EvalAltResult). tests e plan pick back v o (no_text (printer e.printers plan pick) plan.pos v) (not_wanted plan.want plan.pos (made_by e plan pick v))) (within_fit e.limits plan pick back v within)
+
+pub other_ends : (e : EngineLists) (plan : Plan) (pick : Pick) (v made : Tree) (back : Option Tree) (wanted : Bytes) (end : End) → AreWithin e.limits plan pick back v → IsMismatch e.printers plan pick v wanted made → end_of e plan pick (Done v back) ≡ Some end
+    → end ≡ showing (shown_by e plan pick v) (refusing (first_at_end plan pick back) made (ErrorMismatchOutputType wanted (display made) plan.pos))
+other_ends e plan pick v made back wanted end within (isnt_text prints none says is) h =
+    within_ends e plan pick v back end within h
+    ∙ ap (λ (t : Option EvalAltResult). tests e plan pick back v None t (not_wanted plan.want plan.pos (made_by e plan pick v))) (no_text_untold e.printers plan pick v prints none)
+    ∙ (λ i. showing (sym (unprinted e.printers plan pick v prints none) i) (refusing (first_at_end plan pick back) (sym is i) (ErrorMismatchOutputType (sym says i) (display (sym is i)) plan.pos)))
+other_ends e plan pick v made back wanted end within (isnt_wanted kind text makes other says) h =
+    let same : made ≡ made_by e plan pick v = said_makes e.printers plan pick v made makes in
+    within_ends e plan pick v back end within h
+    ∙ (λ i. tests e plan pick back v None (printable_text e.printers plan pick v text i) (not_wanted plan.want plan.pos (sym same i)))
+    ∙ ap (λ (k : Option EvalAltResult). done_from (first_at_end plan pick back) v (shown_by e plan pick v) (made_by e plan pick v) None None k) (other_unwanted plan.want plan.pos made kind other)
+    ∙ (λ i. showing (shown_by e plan pick v) (refusing (first_at_end plan pick back) (sym same i) (ErrorMismatchOutputType (sym says i) (display made) plan.pos)))
+
+-- within the limits a call shows what it prints
+printed_from : (e : EngineLists) (plan : Plan) (pick : Pick) (v : Tree) (back : Option Tree) (t p : Option EvalAltResult) → no_text (printer e.printers plan pick) plan.pos v ≡ t → (tests e plan pick back v None t p).printed ≡ shown_by e plan pick v
+printed_from e plan pick v back (Some fault) p is = sym ((untold e.printers plan pick v fault is).unprinted)
+printed_from e plan pick v back None (Some fault) is = refl
+printed_from e plan pick v back None None is = refl
+
+pub printed_ends : (e : EngineLists) (plan : Plan) (pick : Pick) (v : Tree) (back : Option Tree) (end : End) → AreWithin e.limits plan pick back v → end_of e plan pick (Done v back) ≡ Some end → end.printed ≡ shown_by e plan pick v
+printed_ends e plan pick v back end within h =
+    ap (λ (x : End). x.printed) (within_ends e plan pick v back end within h) ∙ printed_from e plan pick v back (no_text (printer e.printers plan pick) plan.pos v) (not_wanted plan.want plan.pos (made_by e plan pick v)) refl
+
+-- and answers what it makes of a value that nothing refuses
+wanted_by : (want : Option TypeTag) (pos : Position) (v : Tree) (o : Option EvalAltResult) → not_wanted want pos v ≡ o → ((kind : TypeTag) → IsOfOtherKind want kind v → ⊥) → o ≡ None
+wanted_by want pos v None is none = refl
+wanted_by want pos v (Some fault) is none = let l = unwanted_other want pos v fault is in absurd (none l.0 l.1)
+
+pub none_other : (want : Option TypeTag) (pos : Position) (v : Tree) (kind : TypeTag) → not_wanted want pos v ≡ None → IsOfOtherKind want kind v → ⊥
+none_other want pos v kind h other = none_some (ErrorMismatchOutputType (type_name kind) (display v) pos) (sym h ∙ other_unwanted want pos v kind other)
+
+pub value_ends : (e : EngineLists) (plan : Plan) (pick : Pick) (v made : Tree) (back : Option Tree) (end : End) → AreWithin e.limits plan pick back v → IsPrintable e.printers plan pick v → Makes e.printers plan pick v made
+    → ((kind : TypeTag) → IsOfOtherKind plan.want kind made → ⊥) → end_of e plan pick (Done v back) ≡ Some end → end ≡ showing (shown_by e plan pick v) (fits_end (first_at_end plan pick back) made)
+value_ends e plan pick v made back end within text makes wanted h =
+    let same : made ≡ made_by e plan pick v = said_makes e.printers plan pick v made makes in
+    within_ends e plan pick v back end within h
+    ∙ (λ i. tests e plan pick back v None (printable_text e.printers plan pick v text i) (not_wanted plan.want plan.pos (sym same i)))
+    ∙ ap (λ (k : Option EvalAltResult). done_from (first_at_end plan pick back) v (shown_by e plan pick v) (made_by e plan pick v) None None k) (wanted_by plan.want plan.pos made (not_wanted plan.want plan.pos made) refl wanted)
+    ∙ ap (λ (x : Tree). showing (shown_by e plan pick v) (fits_end (first_at_end plan pick back) x)) (sym same)

@@ -1,6 +1,7 @@
 -- Lists of commands and their replies, one more at a time.
-use Rattle.std.proofs.Common.{◌≡◌, Bool, ℕ, ◌+◌, ◌<◌, ◌≤◌, List, [], ◌∷◌, ◌++◌, refl, sym, subst, length, ap, suc, take, get_or, ◌∙◌, arith}
+use Rattle.std.proofs.Common.{◌≡◌, Bool, ℕ, ◌+◌, ◌<◌, ◌≤◌, List, [], ◌∷◌, ◌++◌, refl, sym, subst, length, ap, suc, take, get_or, slice_get, Some, ◌∙◌, arith}
 use Rattle.std.proofs.lemmas.List.{take_more, length-take}
+use Rattle.std.proofs.lemmas.Option.{get_or_from_slice_get}
 use Rattle.rhd_func.specs.declared.request.CallRequest.{CallRequest}
 use Rattle.rhd_session.specs.declared.command.Command.{Command}
 use Rattle.rhd_session.specs.declared.command.Command.TheVariants as commands
@@ -10,11 +11,25 @@ use Rattle.rhd_session.specs.declared.reply.Reply.TheVariants.{Called}
 use Rattle.rhd_session.specs.Engine.{Frame}
 use Rattle.rhd_session.specs.World.{World, Objects, Moment}
 use Rattle.rhd_session.specs.Runs.{Runs}
-use Rattle.rhd_session.specs.Answered.{Replied, Answered}
+use Rattle.rhd_session.specs.Answered.{Replied, Answered, Begins}
 
-module _ {B : Type 0} (o : Objects B) where
+-- where no call is begun, none is
+pub begins_none : (command : Command) (n : ℕ) → Begins command n n
+begins_none commands.NewModule n = refl
+begins_none (commands.Script m def) n = refl
+begins_none (commands.RegisterFn name id) n = refl
+begins_none (commands.PushLib m) n = refl
+begins_none commands.PopLib n = refl
+begins_none (commands.Call request) n = omega arith
+
+-- the command of a place is the one that stands there
+pub begins_at : (cs : List Command) (i : ℕ) (command other : Command) (before after : ℕ) →
+    command ≡ get_or cs i command → slice_get cs i ≡ Some other → Begins command before after → Begins other before after
+begins_at cs i command other before after is stands b = subst (λ (c : Command). Begins c before after) (is ∙ get_or_from_slice_get cs i other command stands) b
+
+module _ {H B : Type 0} (o : Objects H B) where
   -- one command more
-  pub answered_more : (w : World) (f : Frame) (s : Moment B) (commands : List Command) (replies : List Reply) (w1 : World) (f1 : Frame) (s1 : Moment B) (command : Command) (reply : Reply) (w2 : World) (f2 : Frame) (s2 : Moment B) →
+  pub answered_more : (w : World) (f : Frame) (s : Moment H B) (commands : List Command) (replies : List Reply) (w1 : World) (f1 : Frame) (s1 : Moment H B) (command : Command) (reply : Reply) (w2 : World) (f2 : Frame) (s2 : Moment H B) →
       Answered o w f s commands replies w1 f1 s1 → Replied o w1 f1 s1 command reply w2 f2 s2 → Answered o w f s (commands ++ command ∷ []) (replies ++ reply ∷ []) w2 f2 s2
   answered_more w f s [] [] w1 f1 s1 command reply w2 f2 s2 a r = (
     w2,
@@ -22,7 +37,7 @@ module _ {B : Type 0} (o : Objects B) where
     s2,
     subst (λ (x : World). Replied o x f s command reply w2 f2 s2) a.0
         (subst (λ (x : Frame). Replied o w1 x s command reply w2 f2 s2) a.1
-        (subst (λ (x : Moment B). Replied o w1 f1 x command reply w2 f2 s2) a.2 r)),
+        (subst (λ (x : Moment H B). Replied o w1 f1 x command reply w2 f2 s2) a.2 r)),
     (refl, refl, refl),
   )
   answered_more w f s (c ∷ commands) (p ∷ replies) w1 f1 s1 command reply w2 f2 s2 a r =
@@ -31,14 +46,14 @@ module _ {B : Type 0} (o : Objects B) where
   answered_more w f s (c ∷ commands) [] w1 f1 s1 command reply w2 f2 s2 a r = absurd a
 
   -- as many replies as commands
-  pub answered_length : (w : World) (f : Frame) (s : Moment B) (commands : List Command) (replies : List Reply) (w2 : World) (f2 : Frame) (s2 : Moment B) → Answered o w f s commands replies w2 f2 s2 → length replies ≡ length commands
+  pub answered_length : (w : World) (f : Frame) (s : Moment H B) (commands : List Command) (replies : List Reply) (w2 : World) (f2 : Frame) (s2 : Moment H B) → Answered o w f s commands replies w2 f2 s2 → length replies ≡ length commands
   answered_length w f s [] [] w2 f2 s2 a = refl
   answered_length w f s (c ∷ commands) (p ∷ replies) w2 f2 s2 a = ap suc (answered_length a.0 a.1 a.2 commands replies w2 f2 s2 a.4)
   answered_length w f s [] (p ∷ replies) w2 f2 s2 a = absurd a
   answered_length w f s (c ∷ commands) [] w2 f2 s2 a = absurd a
 
   -- stopped after as many commands as replies
-  pub stopped_at : (w : World) (f : Frame) (s : Moment B) (commands : List Command) (i : ℕ) (replies now : List Reply) (w1 w2 : World) (f1 f2 : Frame) (s1 : Moment B) →
+  pub stopped_at : (w : World) (f : Frame) (s : Moment H B) (commands : List Command) (i : ℕ) (replies now : List Reply) (w1 w2 : World) (f1 f2 : Frame) (s1 : Moment H B) →
       i ≤ length commands → now ≡ replies → w2 ≡ w1 → f2 ≡ f1 → Answered o w f s (take i commands) replies w1 f1 s1 → Answered o w f s (take (length now) commands) now w2 f2 s1
   stopped_at w f s commands i replies now w1 w2 f1 f2 s1 h e n m a =
       let l : i ≡ length now = omega (arith, answered_length w f s (take i commands) replies w1 f1 s1 a, length-take i commands, ap length e) in
@@ -48,12 +63,19 @@ module _ {B : Type 0} (o : Objects B) where
       (subst (λ (x : Frame). Answered o w f s (take i commands) replies w1 x s1) (sym m) a)))
 
   -- and before all are answered
-  pub stopped_before : (w : World) (f : Frame) (s : Moment B) (commands : List Command) (i : ℕ) (replies now : List Reply) (w1 : World) (f1 : Frame) (s1 : Moment B) →
+  pub stopped_before : (w : World) (f : Frame) (s : Moment H B) (commands : List Command) (i : ℕ) (replies now : List Reply) (w1 : World) (f1 : Frame) (s1 : Moment H B) →
       i < length commands → now ≡ replies → Answered o w f s (take i commands) replies w1 f1 s1 → length now < length commands
   stopped_before w f s commands i replies now w1 f1 s1 h e a = omega (arith, answered_length w f s (take i commands) replies w1 f1 s1 a, length-take i commands, ap length e)
 
+  -- what the command begins at which it stops
+  pub stopped_begins : (w : World) (f : Frame) (s : Moment H B) (cs : List Command) (i : ℕ) (command other : Command) (replies now : List Reply) (w1 : World) (f1 : Frame) (s1 : Moment H B) (before after : ℕ) →
+      i < length cs → command ≡ get_or cs i command → now ≡ replies → Answered o w f s (take i cs) replies w1 f1 s1 → slice_get cs (length now) ≡ Some other → Begins command before after → Begins other before after
+  stopped_begins w f s cs i command other replies now w1 f1 s1 before after h is e a stands b =
+      let l : length now ≡ i = omega (arith, answered_length w f s (take i cs) replies w1 f1 s1 a, length-take i cs, ap length e) in
+      begins_at cs i command other before after is (subst (λ (k : ℕ). slice_get cs k ≡ Some other) l stands) b
+
   -- one turn of the loop
-  pub turn : (w : World) (f : Frame) (s : Moment B) (commands : List Command) (i : ℕ) (command : Command) (replies roomy now : List Reply) (reply : Reply) (w1 w2 : World) (f1 f2 : Frame) (s1 s2 : Moment B) →
+  pub turn : (w : World) (f : Frame) (s : Moment H B) (commands : List Command) (i : ℕ) (command : Command) (replies roomy now : List Reply) (reply : Reply) (w1 w2 : World) (f1 f2 : Frame) (s1 s2 : Moment H B) →
       i < length commands → command ≡ get_or commands i command → roomy ≡ replies → now ≡ roomy ++ reply ∷ [] →
       Answered o w f s (take i commands) replies w1 f1 s1 → Replied o w1 f1 s1 command reply w2 f2 s2 → Answered o w f s (take (i + 1) commands) now w2 f2 s2
   turn w f s commands i command replies roomy now reply w1 w2 f1 f2 s1 s2 h is e p a r =
@@ -64,7 +86,7 @@ module _ {B : Type 0} (o : Objects B) where
       (answered_more w f s (take i commands) replies w1 f1 s1 command reply w2 f2 s2 a r))
 
   -- a call that is made answers its command
-  pub called : (w : World) (f : Frame) (s : Moment B) (command : Command) (request same : CallRequest) (node : CallNode) (s2 : Moment B) →
+  pub called : (w : World) (f : Frame) (s : Moment H B) (command : Command) (request same : CallRequest) (node : CallNode) (s2 : Moment H B) →
       command ≡ commands.Call request → same ≡ request → ((cut : Bool) × Runs o w f 1 same node s s2 cut) → Replied o w f s command (Called node) w f s2
   called w f s command request same node s2 is e r =
       subst (λ (x : Command). Replied o w f s x (Called node) w f s2) (sym is)

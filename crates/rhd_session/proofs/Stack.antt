@@ -18,11 +18,12 @@ use Rattle.rhd_session.specs.declared.machine.Outcome.{Outcome}
 use Rattle.rhd_session.specs.declared.machine.Outcome.TheVariants.{Waiting, Finished}
 use Rattle.rhd_session.specs.declared.machine.Hand.{Hand}
 use Rattle.rhd_session.specs.declared.machine.Hand.TheVariants.{Asked, Answered}
-use Rattle.rhd_session.specs.Held.{func_held, all_held}
+use Rattle.rhd_session.specs.Held.{func_held, all_held, builtins_held}
 use Rattle.rhd_session.specs.Nodes.{nodes_in}
 use Rattle.rhd_session.specs.Plans.{Plan, plan_of}
 use Rattle.rhd_session.specs.declared.ends.End.{End}
 use Rattle.rhd_session.specs.declared.limits.Limits.{Limits}
+use Rattle.rhd_session.specs.declared.limits.Printers.{Printers}
 use Rattle.rhd_session.specs.Ends.{done, handed_on, end_of}
 use Rattle.rhd_session.specs.Seen.{seen, begun_node, unbegun_node, cut_end, done_of}
 use Rattle.rhd_session.specs.Decisions.{runs, decision}
@@ -33,12 +34,12 @@ use Rattle.rhd_session.specs.Waits.{Kept, kept, keeping, Open, function_waits, S
 use Rattle.rhd_session.proofs.Found.{runs_within, runs_plan, runs_is_held}
 
 -- what each step makes of a call under way
-pub settled_done : (e : EngineLists) (limits : Limits) (work : Work) (step : NativeStep) (answer : Tree) (back : Option Tree) (end : End) (node : CallNode) → e.limits ≡ limits → step ≡ Done answer back →
-    end ≡ done limits (plan_of work.call) work.pick back answer →
+pub settled_done : (e : EngineLists) (limits : Limits) (printers : Printers) (work : Work) (step : NativeStep) (answer : Tree) (back : Option Tree) (end : End) (node : CallNode) → e.limits ≡ limits → e.printers ≡ printers → step ≡ Done answer back →
+    end ≡ done limits printers (plan_of work.call) work.pick back answer →
     seen node ≡ begun_node work.call work.level (Some work.pick) work.carries (nodes_in work.children) end → Settled e work step (Finished node)
 unfolding end_of
-settled_done e limits work step answer back end node l is h s =
-    ends_with (ap (end_of e (plan_of work.call) work.pick) is ∙ ap Some (ap (λ (x : Limits). done x (plan_of work.call) work.pick back answer) l ∙ sym h)) s
+settled_done e limits printers work step answer back end node l p is h s =
+    ends_with (ap (end_of e (plan_of work.call) work.pick) is ∙ ap Some ((λ i. done (l i) (p i) (plan_of work.call) work.pick back answer) ∙ sym h)) s
 
 pub settled_failed : (e : EngineLists) (work : Work) (step : NativeStep) (fault : EvalAltResult) (back : Option Tree) (end : End) (node : CallNode) → step ≡ Failed fault back →
     end ≡ handed_on (plan_of work.call) work.pick back fault →
@@ -60,9 +61,9 @@ puts_frame old new outcome frame asked is e = subst (λ (x : Outcome). Put old x
 pub puts_node : (old : List Suspended) (outcome : Outcome) (node : CallNode) → outcome ≡ Finished node → Put old outcome (Answered node) old
 puts_node old outcome node is = subst (λ (x : Outcome). Put old x (Answered node) old) (sym is) (put_node refl)
 
-module _ {B : Type 0} (o : Objects B) (w : World) where
+module _ {H B : Type 0} (o : Objects H B) (w : World) where
   -- a step of a call that is under way
-  pub settled : {f : Frame} {level : ℕ} {call : CallRequest} {before started after : Moment B} {plan : Plan} {pick : Pick} {first step : NativeStep} {carries : List Carry} {children : List CallNode} {work : Work} {outcome : Outcome} →
+  pub settled : {f : Frame} {level : ℕ} {call : CallRequest} {before started after : Moment H B} {plan : Plan} {pick : Pick} {first step : NativeStep} {carries : List Carry} {children : List CallNode} {work : Work} {outcome : Outcome} →
       kept work ≡ keeping call level pick carries children →
       before.begun < w.engine.limits.budget →
       decision w.engine f level call ≡ runs plan pick →
@@ -78,7 +79,7 @@ module _ {B : Type 0} (o : Objects B) (w : World) where
       (h ∙ ap (λ (x : Kept). begun_node x.call x.level (Some x.pick) x.carries x.children end) k))
 
   -- the next step of a call, after the answer to its request
-  pub resumes_with : (base inner : Frame) (n level : ℕ) (call waited : CallRequest) (before mid answered after : Moment B) (frame : Suspended) (child : CallNode) (work : Work) (step : NativeStep) (outcome : Outcome) →
+  pub resumes_with : (base inner : Frame) (n level : ℕ) (call waited : CallRequest) (before mid answered after : Moment H B) (frame : Suspended) (child : CallNode) (work : Work) (step : NativeStep) (outcome : Outcome) →
       Open o w (entered base n) level call frame inner waited before mid →
       Runs o w inner (level + 1) waited child mid answered false →
       Resumes o (context base frame.work.level (plan_of frame.work.call)) frame.work.pick.func frame.carry (done_of child) answered step after →
@@ -87,7 +88,7 @@ module _ {B : Type 0} (o : Objects B) (w : World) where
       Comes_to o w (entered base n) level call outcome before after
   resumes_with base inner n level call waited before mid answered after frame child work step outcome opened r next works q = goes_on base (entered base n) refl opened r next works q
     where
-      goes_on : (base f : Frame) → f ≡ entered base f.level → {inner : Frame} {level : ℕ} {call waited : CallRequest} {before mid answered after : Moment B} {frame : Suspended} {child : CallNode} {work : Work} {step : NativeStep} {outcome : Outcome} →
+      goes_on : (base f : Frame) → f ≡ entered base f.level → {inner : Frame} {level : ℕ} {call waited : CallRequest} {before mid answered after : Moment H B} {frame : Suspended} {child : CallNode} {work : Work} {step : NativeStep} {outcome : Outcome} →
           Open o w f level call frame inner waited before mid →
           Runs o w inner (level + 1) waited child mid answered false →
           Resumes o (context base frame.work.level (plan_of frame.work.call)) frame.work.pick.func frame.carry (done_of child) answered step after →
@@ -105,16 +106,16 @@ module _ {B : Type 0} (o : Objects B) (w : World) where
           settled (works ∙ same) b d s (one_more steps r resumed refl refl) q
 
   -- the stack, seen from its top
-  pub record Top (stack : List Suspended) (frame : Suspended) (base : Frame) (call : CallRequest) (before : Moment B) (inner : Frame) (level : ℕ) (asked : CallRequest) (after : Moment B) : Type 0 where
+  pub record Top (stack : List Suspended) (frame : Suspended) (base : Frame) (call : CallRequest) (before : Moment H B) (inner : Frame) (level : ℕ) (asked : CallRequest) (after : Moment H B) : Type 0 where
     pub outer : Frame
     pub level_below : ℕ
     pub waited : CallRequest
-    pub mid : Moment B
+    pub mid : Moment H B
     pub waits : Waits o w stack base call before outer level_below waited mid
     pub opened : Open o w outer level_below waited frame inner asked mid after
     pub level_is : level ≡ level_below + 1
 
-  pub top : {all : List Suspended} {base inner : Frame} {call asked : CallRequest} {before after : Moment B} {level : ℕ} → Waits o w all base call before inner level asked after →
+  pub top : {all : List Suspended} {base inner : Frame} {call asked : CallRequest} {before after : Moment H B} {level : ℕ} → Waits o w all base call before inner level asked after →
       (stack : List Suspended) (frame : Suspended) → all ≡ stack ++ frame ∷ [] → Top stack frame base call before inner level asked after
   top lowest stack frame e = let l : 0 ≡ length stack + 1 = ap length e ∙ length_push stack frame in absurd (omega (arith, l))
   top (above {base = base} {outer = outer} {inner = inner} {stack = stack'} {call = call} {waited = waited} {asked = asked} {frame = frame'} {before = before} {mid = mid} {after = after} {level = level} below opened e') stack frame e =
@@ -130,34 +131,34 @@ module _ {B : Type 0} (o : Objects B) (w : World) where
       }
 
   -- no frame: the call itself is waited for
-  pub bottom : {all : List Suspended} {base f : Frame} {call asked : CallRequest} {before after : Moment B} {level : ℕ} → Waits o w all base call before f level asked after → all ≡ [] → (asked ≡ call) × (before ≡ after) × (level ≡ 1) × (f ≡ base)
+  pub bottom : {all : List Suspended} {base f : Frame} {call asked : CallRequest} {before after : Moment H B} {level : ℕ} → Waits o w all base call before f level asked after → all ≡ [] → (asked ≡ call) × (before ≡ after) × (level ≡ 1) × (f ≡ base)
   bottom lowest e = (refl, refl, refl, refl)
   bottom (above {stack = stack'} {frame = frame'} below opened e') e = let l : length stack' + 1 ≡ 0 = sym (length_push stack' frame') ∙ ap length (sym e' ∙ e) in absurd (omega (arith, l))
 
   -- every call of a stack is made with the source and the tag of the first
-  pub steady : {all : List Suspended} {base f : Frame} {call asked : CallRequest} {before after : Moment B} {level : ℕ} → Waits o w all base call before f level asked after → (n : ℕ) × (f ≡ entered base n)
+  pub steady : {all : List Suspended} {base f : Frame} {call asked : CallRequest} {before after : Moment H B} {level : ℕ} → Waits o w all base call before f level asked after → (n : ℕ) × (f ≡ entered base n)
   steady (lowest {f = f}) = (f.level, refl)
   steady (above below (function_waits {level = level} k b d s steps) e) =
       let r = steady below in (level, ap (λ (x : Frame). entered x level) r.1)
 
   -- each level is at most one above the limit
-  pub level_limited : {all : List Suspended} {base f : Frame} {call asked : CallRequest} {before after : Moment B} {level : ℕ} → Waits o w all base call before f level asked after → level ≤ w.engine.limits.level + 1
+  pub level_limited : {all : List Suspended} {base f : Frame} {call asked : CallRequest} {before after : Moment H B} {level : ℕ} → Waits o w all base call before f level asked after → level ≤ w.engine.limits.level + 1
   level_limited lowest = omega arith
   level_limited (above below (function_waits {f = f} {level = level} {call = call} {plan = plan} {pick = pick} k b d s steps) e) = let h = runs_within w.engine f level call plan pick d in omega (arith, h)
 
-  pub stack_limited : (stack : List Suspended) (base : Frame) (call : CallRequest) (before : Moment B) (hand : Hand) (after : Moment B) → Going o w stack base call before hand after → length stack ≤ w.engine.limits.level
+  pub stack_limited : (stack : List Suspended) (base : Frame) (call : CallRequest) (before : Moment H B) (hand : Hand) (after : Moment H B) → Going o w stack base call before hand after → length stack ≤ w.engine.limits.level
   stack_limited stack base call before hand after g = let h = level_limited g.waits in omega (arith, h)
 
-  asked_parts : {f : Frame} {level : ℕ} {waited : CallRequest} {hand : Hand} {mid after : Moment B} → Holds o w f level waited hand mid after → (request : CallRequest) → hand ≡ Asked request → (waited ≡ request) × (mid ≡ after)
+  asked_parts : {f : Frame} {level : ℕ} {waited : CallRequest} {hand : Hand} {mid after : Moment H B} → Holds o w f level waited hand mid after → (request : CallRequest) → hand ≡ Asked request → (waited ≡ request) × (mid ≡ after)
   asked_parts holds_request request e = (cc, refl)
   asked_parts (holds_answer r) request e = absurd cc
 
-  answer_parts : {f : Frame} {level : ℕ} {waited : CallRequest} {hand : Hand} {mid after : Moment B} → Holds o w f level waited hand mid after → (node : CallNode) → hand ≡ Answered node → Runs o w f level waited node mid after false
+  answer_parts : {f : Frame} {level : ℕ} {waited : CallRequest} {hand : Hand} {mid after : Moment H B} → Holds o w f level waited hand mid after → (node : CallNode) → hand ≡ Answered node → Runs o w f level waited node mid after false
   answer_parts holds_request node e = absurd cc
   answer_parts {f} {level} {waited} {mid = mid} {after = after} (holds_answer {node = n} r) node e = let same : n ≡ node = cc in subst (λ (x : CallNode). Runs o w f level waited x mid after false) same r
 
   -- an outcome at the top of the stack
-  put_goes : (stack news : List Suspended) (base f : Frame) (call waited : CallRequest) (before mid after : Moment B) (outcome : Outcome) (hand : Hand) →
+  put_goes : (stack news : List Suspended) (base f : Frame) (call waited : CallRequest) (before mid after : Moment H B) (outcome : Outcome) (hand : Hand) →
       Waits o w stack base call before f (length stack + 1) waited mid →
       Comes_to o w f (length stack + 1) waited outcome mid after →
       Put stack outcome hand news →
@@ -170,7 +171,7 @@ module _ {B : Type 0} (o : Objects B) (w : World) where
       (record { f = f; waited = waited; mid = mid; waits = below; holds = holds_answer r })
 
   -- a call that was asked for is begun
-  pub asked_goes : (stack news : List Suspended) (base : Frame) (call request : CallRequest) (before begun after : Moment B) (outcome : Outcome) (hand : Hand) →
+  pub asked_goes : (stack news : List Suspended) (base : Frame) (call request : CallRequest) (before begun after : Moment H B) (outcome : Outcome) (hand : Hand) →
       ((n : ℕ) → Comes_to o w (entered base n) (length stack + 1) request outcome begun after) →
       Put stack outcome hand news →
       Going o w stack base call before (Asked request) begun →
@@ -181,18 +182,18 @@ module _ {B : Type 0} (o : Objects B) (w : World) where
       put_goes stack news base (entered base s.0) call request before begun after outcome hand
       (subst (λ (x : Frame). Waits o w stack base call before x (length stack + 1) request begun) s.1
       (subst (λ (x : CallRequest). Waits o w stack base call before g.f (length stack + 1) x begun) h.0
-      (subst (λ (x : Moment B). Waits o w stack base call before g.f (length stack + 1) g.waited x) h.1 g.waits)))
+      (subst (λ (x : Moment H B). Waits o w stack base call before g.f (length stack + 1) g.waited x) h.1 g.waits)))
       (step s.0) p
 
   -- the top of a stack, at its level
-  record Opened (stack : List Suspended) (frame : Suspended) (base : Frame) (call : CallRequest) (before : Moment B) (inner : Frame) (asked : CallRequest) (after : Moment B) : Type 0 where
+  record Opened (stack : List Suspended) (frame : Suspended) (base : Frame) (call : CallRequest) (before : Moment H B) (inner : Frame) (asked : CallRequest) (after : Moment H B) : Type 0 where
     n : ℕ
     waited : CallRequest
-    mid : Moment B
+    mid : Moment H B
     waits : Waits o w stack base call before (entered base n) (length stack + 1) waited mid
     opened : Open o w (entered base n) (length stack + 1) waited frame inner asked mid after
 
-  opened_at : (stack : List Suspended) (frame : Suspended) (base inner : Frame) (call asked : CallRequest) (before after : Moment B) → Waits o w (stack ++ frame ∷ []) base call before inner (length (stack ++ frame ∷ []) + 1) asked after → Opened stack frame base call before inner asked after
+  opened_at : (stack : List Suspended) (frame : Suspended) (base inner : Frame) (call asked : CallRequest) (before after : Moment H B) → Waits o w (stack ++ frame ∷ []) base call before inner (length (stack ++ frame ∷ []) + 1) asked after → Opened stack frame base call before inner asked after
   opened_at stack frame base inner call asked before after all =
       let t = top all stack frame refl in
       let n : t.level_below ≡ length stack + 1 = let l = t.level_is in omega (arith, l, length_push stack frame) in
@@ -206,8 +207,8 @@ module _ {B : Type 0} (o : Objects B) (w : World) where
       }
 
   -- a node is handed to the call that waits for it
-  pub answered_goes : (stack news : List Suspended) (frame : Suspended) (node : CallNode) (base : Frame) (call : CallRequest) (before between after : Moment B) (outcome : Outcome) (hand : Hand) →
-      ((n level : ℕ) (inner : Frame) (own waited : CallRequest) (begun mid : Moment B) → Open o w (entered base n) level own frame inner waited begun mid → Runs o w inner (level + 1) waited node mid between false → Comes_to o w (entered base n) level own outcome begun after) →
+  pub answered_goes : (stack news : List Suspended) (frame : Suspended) (node : CallNode) (base : Frame) (call : CallRequest) (before between after : Moment H B) (outcome : Outcome) (hand : Hand) →
+      ((n level : ℕ) (inner : Frame) (own waited : CallRequest) (begun mid : Moment H B) → Open o w (entered base n) level own frame inner waited begun mid → Runs o w inner (level + 1) waited node mid between false → Comes_to o w (entered base n) level own outcome begun after) →
       Put stack outcome hand news →
       Going o w (stack ++ frame ∷ []) base call before (Answered node) between →
       Going o w news base call before hand after
@@ -218,18 +219,18 @@ module _ {B : Type 0} (o : Objects B) (w : World) where
       p
 
   -- the function of the top is held
-  pub top_held : (stack : List Suspended) (frame : Suspended) (base : Frame) (call : CallRequest) (before after : Moment B) (hand : Hand) (n : ℕ) →
-      all_held n w.engine.globals ≡ true → all_held n base.libs ≡ true → Going o w (stack ++ frame ∷ []) base call before hand after → func_held n frame.work.pick.func ≡ true
-  top_held stack frame base call before after hand n globals libs g =
+  pub top_held : (stack : List Suspended) (frame : Suspended) (base : Frame) (call : CallRequest) (before after : Moment H B) (hand : Hand) (n : ℕ) →
+      all_held n w.engine.globals ≡ true → all_held n base.libs ≡ true → builtins_held n w.engine.builtins ≡ true → Going o w (stack ++ frame ∷ []) base call before hand after → func_held n frame.work.pick.func ≡ true
+  top_held stack frame base call before after hand n globals libs bs g =
       let q = opened_at stack frame base g.f call g.waited before g.mid g.waits in
       open_held q.opened libs
     where
-      open_held : {f inner : Frame} {level : ℕ} {own waited : CallRequest} {begun mid : Moment B} → Open o w f level own frame inner waited begun mid → all_held n f.libs ≡ true → func_held n frame.work.pick.func ≡ true
+      open_held : {f inner : Frame} {level : ℕ} {own waited : CallRequest} {begun mid : Moment H B} → Open o w f level own frame inner waited begun mid → all_held n f.libs ≡ true → func_held n frame.work.pick.func ≡ true
       open_held (function_waits {f = f} {level = level} {call = own} {plan = plan} {pick = pick} k b d s steps) libs' =
-          ap (λ (x : Kept). func_held n x.pick.func) k ∙ runs_is_held w.engine f level own plan pick n globals libs' d
+          ap (λ (x : Kept). func_held n x.pick.func) k ∙ runs_is_held w.engine f level own plan pick n globals libs' bs d
 
   -- a call that waits is closed
-  cut_opened : {f inner : Frame} {level : ℕ} {own waited : CallRequest} {frame : Suspended} {child node : CallNode} {begun mid after : Moment B} →
+  cut_opened : {f inner : Frame} {level : ℕ} {own waited : CallRequest} {frame : Suspended} {child node : CallNode} {begun mid after : Moment H B} →
       seen node ≡ begun_node frame.work.call frame.work.level (Some frame.work.pick) (frame.work.carries ++ frame.carry ∷ []) (nodes_in frame.work.children ++ child ∷ []) (cut_end frame.work.call) →
       Open o w f level own frame inner waited begun mid →
       Runs o w inner (level + 1) waited child mid after true →
@@ -237,7 +238,7 @@ module _ {B : Type 0} (o : Objects B) (w : World) where
   cut_opened {frame = frame} {child = child} h (function_waits k b d s steps) r =
       cut_short b d s steps r (h ∙ ap (λ (x : Kept). begun_node x.call x.level (Some x.pick) (x.carries ++ frame.carry ∷ []) (x.children ++ child ∷ []) (cut_end x.call)) k)
 
-  pub cut_goes : (stack : List Suspended) (frame : Suspended) (base : Frame) (call : CallRequest) (before after : Moment B) (child node : CallNode) →
+  pub cut_goes : (stack : List Suspended) (frame : Suspended) (base : Frame) (call : CallRequest) (before after : Moment H B) (child node : CallNode) →
       seen node ≡ begun_node frame.work.call frame.work.level (Some frame.work.pick) (frame.work.carries ++ frame.carry ∷ []) (nodes_in frame.work.children ++ child ∷ []) (cut_end frame.work.call) →
       Cutting o w (stack ++ frame ∷ []) base call before child after →
       Cutting o w stack base call before node after
@@ -251,23 +252,23 @@ module _ {B : Type 0} (o : Objects B) (w : World) where
         is_cut = cut_opened h q.opened (subst (λ (k : ℕ). Runs o w g.f (k + 1) g.waited child g.mid after true) (length_push stack frame) g.is_cut);
       }
 
-  ends_at : {cut : Bool} (stack : List Suspended) (base f : Frame) (call waited : CallRequest) (before mid after : Moment B) (node : CallNode) → stack ≡ [] →
+  ends_at : {cut : Bool} (stack : List Suspended) (base f : Frame) (call waited : CallRequest) (before mid after : Moment H B) (node : CallNode) → stack ≡ [] →
       Waits o w stack base call before f (length stack + 1) waited mid → Runs o w f (length stack + 1) waited node mid after cut → Runs o w base 1 call node before after cut
   ends_at {cut} stack base f call waited before mid after node e below r =
       let b = bottom below e in
       subst (λ (x : Frame). Runs o w x 1 call node before after cut) b.3
       (subst (λ (k : ℕ). Runs o w f k call node before after cut) b.2
-      (subst (λ (m : Moment B). Runs o w f (length stack + 1) call node m after cut) (sym b.1)
+      (subst (λ (m : Moment H B). Runs o w f (length stack + 1) call node m after cut) (sym b.1)
       (subst (λ (x : CallRequest). Runs o w f (length stack + 1) x node mid after cut) b.0 r)))
 
-  pub cut_ends : (stack : List Suspended) (base : Frame) (call : CallRequest) (before after : Moment B) (node : CallNode) → stack ≡ [] → Cutting o w stack base call before node after → Runs o w base 1 call node before after true
+  pub cut_ends : (stack : List Suspended) (base : Frame) (call : CallRequest) (before after : Moment H B) (node : CallNode) → stack ≡ [] → Cutting o w stack base call before node after → Runs o w base 1 call node before after true
   cut_ends stack base call before after node e g = ends_at stack base g.f call g.waited before g.mid after node e g.waits g.is_cut
 
-  pub answer_ends : (stack : List Suspended) (base : Frame) (call : CallRequest) (before after : Moment B) (node : CallNode) → stack ≡ [] → Going o w stack base call before (Answered node) after → Runs o w base 1 call node before after false
+  pub answer_ends : (stack : List Suspended) (base : Frame) (call : CallRequest) (before after : Moment H B) (node : CallNode) → stack ≡ [] → Going o w stack base call before (Answered node) after → Runs o w base 1 call node before after false
   answer_ends stack base call before after node e g = ends_at stack base g.f call g.waited before g.mid after node e g.waits (answer_parts g.holds node refl)
 
   -- a call that is asked for isn't begun where the budget is spent
-  pub spent : (stack : List Suspended) (base : Frame) (call request : CallRequest) (before begun : Moment B) (node : CallNode) → begun.begun ≡ w.engine.limits.budget →
+  pub spent : (stack : List Suspended) (base : Frame) (call request : CallRequest) (before begun : Moment H B) (node : CallNode) → begun.begun ≡ w.engine.limits.budget →
       seen node ≡ unbegun_node request (length stack + 1) →
       Going o w stack base call before (Asked request) begun →
       Cutting o w stack base call before node begun
@@ -277,11 +278,27 @@ module _ {B : Type 0} (o : Objects B) (w : World) where
         f = g.f;
         waited = request;
         mid = begun;
-        waits = subst (λ (x : CallRequest). Waits o w stack base call before g.f (length stack + 1) x begun) p.0 (subst (λ (m : Moment B). Waits o w stack base call before g.f (length stack + 1) g.waited m) p.1 g.waits);
+        waits = subst (λ (x : CallRequest). Waits o w stack base call before g.f (length stack + 1) x begun) p.0 (subst (λ (m : Moment H B). Waits o w stack base call before g.f (length stack + 1) g.waited m) p.1 g.waits);
         is_cut = not_begun e h;
       }
 
-  pub begins_with : (stack : List Suspended) (base : Frame) (call : CallRequest) (before : Moment B) → stack ≡ [] → Going o w stack base call before (Asked call) before
+  pub begins_with : (stack : List Suspended) (base : Frame) (call : CallRequest) (before : Moment H B) → stack ≡ [] → Going o w stack base call before (Asked call) before
   begins_with stack base call before e =
       subst (λ (fs : List Suspended). Going o w fs base call before (Asked call) before) (sym e)
       (record { f = base; waited = call; mid = before; waits = lowest; holds = holds_request })
+
+  -- the first call is answered at once
+  answered_at_once : {f : Frame} {level : ℕ} {call : CallRequest} {outcome : Outcome} {before after : Moment H B} → Comes_to o w f level call outcome before after → (node : CallNode) → outcome ≡ Finished node → Runs o w f level call node before after false
+  answered_at_once (it_waits opened) node e = absurd cc
+  answered_at_once {f} {level} {call} {before = before} {after = after} (it_is_answered {node = n} r) node e = let same : n ≡ node = cc in subst (λ (x : CallNode). Runs o w f level call x before after false) same r
+
+  pub root_ends : (base : Frame) (call : CallRequest) (before after : Moment H B) (outcome : Outcome) (node : CallNode) → ((n : ℕ) → Comes_to o w (entered base n) 1 call outcome before after) → outcome ≡ Finished node → Runs o w base 1 call node before after false
+  root_ends base call before after outcome node step e = answered_at_once (step base.level) node e
+
+  -- or goes on
+  pub root_goes : (stack news : List Suspended) (base : Frame) (call : CallRequest) (before after : Moment H B) (outcome : Outcome) (hand : Hand) → ((n : ℕ) → Comes_to o w (entered base n) 1 call outcome before after) → stack ≡ [] → Put stack outcome hand news → Going o w news base call before hand after
+  root_goes stack news base call before after outcome hand step e p = asked_goes [] news base call call before before after outcome hand step (subst (λ (fs : List Suspended). Put fs outcome hand news) e p) (begins_with [] base call before refl)
+
+  -- or isn't begun
+  pub root_spent : (base : Frame) (call : CallRequest) (begun : Moment H B) (node : CallNode) → begun.begun ≡ w.engine.limits.budget → seen node ≡ unbegun_node call 1 → Runs o w base 1 call node begun begun true
+  root_spent base call begun node e h = not_begun e h

@@ -17,16 +17,16 @@ use Rattle.rhd_session.specs.Received.{Received}
 use Rattle.rhd_session.specs.Entered.{context_if}
 use Rattle.rhd_session.specs.Steps.{Starts, native_starts, body_starts, Resumes, native_resumes, body_resumes}
 
-module _ {B : Type 0} (o : Objects B) where
+module _ {H B : Type 0} (o : Objects H B) where
   -- a native starts
-  pub native_started : {E : Type 0} (r : Result NativeStep E) (func : RhaiFunc) (ctx : NativeCallContext) (received : Received) (id : FnId) (handed : Option NativeCallContext) (s : Moment B) →
+  pub native_started : {E : Type 0} (r : Result NativeStep E) (func : RhaiFunc) (ctx : NativeCallContext) (received : Received) (id : FnId) (handed : Option NativeCallContext) (s : Moment H B) →
       native_of func ≡ Some id → handed ≡ context_if (has_context func) ctx → IfOk r (o.native_starts id handed received.first received.args) → IfOk r (λ step. Starts o ctx func received s step s)
   native_started r func ctx received id handed s i h a =
       IfOk-weaker r (o.native_starts id handed received.first received.args) (λ step. Starts o ctx func received s step s)
       (λ step allowed. native_starts i (subst (λ (x : Option NativeCallContext). o.native_starts id x received.first received.args step) h allowed)) a
 
   -- so does the body of a script
-  pub body_started : {E : Type 0} (r : Result NativeStep E) (func : RhaiFunc) (def told : ScriptFuncDef) (env : Option EnvId) (ctx : NativeCallContext) (received : Received) (s : Moment B) (bodies : B) →
+  pub body_started : {E : Type 0} (r : Result NativeStep E) (func : RhaiFunc) (def told : ScriptFuncDef) (env : Option EnvId) (ctx : NativeCallContext) (received : Received) (s : Moment H B) (bodies : B) →
       func ≡ Script def env → told ≡ def → IfOk r (λ step. o.body_starts s.bodies told ctx received.first received.args step bodies) → IfOk r (λ step. Starts o ctx func received s step (record s { bodies = bodies }))
   body_started r func def told env ctx received s bodies is same a =
       subst (λ (x : RhaiFunc). IfOk r (λ step. Starts o ctx x received s step (record s { bodies = bodies }))) (sym is)
@@ -34,41 +34,41 @@ module _ {B : Type 0} (o : Objects B) where
       (subst (λ (d : ScriptFuncDef). IfOk r (λ step. o.body_starts s.bodies d ctx received.first received.args step bodies)) same a))
 
   -- the same of an equal context, and of equal arguments
-  pub starts_on : {E : Type 0} (r : Result NativeStep E) (func : RhaiFunc) (ctx other : NativeCallContext) (received same : Received) (s t : Moment B) →
+  pub starts_on : {E : Type 0} (r : Result NativeStep E) (func : RhaiFunc) (ctx other : NativeCallContext) (received same : Received) (s t : Moment H B) →
       ctx ≡ other → received.first ≡ same.first → received.args ≡ same.args → IfOk r (λ step. Starts o ctx func received s step t) → IfOk r (λ step. Starts o other func same s step t)
   starts_on r func ctx other received same s t c first args a =
       let all : received ≡ same = λ i. record { first = first i; args = args i } in
       subst (λ (x : Received). IfOk r (λ step. Starts o other func x s step t)) all (subst (λ (x : NativeCallContext). IfOk r (λ step. Starts o x func received s step t)) c a)
 
   -- a native goes on
-  pub native_resumed : {E : Type 0} (r : Result NativeStep E) (func : RhaiFunc) (ctx : NativeCallContext) (carry : Carry) (done : CallDone) (id : FnId) (handed : Option NativeCallContext) (s : Moment B) →
+  pub native_resumed : {E : Type 0} (r : Result NativeStep E) (func : RhaiFunc) (ctx : NativeCallContext) (carry : Carry) (done : CallDone) (id : FnId) (handed : Option NativeCallContext) (s : Moment H B) →
       native_of func ≡ Some id → handed ≡ context_if (has_context func) ctx → IfOk r (o.native_resumes id handed carry done) → IfOk r (λ step. Resumes o ctx func carry done s step s)
   native_resumed r func ctx carry done id handed s i h a =
       IfOk-weaker r (o.native_resumes id handed carry done) (λ step. Resumes o ctx func carry done s step s)
       (λ step allowed. native_resumes i (subst (λ (x : Option NativeCallContext). o.native_resumes id x carry done step) h allowed)) a
 
   -- so does the body of a script
-  pub body_resumed : {E : Type 0} (r : Result NativeStep E) (func : RhaiFunc) (def told : ScriptFuncDef) (env : Option EnvId) (ctx : NativeCallContext) (carry : Carry) (done : CallDone) (s : Moment B) (bodies : B) →
+  pub body_resumed : {E : Type 0} (r : Result NativeStep E) (func : RhaiFunc) (def told : ScriptFuncDef) (env : Option EnvId) (ctx : NativeCallContext) (carry : Carry) (done : CallDone) (s : Moment H B) (bodies : B) →
       func ≡ Script def env → told ≡ def → IfOk r (λ step. o.body_resumes s.bodies told ctx carry done step bodies) → IfOk r (λ step. Resumes o ctx func carry done s step (record s { bodies = bodies }))
   body_resumed r func def told env ctx carry done s bodies is same a =
       subst (λ (x : RhaiFunc). IfOk r (λ step. Resumes o ctx x carry done s step (record s { bodies = bodies }))) (sym is)
       (IfOk-weaker r (λ step. o.body_resumes s.bodies def ctx carry done step bodies) (λ step. Resumes o ctx (Script def env) carry done s step (record s { bodies = bodies })) (λ step allowed. body_resumes allowed)
       (subst (λ (d : ScriptFuncDef). IfOk r (λ step. o.body_resumes s.bodies d ctx carry done step bodies)) same a))
 
-  pub resumes_in : {E : Type 0} (r : Result NativeStep E) (func : RhaiFunc) (ctx other : NativeCallContext) (carry : Carry) (done : CallDone) (s t : Moment B) →
+  pub resumes_in : {E : Type 0} (r : Result NativeStep E) (func : RhaiFunc) (ctx other : NativeCallContext) (carry : Carry) (done : CallDone) (s t : Moment H B) →
       ctx ≡ other → IfOk r (λ step. Resumes o ctx func carry done s step t) → IfOk r (λ step. Resumes o other func carry done s step t)
   resumes_in r func ctx other carry done s t c a = subst (λ (x : NativeCallContext). IfOk r (λ step. Resumes o x func carry done s step t)) c a
 
-  pub resumed_of : {E : Type 0} (r : Result NativeStep E) (func : RhaiFunc) (ctx : NativeCallContext) (carry same : Carry) (done equal : CallDone) (s t : Moment B) →
+  pub resumed_of : {E : Type 0} (r : Result NativeStep E) (func : RhaiFunc) (ctx : NativeCallContext) (carry same : Carry) (done equal : CallDone) (s t : Moment H B) →
       carry ≡ same → done ≡ equal → IfOk r (λ step. Resumes o ctx func carry done s step t) → IfOk r (λ step. Resumes o ctx func same equal s step t)
   resumed_of r func ctx carry same done equal s t c d a =
       subst (λ (x : CallDone). IfOk r (λ step. Resumes o ctx func same x s step t)) d (subst (λ (x : Carry). IfOk r (λ step. Resumes o ctx func x done s step t)) c a)
 
 -- a step leaves the number of calls begun
-pub starts_begun : {B : Type 0} {o : Objects B} {ctx : NativeCallContext} {func : RhaiFunc} {received : Received} {s t : Moment B} {step : NativeStep} → Starts o ctx func received s step t → t.begun ≡ s.begun
+pub starts_begun : {H B : Type 0} {o : Objects H B} {ctx : NativeCallContext} {func : RhaiFunc} {received : Received} {s t : Moment H B} {step : NativeStep} → Starts o ctx func received s step t → t.begun ≡ s.begun
 starts_begun (native_starts i a) = refl
 starts_begun (body_starts a) = refl
 
-pub resumes_begun : {B : Type 0} {o : Objects B} {ctx : NativeCallContext} {func : RhaiFunc} {carry : Carry} {done : CallDone} {s t : Moment B} {step : NativeStep} → Resumes o ctx func carry done s step t → t.begun ≡ s.begun
+pub resumes_begun : {H B : Type 0} {o : Objects H B} {ctx : NativeCallContext} {func : RhaiFunc} {carry : Carry} {done : CallDone} {s t : Moment H B} {step : NativeStep} → Resumes o ctx func carry done s step t → t.begun ≡ s.begun
 resumes_begun (native_resumes i a) = refl
 resumes_begun (body_resumes a) = refl

@@ -24,7 +24,7 @@ no_end : (e : EngineLists) (plan : Plan) (pick : Pick) (request : CallRequest) (
 unfolding end_of
 no_end e plan pick request carry end h = absurd cc
 
-module _ {B : Type 0} (o : Objects B) (w : World) (f : Frame) (level : ℕ) (call : CallRequest) (plan : Plan) (pick : Pick) where
+module _ {H B : Type 0} (o : Objects H B) (w : World) (f : Frame) (level : ℕ) (call : CallRequest) (plan : Plan) (pick : Pick) where
   dropped_by : {step : NativeStep} {carries : List Carry} {children : List CallNode} {end : End} {cut : Bool} → Requests o w f level call plan pick step carries children end cut → (request : CallRequest) (carry : Carry) → step ≡ Ask request carry → children ≡ [] → ⊥
   dropped_by (no_more {end = end} e) request carry is none = no_end w.engine plan pick request carry end (sym (ap (end_of w.engine plan pick) is) ∙ e)
   dropped_by (the_last is' short e) request carry is none = absurd cc
@@ -44,7 +44,7 @@ module _ {B : Type 0} (o : Objects B) (w : World) (f : Frame) (level : ℕ) (cal
   another_call request carry carries child children end cut requests = other_by requests request carry child children refl refl
 
   second_by : {step : NativeStep} {carries : List Carry} {children : List CallNode} {end : End} {cut : Bool} → Requests o w f level call plan pick step carries children end cut → (request : CallRequest) (carry : Carry) (child : CallNode) →
-      ((next : NativeStep) (from to : Moment B) → Resumes o (context f level plan) pick.func carry (done_of child) from next to → (again : CallRequest) × (kept : Carry) × (next ≡ Ask again kept)) →
+      ((next : NativeStep) (from to : Moment H B) → Resumes o (context f level plan) pick.func carry (done_of child) from next to → (again : CallRequest) × (kept : Carry) × (next ≡ Ask again kept)) →
       step ≡ Ask request carry → children ≡ child ∷ [] → cut ≡ true
   second_by (no_more e) request carry child asks is these = absurd cc
   second_by (the_last is' short e) request carry child asks is these = refl
@@ -57,7 +57,7 @@ module _ {B : Type 0} (o : Objects B) (w : World) (f : Frame) (level : ℕ) (cal
 
   -- a function that asks again after the answer to its first request has a second child, unless the budget was spent in the first
   pub second_dropped : (request : CallRequest) (carry : Carry) (carries : List Carry) (child : CallNode) (end : End) (cut : Bool) →
-      ((next : NativeStep) (from to : Moment B) → Resumes o (context f level plan) pick.func carry (done_of child) from next to → (again : CallRequest) × (kept : Carry) × (next ≡ Ask again kept)) →
+      ((next : NativeStep) (from to : Moment H B) → Resumes o (context f level plan) pick.func carry (done_of child) from next to → (again : CallRequest) × (kept : Carry) × (next ≡ Ask again kept)) →
       Requests o w f level call plan pick (Ask request carry) carries (child ∷ []) end cut → cut ≡ true
   second_dropped request carry carries child end cut asks requests = second_by requests request carry child asks refl refl
 

@@ -1,5 +1,5 @@
 -- Which replies answer a list of commands.
-use Rattle.std.specs.Prelude.{◌≡◌, Bool, List, [], ◌∷◌, None, Some}
+use Rattle.std.specs.Prelude.{◌≡◌, ℕ, ◌≤◌, Bool, List, [], ◌∷◌, None, Some}
 use Rattle.rhd_func.specs.declared.request.CallRequest.{CallRequest}
 use Rattle.rhd_module.specs.declared.fault.DeclFault.{DeclFault}
 use Rattle.rhd_session.specs.declared.command.Command.{Command}
@@ -22,19 +22,24 @@ pub data Applied (w : World) (f : Frame) (command : Command) : Reply → World �
       Applied w f command c.reply c.world c.frame
 
 -- a call is answered by a tree that runs at level 1
-abbrev pub CallReplied : {B : Type 0} → Objects B → World → Frame → Moment B → CallRequest → Reply → Moment B → Type 0
+abbrev pub CallReplied : {H B : Type 0} → Objects H B → World → Frame → Moment H B → CallRequest → Reply → Moment H B → Type 0
 CallReplied o w f before request (Called node) after = (cut : Bool) × Runs o w f 1 request node before after cut
 CallReplied o w f before request reply after = ⊥
 
 -- this reply answers the command
-abbrev pub Replied : {B : Type 0} → Objects B → World → Frame → Moment B → Command → Reply → World → Frame → Moment B → Type 0
+abbrev pub Replied : {H B : Type 0} → Objects H B → World → Frame → Moment H B → Command → Reply → World → Frame → Moment H B → Type 0
 Replied o w f before (commands.Call request) reply w2 f2 after = CallReplied o w f before request reply after × (w2 ≡ w) × (f2 ≡ f)
 Replied o w f before command reply w2 f2 after = Applied w f command reply w2 f2 × (after ≡ before)
 
+-- so many calls were begun before and after this command is done, or given up: it begins any where it is a call, and none else
+abbrev pub Begins : Command → ℕ → ℕ → Type 0
+Begins (commands.Call request) before after = before ≤ after
+Begins command before after = after ≡ before
+
 -- these replies answer these commands, in order
-abbrev pub Answered : {B : Type 0} → Objects B → World → Frame → Moment B → List Command → List Reply → World → Frame → Moment B → Type 0
+abbrev pub Answered : {H B : Type 0} → Objects H B → World → Frame → Moment H B → List Command → List Reply → World → Frame → Moment H B → Type 0
 Answered o w f before [] [] w2 f2 after = (w2 ≡ w) × (f2 ≡ f) × (after ≡ before)
 Answered o w f before [] (reply ∷ replies) w2 f2 after = ⊥
 Answered o w f before (command ∷ commands) [] w2 f2 after = ⊥
-Answered {B} o w f before (command ∷ commands) (reply ∷ replies) w2 f2 after =
-    (w1 : World) × (f1 : Frame) × (mid : Moment B) × Replied o w f before command reply w1 f1 mid × Answered o w1 f1 mid commands replies w2 f2 after
+Answered {H} {B} o w f before (command ∷ commands) (reply ∷ replies) w2 f2 after =
+    (w1 : World) × (f1 : Frame) × (mid : Moment H B) × Replied o w f before command reply w1 f1 mid × Answered o w1 f1 mid commands replies w2 f2 after

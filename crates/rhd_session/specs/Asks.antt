@@ -1,9 +1,16 @@
 -- The questions that a call by name asks in order, and the pick: the first that is answered.
-use Rattle.std.specs.Prelude.{ℕ, ◌+◌, Bool, if◌then◌else◌, List, [], ◌∷◌, ◌++◌, length, map, Option, None}
+use Rattle.std.specs.Prelude.{ℕ, ◌+◌, Bool, not, if◌then◌else◌, List, [], ◌∷◌, ◌++◌, length, map, Option, None, Some, option_map}
+use Rattle.std.specs.Map.{lookup}
+use Rattle.std.specs.Option.{option_or}
 use Rattle.rhd_value.specs.Tree.{Bytes}
 use Rattle.rhd_value.specs.Kinds.{tag_of}
 use Rattle.rhd_value.specs.Firsts.{first_of}
+use Rattle.rhd_value.specs.declared.tag.FnId.{FnId}
 use Rattle.rhd_value.specs.declared.tag.TypeTag.{TypeTag}
+use Rattle.rhd_names.specs.declared.token.OpToken.{OpToken}
+use Rattle.rhd_names.specs.Tokens.{is_assignment}
+use Rattle.rhd_func.specs.Natives.{says}
+use Rattle.rhd_func.specs.declared.func.RhaiFunc.TheVariants as funcs
 use Rattle.rhd_func.specs.declared.request.CallShape.{CallShape}
 use Rattle.rhd_func.specs.declared.request.CallShape.TheVariants.{Plain, ByRef, Method}
 use Rattle.rhd_func.specs.Shapes.{all_args}
@@ -11,28 +18,47 @@ use Rattle.rhd_module.specs.declared.key.Key.{Key}
 use Rattle.rhd_module.specs.declared.key.Key.TheVariants.{Script, Typed, Native}
 use Rattle.rhd_session.specs.Display.{display}
 use Rattle.rhd_session.specs.Engine.{EngineLists, Frame}
+use Rattle.rhd_session.specs.Operators.{operator_eq}
+use Rattle.rhd_session.specs.Patterns.{patterns}
 use Rattle.rhd_session.specs.Searched.{found}
+use Rattle.rhd_session.specs.declared.pick.Layer.TheVariants.{Builtin}
 use Rattle.rhd_session.specs.declared.pick.Pick.{Pick}
 
 pub data Asked : Type 0 where
   typed : Bytes → ℕ → Bytes → Asked  -- name, number of parameters, type of the object
   script : Bytes → ℕ → Asked  -- name, number of parameters
-  native : Bytes → List TypeTag → Asked  -- name, kinds
+  native : Bytes → List TypeTag → Option OpToken → Asked  -- name, kinds, token
 
--- A script is looked up by its number of parameters, one of a type by that type too; a native by the exact kinds.
-abbrev pub asked_key : Asked → Key
-asked_key (typed name params this_type) = Typed None name params this_type
-asked_key (script name params) = Script None name params
-asked_key (native name kinds) = Native None name kinds
+-- a built-in is a method, and pure where it is no assignment
+abbrev pub builtin_pick : EngineLists → OpToken → FnId → Pick
+builtin_pick e token id = record { layer = Builtin; func = funcs.Method id (says (λ n. n.has_context) e.natives id) (not (is_assignment token)) (says (λ n. n.is_volatile) e.natives id) }
 
+-- the built-in of a token and two kinds
+abbrev pub builtin : EngineLists → Option OpToken → List TypeTag → Option Pick
+builtin e (Some token) (left ∷ right ∷ []) = option_map (builtin_pick e token) (lookup (operator_eq (record { token = token; left = left; right = right })) e.builtins)
+builtin e token kinds = None
+
+-- the native of a name that takes these types
+abbrev pub native_found : EngineLists → Frame → Bytes → List TypeTag → Option Pick
+native_found e f name types = found e f (Native None name types)
+
+-- A script is looked up by its number of parameters, one of a type by that type too; a native by each pattern in turn, and then among the built-ins.
 abbrev pub looked : EngineLists → Frame → Asked → Option Pick
-looked e f ask = found e f (asked_key ask)
+looked e f (typed name params this_type) = found e f (Typed None name params this_type)
+looked e f (script name params) = found e f (Script None name params)
+looked e f (native name kinds token) = option_or (first_of (native_found e f name) (patterns kinds)) (builtin e token kinds)
 
 -- the number of arguments, an object not counted
 abbrev pub params_of : CallShape → ℕ
 params_of (Plain args) = length args
 params_of (ByRef first args) = length args + 1
 params_of (Method object args) = length args
+
+-- the key of a script of the type of an object
+abbrev pub typed_key : Bytes → CallShape → Option Key
+typed_key name (Plain args) = None
+typed_key name (ByRef first args) = None
+typed_key name (Method object args) = Some (Typed None name (length args) (display object))
 
 -- the scripts of the type of an object
 abbrev pub typed_asks : Bytes → CallShape → List Asked
@@ -44,16 +70,16 @@ typed_asks name (Method object args) = typed name (length args) (display object)
 abbrev pub script_asks : Bytes → CallShape → List Asked
 script_asks name shape = typed_asks name shape ++ script name (params_of shape) ∷ []
 
-abbrev pub native_ask : Bytes → CallShape → Asked
-native_ask name shape = native name (map tag_of (all_args shape))
+abbrev pub native_ask : Bytes → Option OpToken → CallShape → Asked
+native_ask name token shape = native name (map tag_of (all_args shape)) token
 
 -- the scripts where they are allowed
 abbrev pub allowed_asks : Bytes → Bool → CallShape → List Asked
 allowed_asks name native_only shape = if native_only then [] else script_asks name shape
 
--- all of them in order: scripts, and then natives
-abbrev pub asks : Bytes → Bool → CallShape → List Asked
-asks name native_only shape = allowed_asks name native_only shape ++ native_ask name shape ∷ []
+-- all of them in order: scripts, then natives and built-ins
+abbrev pub asks : Bytes → Option OpToken → Bool → CallShape → List Asked
+asks name token native_only shape = allowed_asks name native_only shape ++ native_ask name token shape ∷ []
 
-abbrev pub pick_unqualified : EngineLists → Frame → Bytes → Bool → CallShape → Option Pick
-pick_unqualified e f name native_only shape = first_of (looked e f) (asks name native_only shape)
+abbrev pub pick_unqualified : EngineLists → Frame → Bytes → Option OpToken → Bool → CallShape → Option Pick
+pick_unqualified e f name token native_only shape = first_of (looked e f) (asks name token native_only shape)

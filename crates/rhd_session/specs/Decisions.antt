@@ -1,36 +1,55 @@
 -- What becomes of a call: everything that no function has a choice in.
-use Rattle.std.specs.Prelude.{ℕ, ◌+◌, List, [], ◌∷◌, ◌++◌, nat_lt, if◌then◌else◌, Option, None, Some, option_map, codes, decimal}
+use Rattle.std.specs.Prelude.{ℕ, ◌+◌, Bool, true, false, not, ◌&&◌, List, [], ◌∷◌, ◌++◌, nat_lt, if◌then◌else◌, Option, None, Some, option_map, codes, decimal}
 use Rattle.rhd_value.specs.Tree.{Bytes, Tree}
 use Rattle.rhd_value.specs.Firsts.{first_some, where_holds}
 use Rattle.rhd_value.specs.declared.fault.EvalAltResult.{EvalAltResult}
-use Rattle.rhd_value.specs.declared.fault.EvalAltResult.TheVariants.{ErrorStackOverflow, ErrorDataRace}
+use Rattle.rhd_value.specs.declared.fault.EvalAltResult.TheVariants.{ErrorStackOverflow, ErrorDataRace, ErrorNonPureMethodCallOnConstant}
 use Rattle.rhd_func.specs.declared.request.CallShape.{CallShape}
 use Rattle.rhd_func.specs.declared.request.CallShape.TheVariants.{Plain, ByRef, Method}
 use Rattle.rhd_func.specs.declared.request.CallRequest.{CallRequest}
+use Rattle.rhd_func.specs.Funcs.{is_pure, is_script}
 use Rattle.rhd_func.specs.Shapes.{all_args, given, pos_of}
 use Rattle.rhd_session.specs.Engine.{EngineLists, Frame}
 use Rattle.rhd_session.specs.declared.pick.Pick.{Pick}
 use Rattle.rhd_session.specs.Asks.{pick_unqualified}
 use Rattle.rhd_session.specs.NotFound.{not_found}
 use Rattle.rhd_session.specs.Plans.{Search, by_name, Plan, plan_of}
+use Rattle.rhd_session.specs.Received.{received, manner_of, first_received, is_read_only}
 use Rattle.rhd_session.specs.declared.ends.End.{End}
 use Rattle.rhd_session.specs.Ends.{failed}
 
 pub data Decision : Type 0 where
   ends : Option Pick → End → Decision  -- nothing runs
+  asks_host : Plan → Decision
   runs : Plan → Pick → Decision
 
 abbrev pub pick_by : EngineLists → Frame → Plan → Search → Option Pick
-pick_by e f plan (by_name native_only) = pick_unqualified e f plan.name native_only plan.shape
+pick_by e f plan (by_name token native_only) = pick_unqualified e f plan.name token native_only plan.shape
 
 -- the pick of a call of one function
 abbrev pub pick_of : EngineLists → Frame → Plan → Option Pick
 pick_of e f plan = pick_by e f plan plan.search
 
--- with a pick its function runs; without one it isn't found
+-- A native or built-in that isn't pure receives a read-only first argument.
+abbrev pub is_on_constant : Plan → Pick → Bool
+is_on_constant plan pick = not (is_script pick.func) && (not (is_pure pick.func) && is_read_only (first_received (received (manner_of pick.func) plan.shape)))
+
+-- how a call ends whose function isn't for a constant
+abbrev pub constant_end : Plan → End
+constant_end plan = failed plan.given (ErrorNonPureMethodCallOnConstant plan.name plan.pos)
+
+-- the function of a pick runs, unless it isn't for a constant
+abbrev pub picked : Plan → Pick → Decision
+picked plan pick = if is_on_constant plan pick then ends (Some pick) (constant_end plan) else runs plan pick
+
+-- without a pick: the host is asked where scripts are allowed
+abbrev pub unpicked : Plan → Search → Decision
+unpicked plan (by_name token false) = asks_host plan
+unpicked plan (by_name token true) = ends None (failed plan.given (not_found plan.pos plan.name (all_args plan.shape)))
+
 abbrev pub decided : Plan → Option Pick → Decision
-decided plan None = ends None (failed plan.given (not_found plan.pos plan.name (all_args plan.shape)))
-decided plan (Some pick) = runs plan pick
+decided plan None = unpicked plan plan.search
+decided plan (Some pick) = picked plan pick
 
 -- The level is above the limit.
 abbrev pub too_deep : EngineLists → ℕ → CallRequest → Option EvalAltResult
@@ -52,7 +71,7 @@ locked_text name n = codes "argument #" ++ decimal n ++ codes " of function '" +
 
 -- An argument is locked.
 abbrev pub locked_argument : Plan → Search → Option EvalAltResult
-locked_argument plan (by_name native_only) = option_map (λ n. ErrorDataRace (locked_text plan.name n) plan.pos) (locked_place plan.shape)
+locked_argument plan (by_name token native_only) = option_map (λ n. ErrorDataRace (locked_text plan.name n) plan.pos) (locked_place plan.shape)
 
 -- the causes of a refusal in their order, each with how the call then ends
 abbrev pub causes : EngineLists → ℕ → CallRequest → List (Option End)

@@ -1,6 +1,6 @@
 -- How a call ends: its answer, and what the checks of the answer make of it.
-use Rattle.std.specs.Prelude.{not, nat_lt, [], ◌∷◌, if◌then◌else◌, Option, None, Some, option_and_then, Ok, Err, codes}
-use Rattle.rhd_value.specs.Tree.{Tree}
+use Rattle.std.specs.Prelude.{Bool, not, nat_lt, [], ◌∷◌, if◌then◌else◌, Option, None, Some, option_and_then, Ok, Err, codes}
+use Rattle.rhd_value.specs.Tree.{Bytes, Tree}
 use Rattle.rhd_value.specs.Kinds.{tag_of, type_name}
 use Rattle.rhd_value.specs.Sums.{sizes_of}
 use Rattle.rhd_value.specs.Same.{tag_eq}
@@ -12,24 +12,30 @@ use Rattle.rhd_value.specs.declared.fault.EvalAltResult.{EvalAltResult}
 use Rattle.rhd_value.specs.declared.fault.EvalAltResult.TheVariants.{ErrorMismatchOutputType, ErrorDataTooLarge}
 use Rattle.rhd_func.specs.declared.request.NativeStep.{NativeStep}
 use Rattle.rhd_func.specs.declared.request.NativeStep.TheVariants.{Done, Failed, Ask}
+use Rattle.rhd_func.specs.declared.request.HostAnswer.{HostAnswer}
+use Rattle.rhd_func.specs.declared.request.HostAnswer.TheVariants as host
 use Rattle.rhd_func.specs.Funcs.{is_script}
+use Rattle.rhd_func.specs.Shapes.{all_args}
+use Rattle.rhd_session.specs.NotFound.{not_found}
 use Rattle.rhd_session.specs.declared.ends.End.{End}
 use Rattle.rhd_session.specs.declared.limits.Limits.{Limits}
+use Rattle.rhd_session.specs.declared.limits.Printers.{Printers}
 use Rattle.rhd_session.specs.declared.node.Whose.{Whose}
-use Rattle.rhd_session.specs.declared.node.Whose.TheVariants.{Call, Called}
+use Rattle.rhd_session.specs.declared.node.Whose.TheVariants.{Call, Called, Host}
 use Rattle.rhd_session.specs.declared.pick.Pick.{Pick}
 use Rattle.rhd_session.specs.Display.{display}
 use Rattle.rhd_session.specs.Engine.{EngineLists}
 use Rattle.rhd_session.specs.Plans.{Plan}
+use Rattle.rhd_session.specs.Printed.{printer, no_text, printed_text, said}
 use Rattle.rhd_session.specs.Received.{manner_of, first_after}
 
 -- a fault of the call itself, where no value was refused
 abbrev pub failed : Option Tree → EvalAltResult → End
-failed first fault = record { answer = Err fault; whose = Call; first_after = first; refused = None }
+failed first fault = record { answer = Err fault; whose = Call; first_after = first; printed = None; refused = None }
 
 -- a fault of the call itself, which refuses this value
 abbrev pub refusing : Option Tree → Tree → EvalAltResult → End
-refusing first v fault = record { answer = Err fault; whose = Call; first_after = first; refused = Some v }
+refusing first v fault = record { answer = Err fault; whose = Call; first_after = first; printed = None; refused = Some v }
 
 -- The value isn't of the wanted kind. A call that wants no kind, or the kind of any value, takes each.
 abbrev pub not_wanted : Option TypeTag → Position → Tree → Option EvalAltResult
@@ -40,7 +46,7 @@ not_wanted (Some want) pos v = where_holds (not (tag_eq want (tag_of v))) (Error
 -- a value that is tested for the wanted kind alone
 abbrev pub accepted : Plan → Whose → Option Tree → Tree → End
 accepted plan whose first v = elim (not_wanted plan.want plan.pos v) as (λ _. End) [
-  | None ↦ record { answer = Ok v; whose = whose; first_after = first; refused = None }
+  | None ↦ record { answer = Ok v; whose = whose; first_after = first; printed = None; refused = None }
   | Some fault ↦ refusing first v fault
 ]
 
@@ -62,7 +68,7 @@ first_at_end plan pick back = first_after (manner_of pick.func) plan.shape plan.
 abbrev pub first_too_large : Limits → Plan → Pick → Option Tree → Option EvalAltResult
 first_too_large limits plan pick back = if is_script pick.func then None else option_and_then (too_large limits plan.pos) (first_at_end plan pick back)
 
--- the checks of a function's value before that of its kind, in their order
+-- the checks of sizes, in their order
 abbrev pub unfit : Limits → Plan → Pick → Option Tree → Tree → Option EvalAltResult
 unfit limits plan pick back v =
     first_some (
@@ -71,19 +77,36 @@ unfit limits plan pick back v =
     ∷ []
     )
 
+-- the same end, which shows this printed text
+abbrev pub showing : Option Bytes → End → End
+showing printed end = record end { printed = printed }
+
+-- A value of sizes that are allowed: a printer that is set takes a text alone. The text stays printed where the call then refuses what it answers.
+abbrev pub told : Option Bool → Plan → Option Tree → Tree → End
+told printer plan first v = elim (no_text printer plan.pos v) as (λ _. End) [
+  | None ↦ showing (printed_text printer v) (accepted plan Called first (said printer v))
+  | Some fault ↦ refusing first v fault
+]
+
 -- a function answered this value, and gave this back of its first argument
-abbrev pub done : Limits → Plan → Pick → Option Tree → Tree → End
-done limits plan pick back v = elim (unfit limits plan pick back v) as (λ _. End) [
-  | None ↦ accepted plan Called (first_at_end plan pick back) v
+abbrev pub done : Limits → Printers → Plan → Pick → Option Tree → Tree → End
+done limits printers plan pick back v = elim (unfit limits plan pick back v) as (λ _. End) [
+  | None ↦ told (printer printers plan pick) plan (first_at_end plan pick back) v
   | Some fault ↦ refusing (first_at_end plan pick back) v fault
 ]
 
 -- its own fault is handed on unchanged
 abbrev pub handed_on : Plan → Pick → Option Tree → EvalAltResult → End
-handed_on plan pick back fault = record { answer = Err fault; whose = Called; first_after = first_at_end plan pick back; refused = None }
+handed_on plan pick back fault = record { answer = Err fault; whose = Called; first_after = first_at_end plan pick back; printed = None; refused = None }
 
 -- how a call ends with the last step of its function; a request is no end
 unfoldable pub end_of : EngineLists → Plan → Pick → NativeStep → Option End
-end_of e plan pick (Done v back) = Some (done e.limits plan pick back v)
+end_of e plan pick (Done v back) = Some (done e.limits e.printers plan pick back v)
 end_of e plan pick (Failed fault back) = Some (handed_on plan pick back fault)
 end_of e plan pick (Ask request carry) = None
+
+-- how a call ends with what the host answered
+unfoldable pub host_end : Plan → HostAnswer → End
+host_end plan host.Nothing = failed plan.given (not_found plan.pos plan.name (all_args plan.shape))
+host_end plan (host.Value v) = accepted plan Host plan.given v
+host_end plan (host.Fault fault) = record { answer = Err fault; whose = Host; first_after = plan.given; printed = None; refused = None }

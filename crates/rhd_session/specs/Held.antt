@@ -5,6 +5,7 @@ use Rattle.rhd_value.specs.declared.tag.FnId.{FnId}
 use Rattle.rhd_func.specs.declared.func.RhaiFunc.{RhaiFunc}
 use Rattle.rhd_func.specs.Funcs.{native_of}
 use Rattle.rhd_module.specs.Tree.{ModuleTree}
+use Rattle.rhd_session.specs.declared.builtins.Operator.{Operator}
 
 abbrev pub is_below : ℕ → Option FnId → Bool
 is_below natives None = true
@@ -21,3 +22,7 @@ names_held natives m = list_all (λ p. func_held natives p.1.func) m.own.eager
 -- and those of each module
 abbrev pub all_held : ℕ → List ModuleTree → Bool
 all_held natives ms = list_all (names_held natives) ms
+
+-- and those of the built-ins
+abbrev pub builtins_held : ℕ → List (Operator × FnId) → Bool
+builtins_held natives bs = list_all (λ b. nat_lt b.1.0 natives) bs

@@ -15,7 +15,7 @@ abbrev pub natives_of : {X : Type 0} {F : X → Type 0} → Session X F → Nati
 natives_of session = session.natives
 
 unfoldable pub world_of : {X : Type 0} {F : X → Type 0} → ((x : X) × F x → NativeInfo) → Session X F → World
-world_of info session = record { engine = record { globals = session.global ∷ []; natives = infos_of info session.natives; limits = session.limits }; modules = session.modules.items }
+world_of info session = record { engine = record { globals = session.global ∷ []; natives = infos_of info session.natives; builtins = session.builtins; limits = session.limits; printers = session.printers }; modules = session.modules.items }
 
 -- the frame in which its commands are done
 abbrev pub frame_of : {X : Type 0} {F : X → Type 0} → Session X F → Frame
@@ -29,6 +29,6 @@ modules_of session = session.modules.items
 abbrev pub calls_begun_of : {X : Type 0} {F : X → Type 0} → Session X F → ℕ
 calls_begun_of session = session.begun
 
--- the same, with the state of the bodies
-abbrev pub moment_of : {X : Type 0} {F : X → Type 0} {B : Type 0} → Session X F → B → Moment B
-moment_of session bodies = moment (calls_begun_of session) bodies
+-- the same, with the states of the host and of the bodies
+abbrev pub moment_of : {X : Type 0} {F : X → Type 0} {H B : Type 0} → Session X F → H → B → Moment H B
+moment_of session host bodies = moment (calls_begun_of session) host bodies

@@ -3,6 +3,7 @@ use Rattle.std.specs.Prelude.{Bool, Option}
 use Rattle.rhd_value.specs.Tree.{Bytes, Tree}
 use Rattle.rhd_value.specs.declared.tag.Position.{Position}
 use Rattle.rhd_value.specs.declared.tag.TypeTag.{TypeTag}
+use Rattle.rhd_names.specs.declared.token.OpToken.{OpToken}
 use Rattle.rhd_func.specs.declared.request.CallShape.{CallShape}
 use Rattle.rhd_func.specs.declared.request.CallRequest.{CallRequest}
 use Rattle.rhd_func.specs.declared.request.CallRequest.TheVariants.{Named}
@@ -10,7 +11,13 @@ use Rattle.rhd_func.specs.Shapes.{first_given}
 
 -- where a call looks for its function
 pub data Search : Type 0 where
-  by_name : Bool → Search  -- unqualified: whether natives alone are meant
+  by_name : Option OpToken → Bool → Search  -- unqualified: the token, and whether natives alone are meant
+
+abbrev pub token_in : Search → Option OpToken
+token_in (by_name token native_only) = token
+
+abbrev pub only_natives : Search → Bool
+only_natives (by_name token native_only) = native_only
 
 -- a call of one function
 pub record Plan : Type 0 where
@@ -22,4 +29,4 @@ pub record Plan : Type 0 where
   pub given : Option Tree  -- the first argument by reference, or the object, as given
 
 abbrev pub plan_of : CallRequest → Plan
-plan_of (Named name native_only shape want pos) = record { name = name; search = by_name native_only; shape = shape; want = want; pos = pos; given = first_given shape }
+plan_of (Named name token native_only shape want pos) = record { name = name; search = by_name token native_only; shape = shape; want = want; pos = pos; given = first_given shape }

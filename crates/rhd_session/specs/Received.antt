@@ -1,5 +1,6 @@
 -- How a function gets its arguments, and what it gives back of the first.
 use Rattle.std.specs.Prelude.{Bool, true, false, List, [], ◌∷◌, if◌then◌else◌, Option, None, Some}
+use Rattle.std.specs.Option.{option_or, option_map_or}
 use Rattle.rhd_value.specs.Tree.{Tree, copied}
 use Rattle.rhd_func.specs.declared.func.RhaiFunc.{RhaiFunc}
 use Rattle.rhd_func.specs.declared.request.CallShape.{CallShape}
@@ -31,6 +32,17 @@ received other_native (Method object args) = record { first = None; args = copie
 received script (Plain args) = record { first = None; args = args }
 received script (ByRef a args) = record { first = None; args = copied a ∷ args }
 received script (Method object args) = record { first = Some object; args = args }
+
+-- the first of what was received
+abbrev pub first_in : List Tree → Option Tree
+first_in [] = None
+first_in (a ∷ args) = Some a
+
+abbrev pub first_received : Received → Option Tree
+first_received r = option_or r.first (first_in r.args)
+
+abbrev pub is_read_only : Option Tree → Bool
+is_read_only v = option_map_or (λ t. t.marks.read_only) v false
 
 -- whether the function has the first argument by reference, or the object, itself and no copy
 abbrev pub has_the_given : Manner → CallShape → Bool

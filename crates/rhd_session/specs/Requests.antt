@@ -19,7 +19,7 @@ use Rattle.rhd_session.specs.Trees.{CutTree}
 
 -- From this step on the function keeps these carries, its requests are the calls of these children, and the call ends so.
 -- The truth value says whether the budget was spent.
-pub data Requests {B : Type 0} (o : Objects B) (w : World) (f : Frame) (level : ℕ) (call : CallRequest) (plan : Plan) (pick : Pick) : NativeStep → List Carry → List CallNode → End → Bool → Type 0 where
+pub data Requests {H B : Type 0} (o : Objects H B) (w : World) (f : Frame) (level : ℕ) (call : CallRequest) (plan : Plan) (pick : Pick) : NativeStep → List Carry → List CallNode → End → Bool → Type 0 where
   -- its last step ends the call
   no_more : {step : NativeStep} {end : End} →
       end_of w.engine plan pick step ≡ Some end →
@@ -31,15 +31,15 @@ pub data Requests {B : Type 0} (o : Objects B) (w : World) (f : Frame) (level : 
       end ≡ cut_end call →
       Requests o w f level call plan pick step (carry ∷ []) (child ∷ []) end true
   -- it is given the answer to the call that it asks for, and goes on
-  one_then : {step next : NativeStep} {carry : Carry} {child : CallNode} {carries : List Carry} {children : List CallNode} {end : End} {cut : Bool} {before after : Moment B} →
+  one_then : {step next : NativeStep} {carry : Carry} {child : CallNode} {carries : List Carry} {children : List CallNode} {end : End} {cut : Bool} {before after : Moment H B} →
       step ≡ Ask (seen child).call carry →
       Resumes o (context f level plan) pick.func carry (done_of child) before next after →
       Requests o w f level call plan pick next carries children end cut →
       Requests o w f level call plan pick step (carry ∷ carries) (child ∷ children) end cut
 
 -- The function that a node shows starts on what it receives, and its requests are the node's children, in order.
-abbrev pub ShowsRequests : {B : Type 0} → Objects B → World → Frame → Seen → Pick → Bool → Type 0
-ShowsRequests {B} o w f node pick cut =
+abbrev pub ShowsRequests : {H B : Type 0} → Objects H B → World → Frame → Seen → Pick → Bool → Type 0
+ShowsRequests {H} {B} o w f node pick cut =
     let plan = plan_of node.call in
-    (before : Moment B) × (first : NativeStep) × (after : Moment B) × Starts o (context f node.level plan) pick.func (received_by plan pick) before first after
+    (before : Moment H B) × (first : NativeStep) × (after : Moment H B) × Starts o (context f node.level plan) pick.func (received_by plan pick) before first after
     × Requests o w f node.level node.call plan pick first node.carries node.children node.end cut

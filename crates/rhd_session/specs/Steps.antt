@@ -15,21 +15,21 @@ use Rattle.rhd_session.specs.Received.{Received}
 use Rattle.rhd_session.specs.Entered.{context_if}
 
 -- A function takes this first step on what it received: a native leaves the state of the bodies, a body has its own part in it.
-pub data Starts {B : Type 0} (o : Objects B) (ctx : NativeCallContext) : RhaiFunc → Received → Moment B → NativeStep → Moment B → Type 0 where
-  native_starts : {func : RhaiFunc} {id : FnId} {r : Received} {s : Moment B} {step : NativeStep} →
+pub data Starts {H B : Type 0} (o : Objects H B) (ctx : NativeCallContext) : RhaiFunc → Received → Moment H B → NativeStep → Moment H B → Type 0 where
+  native_starts : {func : RhaiFunc} {id : FnId} {r : Received} {s : Moment H B} {step : NativeStep} →
       native_of func ≡ Some id →
       o.native_starts id (context_if (has_context func) ctx) r.first r.args step →
       Starts o ctx func r s step s
-  body_starts : {def : ScriptFuncDef} {env : Option EnvId} {r : Received} {s : Moment B} {step : NativeStep} {bodies : B} →
+  body_starts : {def : ScriptFuncDef} {env : Option EnvId} {r : Received} {s : Moment H B} {step : NativeStep} {bodies : B} →
       o.body_starts s.bodies def ctx r.first r.args step bodies →
       Starts o ctx (funcs.Script def env) r s step (record s { bodies = bodies })
 
 -- the same after the answer to the call that it asked for
-pub data Resumes {B : Type 0} (o : Objects B) (ctx : NativeCallContext) : RhaiFunc → Carry → CallDone → Moment B → NativeStep → Moment B → Type 0 where
-  native_resumes : {func : RhaiFunc} {id : FnId} {carry : Carry} {done : CallDone} {s : Moment B} {step : NativeStep} →
+pub data Resumes {H B : Type 0} (o : Objects H B) (ctx : NativeCallContext) : RhaiFunc → Carry → CallDone → Moment H B → NativeStep → Moment H B → Type 0 where
+  native_resumes : {func : RhaiFunc} {id : FnId} {carry : Carry} {done : CallDone} {s : Moment H B} {step : NativeStep} →
       native_of func ≡ Some id →
       o.native_resumes id (context_if (has_context func) ctx) carry done step →
       Resumes o ctx func carry done s step s
-  body_resumes : {def : ScriptFuncDef} {env : Option EnvId} {carry : Carry} {done : CallDone} {s : Moment B} {step : NativeStep} {bodies : B} →
+  body_resumes : {def : ScriptFuncDef} {env : Option EnvId} {carry : Carry} {done : CallDone} {s : Moment H B} {step : NativeStep} {bodies : B} →
       o.body_resumes s.bodies def ctx carry done step bodies →
       Resumes o ctx (funcs.Script def env) carry done s step (record s { bodies = bodies })

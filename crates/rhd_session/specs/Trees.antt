@@ -20,8 +20,8 @@ frame_at f is_root = f
 frame_at f (is_below {root = root} among inner) = frame_at (entered f (seen root).level) inner
 
 -- the node's call runs in this frame at its level, between some moments
-abbrev pub RunsAt : {B : Type 0} → Objects B → World → Frame → CallNode → Type 0
-RunsAt {B} o w f node = (before : Moment B) × (after : Moment B) × (cut : Bool) × Runs o w f (seen node).level (seen node).call node before after cut
+abbrev pub RunsAt : {H B : Type 0} → Objects H B → World → Frame → CallNode → Type 0
+RunsAt {H} {B} o w f node = (before : Moment H B) × (after : Moment H B) × (cut : Bool) × Runs o w f (seen node).level (seen node).call node before after cut
 
 -- every call of a tree was begun
 abbrev pub AllBegun : CallNode → Type 0
@@ -43,7 +43,7 @@ pub data CutTree : CallNode → Type 0 where
 abbrev mutual
   -- how many calls of a tree were begun
   pub begun_in : CallNode → ℕ
-  begun_in (CallNode' call level begun pick carries children answer whose after refused) = (if begun then 1 else 0) + begun_in_nodes children
+  begun_in (CallNode' call level begun pick carries children answer whose after printed refused) = (if begun then 1 else 0) + begun_in_nodes children
 
   pub begun_in_nodes : Nodes → ℕ
   begun_in_nodes (Nodes' shape row) = begun_in_row row

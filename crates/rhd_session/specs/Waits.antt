@@ -39,8 +39,8 @@ abbrev pub keeping : CallRequest → ℕ → Pick → List Carry → List CallNo
 keeping call level pick carries children = record { call = call; level = level; pick = pick; carries = carries; children = children }
 
 -- The call at this level, begun after `before`, waits for the answer to a request, which is asked in the second frame.
-pub data Open {B : Type 0} (o : Objects B) (w : World) : Frame → ℕ → CallRequest → Suspended → Frame → CallRequest → Moment B → Moment B → Type 0 where
-  function_waits : {f : Frame} {level : ℕ} {call waited : CallRequest} {frame : Suspended} {before started mid : Moment B} {plan : Plan} {pick : Pick} {first : NativeStep} {carries : List Carry} {children : List CallNode} →
+pub data Open {H B : Type 0} (o : Objects H B) (w : World) : Frame → ℕ → CallRequest → Suspended → Frame → CallRequest → Moment H B → Moment H B → Type 0 where
+  function_waits : {f : Frame} {level : ℕ} {call waited : CallRequest} {frame : Suspended} {before started mid : Moment H B} {plan : Plan} {pick : Pick} {first : NativeStep} {carries : List Carry} {children : List CallNode} →
       kept frame.work ≡ keeping call level pick carries children →
       before.begun < w.engine.limits.budget →
       decision w.engine f level call ≡ runs plan pick →
@@ -59,41 +59,41 @@ pub data Settled (e : EngineLists) (work : Work) : NativeStep → Outcome → Ty
       Settled e work step (Finished node)
 
 -- what a step of the machine makes of a call
-pub data Comes_to {B : Type 0} (o : Objects B) (w : World) : Frame → ℕ → CallRequest → Outcome → Moment B → Moment B → Type 0 where
-  it_waits : {f inner : Frame} {level : ℕ} {call waited : CallRequest} {frame : Suspended} {before after : Moment B} →
+pub data Comes_to {H B : Type 0} (o : Objects H B) (w : World) : Frame → ℕ → CallRequest → Outcome → Moment H B → Moment H B → Type 0 where
+  it_waits : {f inner : Frame} {level : ℕ} {call waited : CallRequest} {frame : Suspended} {before after : Moment H B} →
       Open o w f level call frame inner waited before after →
       Comes_to o w f level call (Waiting frame waited) before after
-  it_is_answered : {f : Frame} {level : ℕ} {call : CallRequest} {node : CallNode} {before after : Moment B} →
+  it_is_answered : {f : Frame} {level : ℕ} {call : CallRequest} {node : CallNode} {before after : Moment H B} →
       Runs o w f level call node before after false →
       Comes_to o w f level call (Finished node) before after
 
 -- the suspended calls, from the lowest to the top: each waits for the request that the next one answers
-pub data Waits {B : Type 0} (o : Objects B) (w : World) : List Suspended → Frame → CallRequest → Moment B → Frame → ℕ → CallRequest → Moment B → Type 0 where
-  lowest : {f : Frame} {call : CallRequest} {before : Moment B} → Waits o w [] f call before f 1 call before
-  above : {base outer inner : Frame} {stack more : List Suspended} {call waited asked : CallRequest} {frame : Suspended} {before mid after : Moment B} {level : ℕ} →
+pub data Waits {H B : Type 0} (o : Objects H B) (w : World) : List Suspended → Frame → CallRequest → Moment H B → Frame → ℕ → CallRequest → Moment H B → Type 0 where
+  lowest : {f : Frame} {call : CallRequest} {before : Moment H B} → Waits o w [] f call before f 1 call before
+  above : {base outer inner : Frame} {stack more : List Suspended} {call waited asked : CallRequest} {frame : Suspended} {before mid after : Moment H B} {level : ℕ} →
       Waits o w stack base call before outer level waited mid →
       Open o w outer level waited frame inner asked mid after →
       more ≡ stack ++ frame ∷ [] →
       Waits o w more base call before inner (level + 1) asked after
 
 -- what is in hand is the request that is waited for, or answers it
-pub data Holds {B : Type 0} (o : Objects B) (w : World) (f : Frame) (level : ℕ) (waited : CallRequest) : Hand → Moment B → Moment B → Type 0 where
-  holds_request : {s : Moment B} → Holds o w f level waited (Asked waited) s s
-  holds_answer : {node : CallNode} {mid after : Moment B} → Runs o w f level waited node mid after false → Holds o w f level waited (Answered node) mid after
+pub data Holds {H B : Type 0} (o : Objects H B) (w : World) (f : Frame) (level : ℕ) (waited : CallRequest) : Hand → Moment H B → Moment H B → Type 0 where
+  holds_request : {s : Moment H B} → Holds o w f level waited (Asked waited) s s
+  holds_answer : {node : CallNode} {mid after : Moment H B} → Runs o w f level waited node mid after false → Holds o w f level waited (Answered node) mid after
 
 -- the machine in the midst of a call: the frame, the level, and the request that is waited for there
-pub record Going {B : Type 0} (o : Objects B) (w : World) (stack : List Suspended) (base : Frame) (call : CallRequest) (before : Moment B) (hand : Hand) (after : Moment B) : Type 0 where
+pub record Going {H B : Type 0} (o : Objects H B) (w : World) (stack : List Suspended) (base : Frame) (call : CallRequest) (before : Moment H B) (hand : Hand) (after : Moment H B) : Type 0 where
   pub f : Frame
   pub waited : CallRequest
-  pub mid : Moment B
+  pub mid : Moment H B
   pub waits : Waits o w stack base call before f (length stack + 1) waited mid
   pub holds : Holds o w f (length stack + 1) waited hand mid after
 
 -- the machine once the budget is spent: the node in hand is cut
-pub record Cutting {B : Type 0} (o : Objects B) (w : World) (stack : List Suspended) (base : Frame) (call : CallRequest) (before : Moment B) (node : CallNode) (after : Moment B) : Type 0 where
+pub record Cutting {H B : Type 0} (o : Objects H B) (w : World) (stack : List Suspended) (base : Frame) (call : CallRequest) (before : Moment H B) (node : CallNode) (after : Moment H B) : Type 0 where
   pub f : Frame
   pub waited : CallRequest
-  pub mid : Moment B
+  pub mid : Moment H B
   pub waits : Waits o w stack base call before f (length stack + 1) waited mid
   pub is_cut : Runs o w f (length stack + 1) waited node mid after true
 

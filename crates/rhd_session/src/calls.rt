@@ -2,36 +2,41 @@
 
 ghost use Rattle.std.specs.Prelude.{◌≡◌, ◌≤◌, ◌<◌, ◌+◌, ◌++◌, ◌∷◌, [], ℕ, Bool, true, false, IfOk, IfSome, length, Some, None};
 ghost use Rattle.rhd_func.specs.declared.request.CallRequest.{CallRequest};
-ghost use Rattle.rhd_func.specs.Shapes.{all_args};
+ghost use Rattle.rhd_func.specs.declared.request.HostAnswer.{HostAnswer};
+ghost use Rattle.rhd_func.specs.Shapes.{all_args, is_method_shape};
 ghost use Rattle.rhd_session.specs.declared.machine.Hand.TheVariants.{Asked, Answered};
 ghost use Rattle.rhd_session.specs.Engine.{Frame};
 ghost use Rattle.rhd_session.specs.World.{Moment, moment};
 ghost use Rattle.rhd_session.specs.Objects.{objects_of};
 ghost use Rattle.rhd_value.specs.Firsts.{first_of};
 ghost use Rattle.rhd_session.specs.Held.{func_held};
-ghost use Rattle.rhd_session.specs.Asks.{looked, allowed_asks, typed_asks, native_ask};
+ghost use Rattle.rhd_session.specs.Asks.{looked, allowed_asks, typed_asks};
 ghost use Rattle.rhd_session.specs.Searched.{found};
-ghost use Rattle.rhd_session.specs.Plans.{plan_of};
+ghost use Rattle.rhd_session.specs.Plans.{only_natives, plan_of};
 ghost use Rattle.rhd_session.specs.NotFound.{not_found};
-ghost use Rattle.rhd_session.specs.Ends.{failed};
-ghost use Rattle.rhd_session.specs.Decisions.{refusal, decision, runs, pick_of};
+ghost use Rattle.rhd_session.specs.Ends.{failed, host_end};
+ghost use Rattle.rhd_session.specs.Decisions.{refusal, decision, runs, pick_of, is_on_constant, constant_end};
 ghost use Rattle.rhd_session.specs.Seen.{seen, begun_node, done_of};
 ghost use Rattle.rhd_session.specs.Entered.{context, entered};
 ghost use Rattle.rhd_session.specs.Steps.{Starts, Resumes};
 ghost use Rattle.rhd_session.specs.Runs.{Runs, received_by};
 ghost use Rattle.rhd_session.specs.Waits.{Open, Comes_to, Going, Cutting, weight};
 
-use crate::display::signature;
+use crate::ends::host_end;
 use crate::machine::{Hand, Outcome, Suspended, Work, cut, joined, put, settle};
+use crate::missing::not_found;
 use crate::node::{CallNode, Carries, Nodes};
 use crate::pick::Pick;
-use crate::plan::{name_of, native_only_of, position_of, shape_of};
-use crate::received::{Received, context, context_if, receive};
+use crate::plan::{name_of, native_only_of, position_of, shape_of, token_of};
+use crate::received::{
+    Received, all_args, context, context_if, is_method_shape, receive, receives_constant,
+};
 use crate::refusal::refusal;
-use crate::search::{find, native_key_of, script_key_of, typed_key_of};
+use crate::search::{find, script_key_of, typed_key_of};
 use crate::session::Session;
 use rhd_func::{
-    Bodies, CallDone, CallRequest, CallShape, Carry, NativeCallContext, NativeStep, RhaiFunc,
+    Bodies, CallDone, CallRequest, CallShape, Carry, Host, HostAnswer, NativeCallContext,
+    NativeStep, RhaiFunc,
 };
 use rhd_module::Key;
 use rhd_value::{EvalAltResult, OutOfMemory, Text};
@@ -41,60 +46,88 @@ impl Session {
     ghost use Rattle.rhd_session.specs.Of.{natives_of, world_of, frame_of};
 
     /// Makes a call, with all the calls that it leads to. Each call that is begun counts.
-    pub(crate) fn run_call<B: Bodies>(
+    pub(crate) fn run_call<H: Host, B: Bodies>(
         &self,
         alloc: Global,
         call: CallRequest,
         begun: &mut u64,
+        host: &mut H,
         bodies: &mut B,
     ) -> Result<CallNode, OutOfMemory>
         requires { begun.old ≤ self.now.limits.budget }
-        ensures runs { IfOk result (λ node. (cut : Bool) × Runs (objects_of allows_call allows_resume B.allows_start B.allows_next (natives_of self.now)) (world_of info self.now) (frame_of self.now) 1 call node (moment begun.old bodies.old) (moment begun.new bodies.new) cut) }
+        ensures runs { IfOk result (λ node. (cut : Bool) × Runs (objects_of allows_call allows_resume B.allows_start B.allows_next H.allows_missing (natives_of self.now)) (world_of info self.now) (frame_of self.now) 1 call node (moment begun.old host.old bodies.old) (moment begun.new host.new bodies.new) cut) }
+        ensures within { begun.new ≤ self.now.limits.budget }
+        ensures rises { begun.old ≤ begun.new }
+    {
+        if *begun >= self.limits.budget {
+            return CallNode::unbegun(alloc, call, 1);
+        }
+        *begun += 1;
+        let outcome = self.begin(alloc, call, 1, host, bodies)?;
+        if let Outcome::Finished(node) = outcome {
+            return Ok(node);
+        }
+        self.run_on::<H, B>(alloc, outcome, begun, host, bodies)
+    }
+
+    /// Goes on with a call that is begun, with all the calls that it leads to.
+    fn run_on<H: Host, B: Bodies>(
+        &self,
+        alloc: Global,
+        outcome: Outcome,
+        begun: &mut u64,
+        host: &mut H,
+        bodies: &mut B,
+    ) -> Result<CallNode, OutOfMemory>
+        requires within { begun.old ≤ self.now.limits.budget }
+        requires comes { (call : CallRequest) × (before : Moment H B) × ((n : ℕ) → Comes_to (objects_of allows_call allows_resume B.allows_start B.allows_next H.allows_missing (natives_of self.now)) (world_of info self.now) (entered (frame_of self.now) n) 1 call outcome before (moment begun.old host.old bodies.old)) }
+        ensures runs { (call : CallRequest) (before : Moment H B) → ((n : ℕ) → Comes_to (objects_of allows_call allows_resume B.allows_start B.allows_next H.allows_missing (natives_of self.now)) (world_of info self.now) (entered (frame_of self.now) n) 1 call outcome before (moment begun.old host.old bodies.old)) → IfOk result (λ node. (cut : Bool) × Runs (objects_of allows_call allows_resume B.allows_start B.allows_next H.allows_missing (natives_of self.now)) (world_of info self.now) (frame_of self.now) 1 call node before (moment begun.new host.new bodies.new) cut) }
         ensures within { begun.new ≤ self.now.limits.budget }
         ensures rises { begun.old ≤ begun.new }
     {
         let mut stack = Vec::new(alloc);
-        let mut hand = Hand::Asked(call);
+        let mut hand = put(&mut stack, outcome)?;
         loop {
             match hand {
                 Hand::Asked(request) => {
                     if *begun >= self.limits.budget {
                         let level = stack.len() as u32 + 1;
                         let node = CallNode::unbegun(alloc, request, level)?;
-                        return self.cut_all::<B>(stack, node);
+                        return self.cut_all::<H, B>(stack, node);
                     }
                     *begun += 1;
-                    hand = self.ask(alloc, &mut stack, request, bodies)?;
+                    hand = self.ask(alloc, &mut stack, request, host, bodies)?;
                 }
                 Hand::Answered(node) => {
                     let Some(frame) = stack.pop() else {
                         return Ok(node);
                     };
-                    hand = self.answer(alloc, &mut stack, frame, node, bodies)?;
+                    hand = self.answer::<H, B>(alloc, &mut stack, frame, node, bodies)?;
                 }
             }
         }
     }
 
     /// Begins the call that was asked for.
-    fn ask<B: Bodies>(
+    fn ask<H: Host, B: Bodies>(
         &self,
         alloc: Global,
         stack: &mut Vec<Suspended>,
         request: CallRequest,
+        host: &mut H,
         bodies: &mut B,
     ) -> Result<Hand, OutOfMemory>
         requires { length stack.old.items ≤ 1000 }
-        ensures going { (call : CallRequest) (before : Moment B) (begun : ℕ) → begun < self.now.limits.budget → Going (objects_of allows_call allows_resume B.allows_start B.allows_next (natives_of self.now)) (world_of info self.now) stack.old.items (frame_of self.now) call before (Asked request) (moment begun bodies.old) → IfOk result (λ hand. Going (objects_of allows_call allows_resume B.allows_start B.allows_next (natives_of self.now)) (world_of info self.now) stack.new.items (frame_of self.now) call before hand (moment (begun + 1) bodies.new)) }
+        ensures going { (call : CallRequest) (before : Moment H B) (begun : ℕ) → begun < self.now.limits.budget → Going (objects_of allows_call allows_resume B.allows_start B.allows_next H.allows_missing (natives_of self.now)) (world_of info self.now) stack.old.items (frame_of self.now) call before (Asked request) (moment begun host.old bodies.old) → IfOk result (λ hand. Going (objects_of allows_call allows_resume B.allows_start B.allows_next H.allows_missing (natives_of self.now)) (world_of info self.now) stack.new.items (frame_of self.now) call before hand (moment (begun + 1) host.new bodies.new)) }
         ensures grows { IfOk result (λ hand. length stack.new.items + weight hand ≡ length stack.old.items + 1) }
     {
         let level = stack.len() as u32 + 1;
-        let outcome = self.begin(alloc, request, level, bodies)?;
+        let outcome = self.begin(alloc, request, level, host, bodies)?;
         put(stack, outcome)
     }
 
     /// Hands a node to the call that waits for it.
-    fn answer<B: Bodies>(
+    fn answer<H: Host, B: Bodies>(
         &self,
         alloc: Global,
         stack: &mut Vec<Suspended>,
@@ -103,20 +136,20 @@ impl Session {
         bodies: &mut B,
     ) -> Result<Hand, OutOfMemory>
         requires { func_held (length (natives_of self.now).items.items) frame.work.pick.func ≡ true }
-        ensures going { (call : CallRequest) (before : Moment B) (begun : ℕ) → Going (objects_of allows_call allows_resume B.allows_start B.allows_next (natives_of self.now)) (world_of info self.now) (stack.old.items ++ frame ∷ []) (frame_of self.now) call before (Answered node) (moment begun bodies.old) → IfOk result (λ hand. Going (objects_of allows_call allows_resume B.allows_start B.allows_next (natives_of self.now)) (world_of info self.now) stack.new.items (frame_of self.now) call before hand (moment begun bodies.new)) }
+        ensures going { (call : CallRequest) (before : Moment H B) (begun : ℕ) (host : H) → Going (objects_of allows_call allows_resume B.allows_start B.allows_next H.allows_missing (natives_of self.now)) (world_of info self.now) (stack.old.items ++ frame ∷ []) (frame_of self.now) call before (Answered node) (moment begun host bodies.old) → IfOk result (λ hand. Going (objects_of allows_call allows_resume B.allows_start B.allows_next H.allows_missing (natives_of self.now)) (world_of info self.now) stack.new.items (frame_of self.now) call before hand (moment begun host bodies.new)) }
         ensures grows { IfOk result (λ hand. length stack.new.items + weight hand ≡ length stack.old.items + 1) }
     {
-        let outcome = self.resume(alloc, frame, node, bodies)?;
+        let outcome = self.resume::<H, B>(alloc, frame, node, bodies)?;
         put(stack, outcome)
     }
 
     /// Closes each call that waits, where the budget is spent.
-    fn cut_all<B: Bodies>(
+    fn cut_all<H: Host, B: Bodies>(
         &self,
         mut stack: Vec<Suspended>,
         mut node: CallNode,
     ) -> Result<CallNode, OutOfMemory>
-        ensures { (call : CallRequest) (before after : Moment B) → Cutting (objects_of allows_call allows_resume B.allows_start B.allows_next (natives_of self.now)) (world_of info self.now) stack.items (frame_of self.now) call before node after → IfOk result (λ root. Runs (objects_of allows_call allows_resume B.allows_start B.allows_next (natives_of self.now)) (world_of info self.now) (frame_of self.now) 1 call root before after true) }
+        ensures { (call : CallRequest) (before after : Moment H B) → Cutting (objects_of allows_call allows_resume B.allows_start B.allows_next H.allows_missing (natives_of self.now)) (world_of info self.now) stack.items (frame_of self.now) call before node after → IfOk result (λ root. Runs (objects_of allows_call allows_resume B.allows_start B.allows_next H.allows_missing (natives_of self.now)) (world_of info self.now) (frame_of self.now) 1 call root before after true) }
     {
         while let Some(frame) = stack.pop() {
             node = cut(frame, node)?;
@@ -124,43 +157,52 @@ impl Session {
         Ok(node)
     }
 
-    /// Begins a call: it is refused, or isn't found, or its function takes its first step.
-    fn begin<B: Bodies>(
+    /// Begins a call: it is refused, or no function is found for it, or its function takes its first
+    /// step.
+    fn begin<H: Host, B: Bodies>(
         &self,
         alloc: Global,
         call: CallRequest,
         level: u32,
+        host: &mut H,
         bodies: &mut B,
     ) -> Result<Outcome, OutOfMemory>
-        ensures { (n begun : ℕ) → begun < self.now.limits.budget → IfOk result (λ outcome. Comes_to (objects_of allows_call allows_resume B.allows_start B.allows_next (natives_of self.now)) (world_of info self.now) (entered (frame_of self.now) n) level call outcome (moment begun bodies.old) (moment (begun + 1) bodies.new)) }
+        ensures { (n begun : ℕ) → begun < self.now.limits.budget → IfOk result (λ outcome. Comes_to (objects_of allows_call allows_resume B.allows_start B.allows_next H.allows_missing (natives_of self.now)) (world_of info self.now) (entered (frame_of self.now) n) level call outcome (moment begun host.old bodies.old) (moment (begun + 1) host.new bodies.new)) }
     {
         match refusal(alloc, self.limits, level, &call)? {
             Some(fault) => {
-                let node = CallNode::failed(alloc, call, level, fault)?;
+                let node = CallNode::failed(alloc, call, level, None, fault)?;
                 Ok(Outcome::Finished(node))
             }
-            None => self.begin_unrefused(alloc, call, level, bodies),
+            None => self.begin_unrefused(alloc, call, level, host, bodies),
         }
     }
 
-    /// Begins a call that nothing refuses: it isn't found, or its function takes its first step.
-    fn begin_unrefused<B: Bodies>(
+    /// Begins a call that nothing refuses: no function is found for it, or its function isn't for a
+    /// constant, or takes its first step.
+    fn begin_unrefused<H: Host, B: Bodies>(
         &self,
         alloc: Global,
         call: CallRequest,
         level: u32,
+        host: &mut H,
         bodies: &mut B,
     ) -> Result<Outcome, OutOfMemory>
-        ensures { (n begun : ℕ) → begun < self.now.limits.budget → refusal (world_of info self.now).engine level call ≡ None → IfOk result (λ outcome. Comes_to (objects_of allows_call allows_resume B.allows_start B.allows_next (natives_of self.now)) (world_of info self.now) (entered (frame_of self.now) n) level call outcome (moment begun bodies.old) (moment (begun + 1) bodies.new)) }
+        ensures { (n begun : ℕ) → begun < self.now.limits.budget → refusal (world_of info self.now).engine level call ≡ None → IfOk result (λ outcome. Comes_to (objects_of allows_call allows_resume B.allows_start B.allows_next H.allows_missing (natives_of self.now)) (world_of info self.now) (entered (frame_of self.now) n) level call outcome (moment begun host.old bodies.old) (moment (begun + 1) host.new bodies.new)) }
     {
         match self.pick(alloc, &call)? {
-            Some(pick) => self.begin_picked(alloc, call, level, pick, bodies),
-            None => Ok(Outcome::Finished(missing(alloc, call, level)?)),
+            Some(pick) => {
+                if on_constant(&call, &pick) {
+                    return Ok(Outcome::Finished(constant(alloc, call, level, pick)?));
+                }
+                self.begin_picked::<H, B>(alloc, call, level, pick, bodies)
+            }
+            None => Ok(Outcome::Finished(unpicked(alloc, call, level, host)?)),
         }
     }
 
     /// The function that a call means: of the scripts, where they are allowed, and then of the
-    /// natives.
+    /// natives and built-ins.
     fn pick(&self, alloc: Global, call: &CallRequest) -> Result<Option<Pick>, OutOfMemory>
         ensures pick { IfOk result (λ pick. pick ≡ pick_of (world_of info self.now).engine (frame_of self.now) (plan_of call.now)) }
         ensures held { IfOk result (λ pick. IfSome pick (λ p. func_held (length (natives_of self.now).items.items) p.func ≡ true)) }
@@ -169,7 +211,7 @@ impl Session {
         let shape = shape_of(call);
         match self.pick_script(alloc, name, native_only_of(call), shape)? {
             Some(pick) => Ok(Some(pick)),
-            None => self.pick_native(alloc, name, shape),
+            None => self.pick_native(alloc, name, token_of(call), shape),
         }
     }
 
@@ -210,28 +252,15 @@ impl Session {
         }
     }
 
-    /// The native that a call means.
-    fn pick_native(
-        &self,
-        alloc: Global,
-        name: &Text,
-        shape: &CallShape,
-    ) -> Result<Option<Pick>, OutOfMemory>
-        ensures { IfOk result (λ pick. pick ≡ looked (world_of info self.now).engine (frame_of self.now) (native_ask name.now shape.now)) }
-    {
-        let key = native_key_of(alloc, name, shape)?;
-        self.found(alloc, &key)
-    }
-
     /// What is found under a key.
-    fn found(&self, alloc: Global, key: &Key) -> Result<Option<Pick>, OutOfMemory>
+    pub(crate) fn found(&self, alloc: Global, key: &Key) -> Result<Option<Pick>, OutOfMemory>
         ensures { IfOk result (λ pick. pick ≡ found (world_of info self.now).engine (frame_of self.now) key.now) }
     {
         find(alloc, &self.libraries, &self.global, key)
     }
 
     /// The first step of the function that is picked.
-    fn begin_picked<B: Bodies>(
+    fn begin_picked<H: Host, B: Bodies>(
         &self,
         alloc: Global,
         call: CallRequest,
@@ -240,9 +269,9 @@ impl Session {
         bodies: &mut B,
     ) -> Result<Outcome, OutOfMemory>
         requires { func_held (length (natives_of self.now).items.items) pick.func ≡ true }
-        ensures { (n begun : ℕ) → begun < self.now.limits.budget → decision (world_of info self.now).engine (entered (frame_of self.now) n) level call ≡ runs (plan_of call) pick → IfOk result (λ outcome. Comes_to (objects_of allows_call allows_resume B.allows_start B.allows_next (natives_of self.now)) (world_of info self.now) (entered (frame_of self.now) n) level call outcome (moment begun bodies.old) (moment (begun + 1) bodies.new)) }
+        ensures { (n begun : ℕ) (host : H) → begun < self.now.limits.budget → decision (world_of info self.now).engine (entered (frame_of self.now) n) level call ≡ runs (plan_of call) pick → IfOk result (λ outcome. Comes_to (objects_of allows_call allows_resume B.allows_start B.allows_next H.allows_missing (natives_of self.now)) (world_of info self.now) (entered (frame_of self.now) n) level call outcome (moment begun host bodies.old) (moment (begun + 1) host bodies.new)) }
     {
-        let step = self.first_step(alloc, &call, level, &pick, bodies)?;
+        let step = self.first_step::<H, B>(alloc, &call, level, &pick, bodies)?;
         let work = Work {
             call,
             level,
@@ -250,11 +279,11 @@ impl Session {
             carries: Carries::new(alloc),
             children: Nodes::new(alloc),
         };
-        settle(alloc, self.limits, work, step)
+        settle(alloc, self.limits, self.printers, work, step)
     }
 
     /// The next step of a function that waits, after the answer to its request.
-    fn resume<B: Bodies>(
+    fn resume<H: Host, B: Bodies>(
         &self,
         alloc: Global,
         frame: Suspended,
@@ -262,14 +291,20 @@ impl Session {
         bodies: &mut B,
     ) -> Result<Outcome, OutOfMemory>
         requires { func_held (length (natives_of self.now).items.items) frame.work.pick.func ≡ true }
-        ensures { (n level begun : ℕ) (inner : Frame) (call waited : CallRequest) (before mid : Moment B) → Open (objects_of allows_call allows_resume B.allows_start B.allows_next (natives_of self.now)) (world_of info self.now) (entered (frame_of self.now) n) level call frame inner waited before mid → Runs (objects_of allows_call allows_resume B.allows_start B.allows_next (natives_of self.now)) (world_of info self.now) inner (level + 1) waited child mid (moment begun bodies.old) false → IfOk result (λ outcome. Comes_to (objects_of allows_call allows_resume B.allows_start B.allows_next (natives_of self.now)) (world_of info self.now) (entered (frame_of self.now) n) level call outcome before (moment begun bodies.new)) }
+        ensures { (n level begun : ℕ) (host : H) (inner : Frame) (call waited : CallRequest) (before mid : Moment H B) → Open (objects_of allows_call allows_resume B.allows_start B.allows_next H.allows_missing (natives_of self.now)) (world_of info self.now) (entered (frame_of self.now) n) level call frame inner waited before mid → Runs (objects_of allows_call allows_resume B.allows_start B.allows_next H.allows_missing (natives_of self.now)) (world_of info self.now) inner (level + 1) waited child mid (moment begun host bodies.old) false → IfOk result (λ outcome. Comes_to (objects_of allows_call allows_resume B.allows_start B.allows_next H.allows_missing (natives_of self.now)) (world_of info self.now) (entered (frame_of self.now) n) level call outcome before (moment begun host bodies.new)) }
     {
-        let step = self.answered_step(alloc, &frame, &child, bodies)?;
-        settle(alloc, self.limits, joined(frame, child)?, step)
+        let step = self.answered_step::<H, B>(alloc, &frame, &child, bodies)?;
+        settle(
+            alloc,
+            self.limits,
+            self.printers,
+            joined(frame, child)?,
+            step,
+        )
     }
 
     /// The next step of a function that waits, after the answer of a child.
-    fn answered_step<B: Bodies>(
+    fn answered_step<H: Host, B: Bodies>(
         &self,
         alloc: Global,
         frame: &Suspended,
@@ -277,15 +312,15 @@ impl Session {
         bodies: &mut B,
     ) -> Result<NativeStep, OutOfMemory>
         requires { func_held (length (natives_of self.now).items.items) frame.now.work.pick.func ≡ true }
-        ensures { (begun : ℕ) → IfOk result (λ step. Resumes (objects_of allows_call allows_resume B.allows_start B.allows_next (natives_of self.now)) (context (frame_of self.now) frame.now.work.level (plan_of frame.now.work.call)) frame.now.work.pick.func frame.now.carry (done_of child.now) (moment begun bodies.old) step (moment begun bodies.new)) }
+        ensures { (begun : ℕ) (host : H) → IfOk result (λ step. Resumes (objects_of allows_call allows_resume B.allows_start B.allows_next H.allows_missing (natives_of self.now)) (context (frame_of self.now) frame.now.work.level (plan_of frame.now.work.call)) frame.now.work.pick.func frame.now.carry (done_of child.now) (moment begun host bodies.old) step (moment begun host bodies.new)) }
     {
         let done = child.done(alloc)?;
         let carry = frame.carry.dup(alloc)?;
-        self.next_step(alloc, &frame.work, carry, done, bodies)
+        self.next_step::<H, B>(alloc, &frame.work, carry, done, bodies)
     }
 
     /// The first step of a function on the arguments of its call.
-    fn first_step<B: Bodies>(
+    fn first_step<H: Host, B: Bodies>(
         &self,
         alloc: Global,
         call: &CallRequest,
@@ -294,15 +329,15 @@ impl Session {
         bodies: &mut B,
     ) -> Result<NativeStep, OutOfMemory>
         requires { func_held (length (natives_of self.now).items.items) pick.now.func ≡ true }
-        ensures { (begun : ℕ) → IfOk result (λ step. Starts (objects_of allows_call allows_resume B.allows_start B.allows_next (natives_of self.now)) (context (frame_of self.now) level (plan_of call.now)) pick.now.func (received_by (plan_of call.now) pick.now) (moment begun bodies.old) step (moment begun bodies.new)) }
+        ensures { (begun : ℕ) (host : H) → IfOk result (λ step. Starts (objects_of allows_call allows_resume B.allows_start B.allows_next H.allows_missing (natives_of self.now)) (context (frame_of self.now) level (plan_of call.now)) pick.now.func (received_by (plan_of call.now) pick.now) (moment begun host bodies.old) step (moment begun host bodies.new)) }
     {
         let received = receive(alloc, &pick.func, shape_of(call))?;
         let ctx = context(alloc, name_of(call), position_of(call), level)?;
-        self.start(alloc, &pick.func, &ctx, received, bodies)
+        self.start::<H, B>(alloc, &pick.func, &ctx, received, bodies)
     }
 
     /// The next step of a function, after the answer to its request.
-    fn next_step<B: Bodies>(
+    fn next_step<H: Host, B: Bodies>(
         &self,
         alloc: Global,
         work: &Work,
@@ -311,7 +346,7 @@ impl Session {
         bodies: &mut B,
     ) -> Result<NativeStep, OutOfMemory>
         requires { func_held (length (natives_of self.now).items.items) work.now.pick.func ≡ true }
-        ensures { (begun : ℕ) → IfOk result (λ step. Resumes (objects_of allows_call allows_resume B.allows_start B.allows_next (natives_of self.now)) (context (frame_of self.now) work.now.level (plan_of work.now.call)) work.now.pick.func carry done (moment begun bodies.old) step (moment begun bodies.new)) }
+        ensures { (begun : ℕ) (host : H) → IfOk result (λ step. Resumes (objects_of allows_call allows_resume B.allows_start B.allows_next H.allows_missing (natives_of self.now)) (context (frame_of self.now) work.now.level (plan_of work.now.call)) work.now.pick.func carry done (moment begun host bodies.old) step (moment begun host bodies.new)) }
     {
         let ctx = context(
             alloc,
@@ -319,11 +354,11 @@ impl Session {
             position_of(&work.call),
             work.level,
         )?;
-        self.go_on(alloc, &work.pick.func, &ctx, carry, done, bodies)
+        self.go_on::<H, B>(alloc, &work.pick.func, &ctx, carry, done, bodies)
     }
 
     /// The first step of a function on what it received.
-    fn start<B: Bodies>(
+    fn start<H: Host, B: Bodies>(
         &self,
         alloc: Global,
         func: &RhaiFunc,
@@ -332,7 +367,7 @@ impl Session {
         bodies: &mut B,
     ) -> Result<NativeStep, OutOfMemory>
         requires { func_held (length (natives_of self.now).items.items) func.now ≡ true }
-        ensures { (begun : ℕ) → IfOk result (λ step. Starts (objects_of allows_call allows_resume B.allows_start B.allows_next (natives_of self.now)) ctx.now func.now (record { first = received.first; args = received.args }) (moment begun bodies.old) step (moment begun bodies.new)) }
+        ensures { (begun : ℕ) (host : H) → IfOk result (λ step. Starts (objects_of allows_call allows_resume B.allows_start B.allows_next H.allows_missing (natives_of self.now)) ctx.now func.now (record { first = received.first; args = received.args }) (moment begun host bodies.old) step (moment begun host bodies.new)) }
     {
         let Received { first, args } = received;
         match func {
@@ -349,7 +384,7 @@ impl Session {
     }
 
     /// The next step of a function in a context.
-    fn go_on<B: Bodies>(
+    fn go_on<H: Host, B: Bodies>(
         &self,
         alloc: Global,
         func: &RhaiFunc,
@@ -359,7 +394,7 @@ impl Session {
         bodies: &mut B,
     ) -> Result<NativeStep, OutOfMemory>
         requires { func_held (length (natives_of self.now).items.items) func.now ≡ true }
-        ensures { (begun : ℕ) → IfOk result (λ step. Resumes (objects_of allows_call allows_resume B.allows_start B.allows_next (natives_of self.now)) ctx.now func.now carry done (moment begun bodies.old) step (moment begun bodies.new)) }
+        ensures { (begun : ℕ) (host : H) → IfOk result (λ step. Resumes (objects_of allows_call allows_resume B.allows_start B.allows_next H.allows_missing (natives_of self.now)) ctx.now func.now carry done (moment begun host bodies.old) step (moment begun host bodies.new)) }
     {
         match func {
             RhaiFunc::Script { fn_def, .. } => {
@@ -377,11 +412,62 @@ impl Session {
     }
 }
 
+/// The node of a call for which no function is found. The host is asked where scripts are allowed.
+fn unpicked<H: Host>(
+    alloc: Global,
+    call: CallRequest,
+    level: u32,
+    host: &mut H,
+) -> Result<CallNode, OutOfMemory>
+    ensures alone { IfOk result (λ node. only_natives (plan_of call).search ≡ true → (host.new ≡ host.old) × (seen node ≡ begun_node call level None [] [] (failed (plan_of call).given (not_found (plan_of call).pos (plan_of call).name (all_args (plan_of call).shape))))) }
+    ensures asked { IfOk result (λ node. only_natives (plan_of call).search ≡ false → (answer : HostAnswer) × H.allows_missing host.old (plan_of call).name (all_args (plan_of call).shape) (is_method_shape (plan_of call).shape) answer host.new × (seen node ≡ begun_node call level None [] [] (host_end (plan_of call) answer))) }
+{
+    if native_only_of(&call) {
+        return missing(alloc, call, level);
+    }
+    let answer = ask_host(alloc, &call, host)?;
+    let end = host_end(alloc, &call, answer)?;
+    Ok(CallNode::ended(alloc, call, level, None, end))
+}
+
+/// What the host answers for a call.
+fn ask_host<H: Host>(
+    alloc: Global,
+    call: &CallRequest,
+    host: &mut H,
+) -> Result<HostAnswer, OutOfMemory>
+    ensures { IfOk result (λ answer. H.allows_missing host.old (plan_of call.now).name (all_args (plan_of call.now).shape) (is_method_shape (plan_of call.now).shape) answer host.new) }
+{
+    let args = all_args(alloc, shape_of(call))?;
+    host.missing(alloc, name_of(call), &args, is_method_shape(shape_of(call)))
+}
+
 /// The node of a call whose function isn't found.
 fn missing(alloc: Global, call: CallRequest, level: u32) -> Result<CallNode, OutOfMemory>
     ensures { IfOk result (λ node. seen node ≡ begun_node call level None [] [] (failed (plan_of call).given (not_found (plan_of call).pos (plan_of call).name (all_args (plan_of call).shape)))) }
 {
-    let signature = signature(alloc, name_of(&call), shape_of(&call))?;
-    let fault = EvalAltResult::ErrorFunctionNotFound(signature, position_of(&call));
-    CallNode::failed(alloc, call, level, fault)
+    let fault = not_found(alloc, &call)?;
+    CallNode::failed(alloc, call, level, None, fault)
+}
+
+/// Whether a native or built-in that isn't pure receives a read-only first argument.
+fn on_constant(call: &CallRequest, pick: &Pick) -> bool
+    ensures { result ≡ is_on_constant (plan_of call.now) pick.now }
+{
+    !pick.func.is_script()
+        && (!pick.func.is_pure() && receives_constant(&pick.func, shape_of(call)))
+}
+
+/// The node of a call whose function isn't for a constant.
+fn constant(
+    alloc: Global,
+    call: CallRequest,
+    level: u32,
+    pick: Pick,
+) -> Result<CallNode, OutOfMemory>
+    ensures { IfOk result (λ node. seen node ≡ begun_node call level (Some pick) [] [] (constant_end (plan_of call))) }
+{
+    let name = name_of(&call).dup(alloc)?;
+    let fault = EvalAltResult::ErrorNonPureMethodCallOnConstant(name, position_of(&call));
+    CallNode::failed(alloc, call, level, Some(pick), fault)
 }

@@ -7,12 +7,14 @@ ghost use Rattle.rhd_value.specs.declared.fault.EvalAltResult.TheVariants as fau
 ghost use Rattle.rhd_session.specs.Ends as ends;
 ghost use Rattle.rhd_session.specs.Plans.{Plan, plan_of};
 
-use crate::limits::Limits;
+use crate::limits::{Limits, Printers};
+use crate::missing::not_found;
 use crate::node::Whose;
 use crate::pick::Pick;
 use crate::plan::{position_of, shape_of, want_of};
-use crate::received::first_after;
-use rhd_func::CallRequest;
+use crate::printed::{no_text, printed_text, printer, said};
+use crate::received::{first_after, given};
+use rhd_func::{CallRequest, HostAnswer};
 use rhd_value::{Dynamic, EvalAltResult, OutOfMemory, Position, Text, TypeTag};
 use std::alloc::Global;
 
@@ -23,6 +25,8 @@ pub struct End {
     pub whose: Whose,
     /// The first argument by reference, or the object, as it is after the call.
     pub first_after: Option<Dynamic>,
+    /// The text that is printed, if one is.
+    pub printed: Option<Text>,
     /// The value that the call refuses, where it does.
     pub refused: Option<Dynamic>,
 }
@@ -35,6 +39,7 @@ pub fn failed(first: Option<Dynamic>, fault: EvalAltResult) -> End
         answer: Err(fault),
         whose: Whose::Call,
         first_after: first,
+        printed: None,
         refused: None,
     }
 }
@@ -47,6 +52,7 @@ fn refusing(first: Option<Dynamic>, value: Dynamic, fault: EvalAltResult) -> End
         answer: Err(fault),
         whose: Whose::Call,
         first_after: first,
+        printed: None,
         refused: Some(value),
     }
 }
@@ -146,7 +152,7 @@ fn unfit(
 }
 
 /// How a call ends with a value that is tested for the wanted kind alone.
-fn accepted(
+pub fn accepted(
     alloc: Global,
     call: &CallRequest,
     whose: Whose,
@@ -161,26 +167,48 @@ fn accepted(
             answer: Ok(value),
             whose,
             first_after: first,
+            printed: None,
             refused: None,
         }),
     }
+}
+
+/// How a call ends whose function answered a value of sizes that are allowed. The text that it
+/// prints stays printed where the call then refuses what it answers.
+fn told(
+    alloc: Global,
+    call: &CallRequest,
+    printer: Option<bool>,
+    first: Option<Dynamic>,
+    value: Dynamic,
+) -> Result<End, OutOfMemory>
+    ensures { IfOk result (λ end. end ≡ ends.told printer (plan_of call.now) first value) }
+{
+    if let Some(fault) = no_text(alloc, printer, position_of(call), &value)? {
+        return Ok(refusing(first, value, fault));
+    }
+    let printed = printed_text(alloc, printer, &value)?;
+    let mut end = accepted(alloc, call, Whose::Called, first, said(printer, value))?;
+    end.printed = printed;
+    Ok(end)
 }
 
 /// How a call ends whose function answered a value, and gave this back of its first argument.
 pub fn done(
     alloc: Global,
     limits: Limits,
+    printers: Printers,
     call: &CallRequest,
     pick: &Pick,
     value: Dynamic,
     back: Option<Dynamic>,
 ) -> Result<End, OutOfMemory>
-    ensures { IfOk result (λ end. end ≡ ends.done limits (plan_of call.now) pick.now back value) }
+    ensures { IfOk result (λ end. end ≡ ends.done limits printers (plan_of call.now) pick.now back value) }
 {
     let first = first_after(alloc, &pick.func, shape_of(call), back)?;
     match unfit(alloc, limits, position_of(call), pick, &first, &value)? {
         Some(fault) => Ok(refusing(first, value, fault)),
-        None => accepted(alloc, call, Whose::Called, first, value),
+        None => told(alloc, call, printer(printers, call, pick), first, value),
     }
 }
 
@@ -198,6 +226,25 @@ pub fn handed_on(
         answer: Err(fault),
         whose: Whose::Called,
         first_after: first_after(alloc, &pick.func, shape_of(call), back)?,
+        printed: None,
         refused: None,
     })
+}
+
+/// How a call ends with what the host answered. Where that is nothing, its function isn't found.
+pub fn host_end(alloc: Global, call: &CallRequest, answer: HostAnswer) -> Result<End, OutOfMemory>
+    ensures { IfOk result (λ end. end ≡ ends.host_end (plan_of call.now) answer) }
+{
+    let first = given(alloc, call)?;
+    match answer {
+        HostAnswer::Nothing => Ok(failed(first, not_found(alloc, call)?)),
+        HostAnswer::Value(value) => accepted(alloc, call, Whose::Host, first, value),
+        HostAnswer::Fault(fault) => Ok(End {
+            answer: Err(fault),
+            whose: Whose::Host,
+            first_after: first,
+            printed: None,
+            refused: None,
+        }),
+    }
 }

@@ -15,6 +15,21 @@ pub struct Limits {
     pub budget: u64,
 }
 
+/// Which printers are set: that of `print`, and that of `debug`.
+#[derive(Clone, Copy, PartialEq, Eq, Debug)]
+pub struct Printers {
+    pub print: bool,
+    pub debug: bool,
+}
+
+impl Printers {
+    /// Neither is set.
+    pub const NONE: Printers = Printers {
+        print: false,
+        debug: false,
+    };
+}
+
 impl Limits {
     /// The limits where none are set.
     pub const DEFAULT: Limits = Limits {

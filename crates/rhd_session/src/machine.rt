@@ -7,7 +7,7 @@ ghost use Rattle.rhd_session.specs.Engine.{EngineLists};
 ghost use Rattle.rhd_session.specs.Waits.{Settled, Put, weight, kept, keeping};
 
 use crate::ends::{End, done, handed_on};
-use crate::limits::Limits;
+use crate::limits::{Limits, Printers};
 use crate::node::{CallNode, Carries, Nodes, Whose};
 use crate::pick::Pick;
 use crate::plan::position_of;
@@ -52,14 +52,17 @@ pub enum Hand {
 pub fn settle(
     alloc: Global,
     limits: Limits,
+    printers: Printers,
     work: Work,
     step: NativeStep,
 ) -> Result<Outcome, OutOfMemory>
-    ensures { (e : EngineLists) → e.limits ≡ limits → IfOk result (λ outcome. Settled e work step outcome) }
+    ensures { (e : EngineLists) → e.limits ≡ limits → e.printers ≡ printers → IfOk result (λ outcome. Settled e work step outcome) }
 {
     match step {
         NativeStep::Done { answer, first } => {
-            let end = done(alloc, limits, &work.call, &work.pick, answer, first)?;
+            let end = done(
+                alloc, limits, printers, &work.call, &work.pick, answer, first,
+            )?;
             Ok(Outcome::Finished(end_call(work, end)))
         }
         NativeStep::Failed { fault, first } => {
@@ -86,6 +89,7 @@ fn end_call(work: Work, end: End) -> CallNode
         answer: end.answer,
         whose: end.whose,
         first_after: end.first_after,
+        printed: end.printed,
         refused: end.refused,
     }
 }
@@ -136,6 +140,7 @@ fn closed(work: Work) -> CallNode
         answer: Err(EvalAltResult::ErrorTooManyOperations(pos)),
         whose: Whose::Call,
         first_after: None,
+        printed: None,
         refused: None,
     }
 }

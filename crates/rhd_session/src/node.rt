@@ -11,7 +11,7 @@ use crate::pick::Pick;
 use crate::plan::position_of;
 use crate::received::given;
 use rhd_func::{CallDone, CallRequest, Carry};
-use rhd_value::{Dynamic, EvalAltResult, OutOfMemory};
+use rhd_value::{Dynamic, EvalAltResult, OutOfMemory, Text};
 use std::alloc::Global;
 use std::marker::Model;
 
@@ -22,6 +22,8 @@ pub enum Whose {
     Call,
     /// That of the function that was picked.
     Called,
+    /// That of the host, where no function was found.
+    Host,
 }
 
 /// What a function kept while it waited, for each call that it asked for, in order.
@@ -85,6 +87,8 @@ pub struct CallNode {
     pub whose: Whose,
     /// The first argument by reference, or the object, as it is after the call.
     pub first_after: Option<Dynamic>,
+    /// The text that was printed, if one was.
+    pub printed: Option<Text>,
     /// The value that the call refused, where it did.
     pub refused: Option<Dynamic>,
 }
@@ -115,42 +119,53 @@ impl Nodes {
 }
 
 impl CallNode {
-    /// A call that isn't begun, as the budget is spent.
-    pub fn unbegun(alloc: Global, call: CallRequest, level: u32) -> Result<CallNode, OutOfMemory>
-        ensures { IfOk result (λ node. seen node ≡ unbegun_node call level) }
-    {
-        let first_after = given(alloc, &call)?;
-        let pos = position_of(&call);
-        Ok(CallNode {
-            call,
-            level,
-            begun: false,
-            pick: None,
-            carries: Carries::new(alloc),
-            children: Nodes::new(alloc),
-            answer: Err(EvalAltResult::ErrorTooManyOperations(pos)),
-            whose: Whose::Call,
-            first_after,
-            refused: None,
-        })
-    }
-
-    /// A call that is begun, and for which nothing runs.
-    fn alone(alloc: Global, call: CallRequest, level: u32, end: End) -> CallNode
-        ensures { seen result ≡ begun_node call level None [] [] end }
+    /// A call for which nothing runs.
+    fn alone(
+        alloc: Global,
+        call: CallRequest,
+        level: u32,
+        begun: bool,
+        pick: Option<Pick>,
+        end: End,
+    ) -> CallNode
+        ensures { seen result ≡ record { call = call; level = level; begun = begun; pick = pick; carries = []; children = []; end = end } }
     {
         CallNode {
             call,
             level,
-            begun: true,
-            pick: None,
+            begun,
+            pick,
             carries: Carries::new(alloc),
             children: Nodes::new(alloc),
             answer: end.answer,
             whose: end.whose,
             first_after: end.first_after,
+            printed: end.printed,
             refused: end.refused,
         }
+    }
+
+    /// A call that isn't begun, as the budget is spent.
+    pub fn unbegun(alloc: Global, call: CallRequest, level: u32) -> Result<CallNode, OutOfMemory>
+        ensures { IfOk result (λ node. seen node ≡ unbegun_node call level) }
+    {
+        let first = given(alloc, &call)?;
+        let fault = EvalAltResult::ErrorTooManyOperations(position_of(&call));
+        let end = failed(first, fault);
+        Ok(CallNode::alone(alloc, call, level, false, None, end))
+    }
+
+    /// A call that is begun, for which nothing runs.
+    pub fn ended(
+        alloc: Global,
+        call: CallRequest,
+        level: u32,
+        pick: Option<Pick>,
+        end: End,
+    ) -> CallNode
+        ensures { seen result ≡ begun_node call level pick [] [] end }
+    {
+        CallNode::alone(alloc, call, level, true, pick, end)
     }
 
     /// A call that ends with a fault of its own, and for which nothing runs.
@@ -158,12 +173,13 @@ impl CallNode {
         alloc: Global,
         call: CallRequest,
         level: u32,
+        pick: Option<Pick>,
         fault: EvalAltResult,
     ) -> Result<CallNode, OutOfMemory>
-        ensures { IfOk result (λ node. seen node ≡ begun_node call level None [] [] (failed (given call) fault)) }
+        ensures { IfOk result (λ node. seen node ≡ begun_node call level pick [] [] (failed (given call) fault)) }
     {
         let first = given(alloc, &call)?;
-        Ok(CallNode::alone(alloc, call, level, failed(first, fault)))
+        Ok(CallNode::ended(alloc, call, level, pick, failed(first, fault)))
     }
 
     /// What the function that asked for the call is told.

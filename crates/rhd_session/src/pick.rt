@@ -9,6 +9,8 @@ pub enum Layer {
     Library(u64),
     /// A module whose functions all calls find.
     Global(u64),
+    /// The table of built-in operators.
+    Builtin,
 }
 
 /// A function, and where it was found.

@@ -1,9 +1,10 @@
 //! The parts of a request that a call of one function goes by.
 
 ghost use Rattle.std.specs.Prelude.{◌≡◌};
-ghost use Rattle.rhd_session.specs.Plans.{by_name, plan_of};
+ghost use Rattle.rhd_session.specs.Plans.{token_in, only_natives, plan_of};
 
 use rhd_func::{CallRequest, CallShape};
+use rhd_names::OpToken;
 use rhd_value::{Position, Text, TypeTag};
 
 /// The name that is called.
@@ -44,9 +45,18 @@ pub fn position_of(request: &CallRequest) -> Position
 
 /// Whether natives alone are meant.
 pub fn native_only_of(request: &CallRequest) -> bool
-    ensures { (plan_of request.now).search ≡ by_name result }
+    ensures { result ≡ only_natives (plan_of request.now).search }
 {
     match request {
         CallRequest::Named { native_only, .. } => *native_only,
+    }
+}
+
+/// The token that the name is, if it is one.
+pub fn token_of(request: &CallRequest) -> Option<OpToken>
+    ensures { result ≡ token_in (plan_of request.now).search }
+{
+    match request {
+        CallRequest::Named { token, .. } => *token,
     }
 }

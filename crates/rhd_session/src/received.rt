@@ -4,8 +4,8 @@ ghost use Rattle.std.specs.Prelude.{◌≡◌, ◌∷◌, if◌then◌else◌, I
 ghost use Rattle.std.specs.Option.{option_copied};
 ghost use Rattle.rhd_value.specs.Tree.{copied};
 ghost use Rattle.rhd_value.specs.Firsts.{first_and_rest};
-ghost use Rattle.rhd_func.specs.Shapes.{first_given, given};
-ghost use Rattle.rhd_session.specs.Received.{received, manner_of, has_the_given, first_after};
+ghost use Rattle.rhd_func.specs.Shapes.{first_given, given, all_args, is_method_shape};
+ghost use Rattle.rhd_session.specs.Received.{received, manner_of, has_the_given, first_after, first_received, is_read_only};
 ghost use Rattle.rhd_session.specs.Entered.{context, context_if};
 ghost use Rattle.rhd_session.specs.Plans.{Plan};
 ghost use Rattle.rhd_session.specs.Start.{start_frame};
@@ -29,6 +29,22 @@ pub fn has_the_given(func: &RhaiFunc, shape: &CallShape) -> bool
         CallShape::Plain(_) => false,
         CallShape::ByRef(_, _) => func.is_method(),
         CallShape::Method(_, _) => func.is_method() || func.is_script(),
+    }
+}
+
+/// Whether the first that a function receives is read-only.
+pub fn receives_constant(func: &RhaiFunc, shape: &CallShape) -> bool
+    ensures { result ≡ is_read_only (first_received (received (manner_of func.now) shape.now)) }
+{
+    match shape {
+        CallShape::Plain(args) => match args.as_slice() {
+            [] => false,
+            [first, ..] => first.is_read_only(),
+        },
+        CallShape::ByRef(first, _) => func.is_method() && first.is_read_only(),
+        CallShape::Method(object, _) => {
+            (func.is_method() || func.is_script()) && object.is_read_only()
+        }
     }
 }
 
@@ -76,6 +92,37 @@ pub fn receive(alloc: Global, func: &RhaiFunc, shape: &CallShape) -> Result<Rece
         CallShape::Plain(args) => receive_plain(alloc, func.is_method(), args),
         CallShape::ByRef(first, args) => receive_first(alloc, itself, first, args),
         CallShape::Method(object, args) => receive_first(alloc, itself, object, args),
+    }
+}
+
+/// All arguments in order, a first one by reference or an object included.
+pub fn all_args(alloc: Global, shape: &CallShape) -> Result<Values, OutOfMemory>
+    ensures { IfOk result (λ args. args ≡ all_args shape.now) }
+{
+    match shape {
+        CallShape::Plain(args) => args.dup(alloc),
+        CallShape::ByRef(first, args) => with_first(alloc, first, args),
+        CallShape::Method(object, args) => with_first(alloc, object, args),
+    }
+}
+
+/// Equal values, with an equal one before them.
+fn with_first(alloc: Global, first: &Dynamic, args: &Values) -> Result<Values, OutOfMemory>
+    ensures { IfOk result (λ values. values ≡ first.now ∷ args.now) }
+{
+    let mut values = args.dup(alloc)?;
+    values.push_first(first.dup(alloc)?)?;
+    Ok(values)
+}
+
+/// Whether it is the call of a method, with an object.
+pub fn is_method_shape(shape: &CallShape) -> bool
+    ensures { result ≡ is_method_shape shape.now }
+{
+    match shape {
+        CallShape::Plain(_) => false,
+        CallShape::ByRef(_, _) => false,
+        CallShape::Method(_, _) => true,
     }
 }
 

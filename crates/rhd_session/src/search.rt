@@ -1,23 +1,22 @@
 //! The search for the function that a call means.
 
 ghost use Rattle.std.specs.Prelude.{◌≡◌, ◌++◌, ◌∷◌, [], IfOk, OnOk, map, None};
-ghost use Rattle.std.specs.Option.{option_to_list};
 ghost use Rattle.rhd_value.specs.Kinds.{tag_of};
 ghost use Rattle.rhd_value.specs.Firsts.{first_of};
 ghost use Rattle.rhd_func.specs.Shapes.{all_args};
 ghost use Rattle.rhd_module.specs.declared.key.Key.TheVariants as keys;
-ghost use Rattle.rhd_session.specs.Asks.{asked_key, params_of, typed_asks};
+ghost use Rattle.rhd_session.specs.Asks.{params_of, typed_key};
 ghost use Rattle.rhd_session.specs.Searched.{libraries as places, own_place, pick_at};
 
 use crate::pick::{Layer, Pick};
 use rhd_func::CallShape;
 use rhd_module::{Key, Module, SharedModule};
-use rhd_value::{OutOfMemory, Text, Types, Values};
+use rhd_value::{OutOfMemory, Text, TypeTag, Values};
 use std::alloc::Global;
 
 /// Puts the kinds of values last.
-fn push_kinds(kinds: &mut Types, values: &Values) -> Result<(), OutOfMemory>
-    ensures { OnOk result (kinds.new ≡ kinds.old ++ map tag_of values.now) }
+fn push_kinds(kinds: &mut Vec<TypeTag>, values: &Values) -> Result<(), OutOfMemory>
+    ensures { OnOk result (kinds.new.items ≡ kinds.old.items ++ map tag_of values.now) }
 {
     for value in values.as_slice() {
         kinds.push(value.kind())?;
@@ -26,10 +25,10 @@ fn push_kinds(kinds: &mut Types, values: &Values) -> Result<(), OutOfMemory>
 }
 
 /// The kinds of all arguments, in order.
-fn kinds_of(alloc: Global, shape: &CallShape) -> Result<Types, OutOfMemory>
-    ensures { IfOk result (λ kinds. kinds ≡ map tag_of (all_args shape.now)) }
+pub fn kinds_of(alloc: Global, shape: &CallShape) -> Result<Vec<TypeTag>, OutOfMemory>
+    ensures { IfOk result (λ kinds. kinds.items ≡ map tag_of (all_args shape.now)) }
 {
-    let mut kinds = Types::new(alloc);
+    let mut kinds = Vec::new(alloc);
     match shape {
         CallShape::Plain(args) => push_kinds(&mut kinds, args)?,
         CallShape::ByRef(first, args) => {
@@ -42,17 +41,6 @@ fn kinds_of(alloc: Global, shape: &CallShape) -> Result<Types, OutOfMemory>
         }
     }
     Ok(kinds)
-}
-
-/// The key of a native that takes exactly these kinds.
-pub fn native_key_of(alloc: Global, name: &Text, shape: &CallShape) -> Result<Key, OutOfMemory>
-    ensures { IfOk result (λ key. key ≡ keys.Native None name.now (map tag_of (all_args shape.now))) }
-{
-    Ok(Key::Native {
-        path: None,
-        name: name.dup(alloc)?,
-        types: kinds_of(alloc, shape)?,
-    })
 }
 
 /// The number of arguments, an object not counted.
@@ -83,7 +71,7 @@ pub fn typed_key_of(
     name: &Text,
     shape: &CallShape,
 ) -> Result<Option<Key>, OutOfMemory>
-    ensures { IfOk result (λ key. option_to_list key ≡ map asked_key (typed_asks name.now shape.now)) }
+    ensures { IfOk result (λ key. key ≡ typed_key name.now shape.now) }
 {
     match shape {
         CallShape::Plain(_) => Ok(None),

@@ -1,17 +1,18 @@
 //! A session: a table of natives, modules by number, libraries, and a global module into which
 //! natives are registered.
 
-ghost use Rattle.std.specs.Prelude.{◌≡◌, ◌≤◌, ◌<◌, ◌+◌, ◌^◌, [], true, IfOk, OnErr, IfErr, length, take};
+ghost use Rattle.std.specs.Prelude.{◌≡◌, ◌≤◌, ◌<◌, ◌+◌, ◌^◌, [], true, IfOk, OnErr, IfErr, Some, length, slice_get, take};
 ghost use Rattle.rhd_session.specs.World.{Moment};
-ghost use Rattle.rhd_session.specs.Held.{names_held, all_held};
+ghost use Rattle.rhd_session.specs.Held.{names_held, all_held, builtins_held};
 ghost use Rattle.rhd_session.specs.Objects.{infos_of, objects_of};
 ghost use Rattle.rhd_session.specs.Start.{start_world, start_frame};
-ghost use Rattle.rhd_session.specs.Answered.{Replied, Answered};
+ghost use Rattle.rhd_session.specs.Answered.{Replied, Answered, Begins};
 
+use crate::builtins::Builtins;
 use crate::command::Command;
-use crate::limits::Limits;
+use crate::limits::{Limits, Printers};
 use crate::reply::{Replies, Reply, Stopped};
-use rhd_func::{Bodies, Natives};
+use rhd_func::{Bodies, Host, Natives};
 use rhd_module::{Module, SharedModule};
 use rhd_value::OutOfMemory;
 use std::alloc::Global;
@@ -23,11 +24,14 @@ pub struct Session {
     pub(crate) global: Module,
     pub(crate) modules: Vec<SharedModule>,
     pub(crate) libraries: Vec<SharedModule>,
+    pub(crate) builtins: Builtins,
     pub(crate) limits: Limits,
+    pub(crate) printers: Printers,
     begun: u64,
     ghost held: { names_held (length natives.items.items) global ≡ true },
     ghost modules_held: { all_held (length natives.items.items) modules.items ≡ true },
     ghost libraries_held: { all_held (length natives.items.items) libraries.items ≡ true },
+    ghost builtins_held: { builtins_held (length natives.items.items) builtins ≡ true },
     ghost limited: { limits.level ≤ 1000 },
     ghost within: { begun ≤ limits.budget },
 }
@@ -35,12 +39,19 @@ pub struct Session {
 impl Session {
     ghost use Rattle.rhd_session.specs.Of.{natives_of, world_of, frame_of, modules_of, calls_begun_of, moment_of};
 
-    /// A session in which nothing is registered.
+    /// A session in which nothing is registered. Its built-ins are held by the natives.
     #[tactic(auto, unfolding(crate::specs::Of::world_of))]
-    pub fn new(alloc: Global, natives: Natives, limits: Limits) -> Result<Session, OutOfMemory>
-        requires { limits.level ≤ 1000 }
+    pub fn new(
+        alloc: Global,
+        natives: Natives,
+        limits: Limits,
+        builtins: Builtins,
+        printers: Printers,
+    ) -> Result<Session, OutOfMemory>
+        requires level { limits.level ≤ 1000 }
+        requires builtins { builtins_held (length natives.items.items) builtins ≡ true }
         ensures natives { IfOk result (λ session. natives_of session ≡ natives) }
-        ensures world { IfOk result (λ session. world_of info session ≡ start_world (infos_of info natives) limits) }
+        ensures world { IfOk result (λ session. world_of info session ≡ start_world (infos_of info natives) limits builtins printers) }
         ensures frame { IfOk result (λ session. frame_of session ≡ start_frame) }
         ensures modules { IfOk result (λ session. modules_of session ≡ []) }
         ensures begun { IfOk result (λ session. calls_begun_of session ≡ 0) }
@@ -50,23 +61,26 @@ impl Session {
             global: Module::new(alloc),
             modules: Vec::new(alloc),
             libraries: Vec::new(alloc),
+            builtins,
             limits,
+            printers,
             begun: 0,
         })
     }
 
     /// Answers one command.
-    fn perform<B: Bodies>(
+    fn perform<H: Host, B: Bodies>(
         &mut self,
         alloc: Global,
         command: &Command,
+        host: &mut H,
         bodies: &mut B,
     ) -> Result<Reply, OutOfMemory>
         requires { length (modules_of self.old) < 2 ^ 32 }
-        ensures replied { IfOk result (λ reply. Replied (objects_of allows_call allows_resume B.allows_start B.allows_next (natives_of self.old)) (world_of info self.old) (frame_of self.old) (moment_of self.old bodies.old) command.now reply (world_of info self.new) (frame_of self.new) (moment_of self.new bodies.new)) }
+        ensures replied { IfOk result (λ reply. Replied (objects_of allows_call allows_resume B.allows_start B.allows_next H.allows_missing (natives_of self.old)) (world_of info self.old) (frame_of self.old) (moment_of self.old host.old bodies.old) command.now reply (world_of info self.new) (frame_of self.new) (moment_of self.new host.new bodies.new)) }
         ensures failed { OnErr result ((world_of info self.new ≡ world_of info self.old) × (frame_of self.new ≡ frame_of self.old)) }
         ensures natives { natives_of self.new ≡ natives_of self.old }
-        ensures rises { calls_begun_of self.old ≤ calls_begun_of self.new }
+        ensures begins { Begins command.now (calls_begun_of self.old) (calls_begun_of self.new) }
         ensures count { length (modules_of self.new) ≤ length (modules_of self.old) + 1 }
     {
         match command {
@@ -78,24 +92,26 @@ impl Session {
             Command::Call(request) => {
                 let request = request.dup(alloc)?;
                 let mut begun = self.begun;
-                let called = self.run_call(alloc, request, &mut begun, bodies);
+                let called = self.run_call(alloc, request, &mut begun, host, bodies);
                 self.begun = begun;
                 Ok(Reply::Called(called?))
             }
         }
     }
 
-    /// Answers commands in order. Where memory runs out, the commands before are done, and the calls
-    /// that were begun for the next one are spent.
-    pub fn run<B: Bodies>(
+    /// Answers commands in order. Bodies run the scripts that are called, and the host is asked for
+    /// a call that allows scripts where no function is found. Where memory runs out, the commands
+    /// before are done, and the calls that were begun for the next one are spent.
+    pub fn run<H: Host, B: Bodies>(
         &mut self,
         alloc: Global,
         commands: &[Command],
+        host: &mut H,
         bodies: &mut B,
     ) -> Result<Replies, Stopped>
         requires { length (modules_of self.old) + length commands.now < 2 ^ 32 }
-        ensures answered { IfOk result (λ replies. Answered (objects_of allows_call allows_resume B.allows_start B.allows_next (natives_of self.old)) (world_of info self.old) (frame_of self.old) (moment_of self.old bodies.old) commands.now replies (world_of info self.new) (frame_of self.new) (moment_of self.new bodies.new)) }
-        ensures stopped { IfErr result (λ stopped. (after : Moment B) × Answered (objects_of allows_call allows_resume B.allows_start B.allows_next (natives_of self.old)) (world_of info self.old) (frame_of self.old) (moment_of self.old bodies.old) (take (length stopped.replies) commands.now) stopped.replies (world_of info self.new) (frame_of self.new) after × (after.begun ≤ calls_begun_of self.new) × (length stopped.replies < length commands.now)) }
+        ensures answered { IfOk result (λ replies. Answered (objects_of allows_call allows_resume B.allows_start B.allows_next H.allows_missing (natives_of self.old)) (world_of info self.old) (frame_of self.old) (moment_of self.old host.old bodies.old) commands.now replies (world_of info self.new) (frame_of self.new) (moment_of self.new host.new bodies.new)) }
+        ensures stopped { IfErr result (λ stopped. (after : Moment H B) × Answered (objects_of allows_call allows_resume B.allows_start B.allows_next H.allows_missing (natives_of self.old)) (world_of info self.old) (frame_of self.old) (moment_of self.old host.old bodies.old) (take (length stopped.replies) commands.now) stopped.replies (world_of info self.new) (frame_of self.new) after × ((command : Command) → slice_get commands.now (length stopped.replies) ≡ Some command → Begins command after.begun (calls_begun_of self.new)) × (length stopped.replies < length commands.now)) }
         ensures counted { IfOk result (λ replies. length replies ≡ length commands.now) }
         ensures modules { length (modules_of self.new) ≤ length (modules_of self.old) + length commands.now }
         ensures natives { natives_of self.new ≡ natives_of self.old }
@@ -107,7 +123,7 @@ impl Session {
                     replies: Replies::from_vec(replies),
                 });
             }
-            match self.perform(alloc, command, bodies) {
+            match self.perform(alloc, command, host, bodies) {
                 Ok(reply) => replies.push_reserved(reply),
                 Err(_) => {
                     return Err(Stopped {

@@ -22,11 +22,15 @@ pub mod WrittenValues
 pub mod ArgumentLaws
 pub mod OperandLaws
 pub mod RowLaws
+pub mod BuiltinLaws
 pub mod CallLaws
 pub mod SessionLaws
 pub mod Utf8Laws
 pub mod BodyLaws
 pub mod PrintingWeights
+pub mod PrintingDigits
 pub mod PrintingEntries
 pub mod PrintingTrees
 pub mod TextLimits
+pub mod BuiltinLimits
+pub mod TreeOrder

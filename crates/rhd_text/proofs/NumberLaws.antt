@@ -1,7 +1,7 @@
 -- What words of digits parse to, and which words are text.
 use Rattle.std.proofs.Common.{◌≡◌, ℕ, zero, suc, inl, inr, ◌^◌, ◌<◌, ◌≤◌, Bool, true, false, cond, ltb, leb, List, [], ◌∷◌, length, drop, get_or, Some, None, Result, Ok, Err, ℤ, pos, neg_ℤ, refl, sym, ap, arith, rules}
 use Rattle.std.specs.List.{list_all}
-use Rattle.std.specs.Char.{is_ascii_digit, is_ascii_lowercase}
+use Rattle.std.specs.Char.{is_ascii_digit}
 use Rattle.std.specs.Result.{OkIff, result_ok}
 use Rattle.std.specs.Int.{w64}
 use Rattle.std.specs.Str.{IsUtf8, IsAscii, is_utf8}
@@ -11,9 +11,9 @@ use Rattle.std.proofs.lemmas.Str.Parse.{IsNumeralModel, numerals_by_value, parse
 use Rattle.std.proofs.lemmas.Str.{IsUtf8-from_ascii, IsUtf8-from_is_utf8, is_utf8-from_IsUtf8}
 use Rattle.std.proofs.lemmas.Fmt.{IsAscii-from_digits}
 use Rattle.std.proofs.lemmas.Bool.{ltb-true, lt-ltb, le-ltb, le-leb, lt-leb, cases_lt}
-use Rattle.std.proofs.lemmas.Bool.Decides.{eqb_tells, nat_tests}
+use Rattle.std.proofs.lemmas.Bool.Decides.{eqb_tells}
 use Rattle.rhd_text.proofs.Agrees.{and_parts}
-use Rattle.rhd_text.specs.Bytes.{is_name, is_digits, is_signed_digits, fitting_int}
+use Rattle.rhd_text.specs.Bytes.{is_digits, is_signed_digits, fitting_int}
 
 abbrev AreDigits : List ℕ → Type 0
 AreDigits ds = list_all is_ascii_digit ds ≡ true
@@ -98,14 +98,3 @@ is_text bs h = is_utf8-from_IsUtf8 bs h
 
 pub is_no_text : (bs : List ℕ) → ¬ (IsUtf8 bs) → is_utf8 bs ≡ false
 is_no_text bs h = sym (not_true (is_utf8 bs) (λ t. h (IsUtf8-from_is_utf8 bs t)))
-
--- ---- names
-
-lower_is_ascii : (c : ℕ) → is_ascii_lowercase c ≡ true → c < 128
-lower_is_ascii c h = grind (arith, nat_tests)
-
-pub names_are_text : (w : List ℕ) → is_name w ≡ true → IsUtf8 w
-names_are_text [] h = absurd cc
-names_are_text (c ∷ cs) h =
-    let a = and_parts (is_ascii_lowercase c) (list_all is_ascii_digit cs) h in
-    IsUtf8-from_ascii (c ∷ cs) (ascii-cons c cs (lower_is_ascii c a.0) (IsAscii-from_digits cs (own.to cs a.1)))

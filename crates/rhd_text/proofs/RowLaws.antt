@@ -9,11 +9,11 @@ use Rattle.rhd_text.specs.declared.place.Place.{Place}
 use Rattle.rhd_text.specs.declared.line.Line.{Line}
 use Rattle.rhd_text.specs.declared.line.Line.TheVariants.{Skipped, Says}
 use Rattle.rhd_text.specs.declared.keyword.Keyword.{Keyword}
-use Rattle.rhd_text.specs.declared.keyword.Keyword.TheVariants.{Limits, Body, Do, Ret, Fail, Register, Module, Script, Lib, PopLib, Call}
+use Rattle.rhd_text.specs.declared.keyword.Keyword.TheVariants.{Limits, Printer, Builtin, Host, Body, Do, Ret, Fail, Register, Module, Script, Lib, PopLib, Call}
 use Rattle.rhd_text.specs.declared.keyword.CallWord.{CallWord}
 use Rattle.rhd_text.specs.declared.keyword.CallWord.TheVariants as words
 use Rattle.rhd_text.specs.Bytes.{is_blank}
-use Rattle.rhd_text.specs.Rows.{Operand, NAME, WORD, WORDS, NUM, LONG, ARG, ARGS, OPTIONAL, WANT, THIS, Meaning, From, row, call_word, keyword, one_word}
+use Rattle.rhd_text.specs.Rows.{Operand, NAME, WORD, WORDS, NUM, LONG, ARG, ARGS, OPTIONAL, WANT, THIS, VALUE, KIND, PRINTER, Meaning, From, row, call_word, keyword, one_word}
 use Rattle.rhd_text.specs.Spans.{blanks, bare}
 use Rattle.rhd_text.specs.Grammar.{operands, head, part, WrittenLine, IsLine}
 use Rattle.rhd_text.specs.Reading.{◌>>=◌, skip_blanks, is_end, word_at, flag_at, this_at}
@@ -25,8 +25,9 @@ use Rattle.rhd_text.proofs.QuoteLaws.{word_agrees, words_agree}
 use Rattle.rhd_text.proofs.FlagLaws.{flag_there, flag_absent}
 use Rattle.rhd_text.proofs.WantLaws.{want_agrees}
 use Rattle.rhd_text.proofs.ObjectLaws.{this_there, this_absent}
+use Rattle.rhd_text.proofs.ValueLaws.{value_agrees}
 use Rattle.rhd_text.proofs.ArgumentLaws.{argument_agrees, arguments_agree}
-use Rattle.rhd_text.proofs.OperandLaws.{name_agrees, number_agrees, operand_sound}
+use Rattle.rhd_text.proofs.OperandLaws.{name_agrees, number_agrees, value_kind_agrees, printer_agrees, operand_sound}
 
 -- ---- any row
 
@@ -73,6 +74,9 @@ no_other w (LONG ∷ os) says c bytes after p o u = absurd cc
 no_other w (ARG ∷ os) says c bytes after p o u = absurd cc
 no_other w (ARGS given ∷ os) says c bytes after p o u = absurd cc
 no_other w (WANT ∷ os) says c bytes after p o u = absurd cc
+no_other w (VALUE ∷ os) says c bytes after p o u = absurd cc
+no_other w (KIND ∷ os) says c bytes after p o u = absurd cc
+no_other w (PRINTER ∷ os) says c bytes after p o u = absurd cc
 
 first_read : {R : Type 0} (o : Operand) (os : List Operand) (says : From (o ∷ os) (Option R)) (c : R) (x : Meaning o) (bytes rest : List ℕ) → operand_at o bytes ≡ Some (x, rest) → operands_at os (says x) rest ≡ Some c → operands_at (o ∷ os) says bytes ≡ Some c
 first_read o os says c x bytes rest e more = rw e more
@@ -97,11 +101,17 @@ row_complete (NUM ∷ os) says c bytes p w = first_read NUM os says c w.0 bytes 
 row_complete (LONG ∷ os) says c bytes p w = first_read LONG os says c w.0 bytes w.1 ((number_agrees 64).complete w.0 bytes w.1 w.2) (row_complete os (says w.0) c w.1 p w.3)
 row_complete (ARG ∷ os) says c bytes p w = first_read ARG os says c w.0 bytes w.1 ((argument_agrees true).complete w.0 bytes w.1 w.2) (row_complete os (says w.0) c w.1 p w.3)
 row_complete (ARGS given ∷ os) says c bytes p w = first_read (ARGS given) os says c w.0 bytes w.1 ((arguments_agree given).complete w.0 bytes w.1 w.2) (row_complete os (says w.0) c w.1 p w.3)
+row_complete (VALUE ∷ os) says c bytes p w = first_read VALUE os says c w.0 bytes w.1 (value_agrees.complete w.0 bytes w.1 w.2) (row_complete os (says w.0) c w.1 p w.3)
+row_complete (KIND ∷ os) says c bytes p w = first_read KIND os says c w.0 bytes w.1 (value_kind_agrees.complete w.0 bytes w.1 w.2) (row_complete os (says w.0) c w.1 p w.3)
+row_complete (PRINTER ∷ os) says c bytes p w = first_read PRINTER os says c w.0 bytes w.1 (printer_agrees.complete w.0 bytes w.1 w.2) (row_complete os (says w.0) c w.1 p w.3)
 
 -- ---- keywords: one line for each in each of these
 
 row_placed : (k : Keyword) → well_placed (row k).operands ≡ true
 row_placed Limits = refl
+row_placed Printer = refl
+row_placed Builtin = refl
+row_placed Host = refl
 row_placed Body = refl
 row_placed (Do v) = refl
 row_placed Ret = refl
@@ -129,6 +139,9 @@ keyword_sound w k e = keyword_found one_word w k e
 keyword_complete : (k : Keyword) → (bytes_eq (keyword k) (codes "do") ≡ false) → keyword_of (keyword k) ≡ Some k
 unfolding keyword_in
 keyword_complete Limits h = refl
+keyword_complete Printer h = refl
+keyword_complete Builtin h = refl
+keyword_complete Host h = refl
 keyword_complete Body h = refl
 keyword_complete (Do v) h = absurd cc
 keyword_complete Ret h = refl
@@ -148,6 +161,9 @@ keyword_complete (Call words.MethodNative) h = refl
 -- a keyword begins no comment
 keyword_shows : (k : Keyword) (rest : List ℕ) → begins_no_part (keyword k ++ rest) ≡ false
 keyword_shows Limits rest = refl
+keyword_shows Printer rest = refl
+keyword_shows Builtin rest = refl
+keyword_shows Host rest = refl
 keyword_shows Body rest = refl
 keyword_shows (Do v) rest = refl
 keyword_shows Ret rest = refl
@@ -167,6 +183,9 @@ keyword_shows (Call words.MethodNative) rest = refl
 -- where the first word is not `do`, it is all
 alone : (k : Keyword) (bytes rest : List ℕ) → bytes_eq (keyword k) (codes "do") ≡ false → bare (keyword k) bytes rest → head k bytes rest
 alone Limits bytes rest h w = w
+alone Printer bytes rest h w = w
+alone Builtin bytes rest h w = w
+alone Host bytes rest h w = w
 alone Body bytes rest h w = w
 alone (Do v) bytes rest h w = absurd cc
 alone Ret bytes rest h w = w
@@ -180,6 +199,9 @@ alone (Call v) bytes rest h w = w
 
 step_is : (k s : Keyword) → step_of k ≡ Some s → (v : CallWord) × (k ≡ Call v) × (Do v ≡ s)
 step_is Limits s e = absurd cc
+step_is Printer s e = absurd cc
+step_is Builtin s e = absurd cc
+step_is Host s e = absurd cc
 step_is Body s e = absurd cc
 step_is (Do v) s e = absurd cc
 step_is Ret s e = absurd cc
@@ -242,6 +264,9 @@ do_complete v bytes rest w = rw (bare_agrees.complete (codes "do") bytes w.0 w.1
 
 head_complete : (k : Keyword) (bytes rest : List ℕ) → head k bytes rest → keyword_at bytes ≡ Some (k, rest)
 head_complete Limits bytes rest w = one_word_complete Limits bytes rest refl w
+head_complete Printer bytes rest w = one_word_complete Printer bytes rest refl w
+head_complete Builtin bytes rest w = one_word_complete Builtin bytes rest refl w
+head_complete Host bytes rest w = one_word_complete Host bytes rest refl w
 head_complete Body bytes rest w = one_word_complete Body bytes rest refl w
 head_complete (Do v) bytes rest w = do_complete v bytes rest w
 head_complete Ret bytes rest w = one_word_complete Ret bytes rest refl w
@@ -261,6 +286,9 @@ head_complete (Call words.MethodNative) bytes rest w = one_word_complete (Call w
 -- what stands first is the first word
 first_word : (k : Keyword) (bytes rest : List ℕ) → head k bytes rest → (after : List ℕ) × bare (keyword k) bytes after
 first_word Limits bytes rest w = (rest, w)
+first_word Printer bytes rest w = (rest, w)
+first_word Builtin bytes rest w = (rest, w)
+first_word Host bytes rest w = (rest, w)
 first_word Body bytes rest w = (rest, w)
 first_word (Do v) bytes rest w = (w.0, w.1)
 first_word Ret bytes rest w = (rest, w)

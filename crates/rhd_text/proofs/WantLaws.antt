@@ -3,7 +3,7 @@ use Rattle.std.proofs.Common.{◌≡◌, ℕ, ◌<◌, Bool, true, false, cond, 
 use Rattle.std.proofs.lemmas.Bool.{eqb-true}
 use Rattle.rhd_value.specs.declared.tag.TypeTag.{TypeTag}
 use Rattle.rhd_text.specs.Bytes.{begins, kind_of}
-use Rattle.rhd_text.specs.Spans.{◌▸◌, blanks, byte, bare, want}
+use Rattle.rhd_text.specs.Spans.{bare, NoColon, want}
 use Rattle.rhd_text.specs.Reading.{◌>>=◌, Parse, skip_blanks, comes, after_bracket, word_at, want_at}
 use Rattle.rhd_text.proofs.Agrees.{Agrees, bind_some, some_pair}
 use Rattle.rhd_text.proofs.WordLaws.{bare_agrees, bare_here}
@@ -20,6 +20,9 @@ word_first c w bytes rest b h = let r = bare_here w bytes rest b in run_first c 
 abbrev colon_at : Parse (Option TypeTag)
 colon_at bytes = word_at bytes >>= λ w. kind_of (drop 1 w.0) >>= λ k. Some (Some k, w.1)
 
+pub colon_absent : (bytes : List ℕ) → comes 58 bytes ≡ false → NoColon bytes
+colon_absent bytes h = λ after s. not_both (comes 58 bytes) (bracket_complete 58 bytes after refl s).0 h
+
 want_sound : (b : Bool) (k : Option TypeTag) (bytes rest : List ℕ) → comes 58 bytes ≡ b → cond b (colon_at bytes) (Some (None, bytes)) ≡ Some (k, rest) → want k bytes rest
 want_sound true k bytes rest h e =
     let a = bind_some (word_at bytes) (λ w. kind_of (drop 1 w.0) >>= λ x. Some (Some x, w.1)) (k, rest) e in
@@ -30,9 +33,9 @@ want_sound true k bytes rest h e =
     subst (λ (j : Option TypeTag). want j bytes rest) p.0 (drop 1 a.0.0, b.1, subst (λ (r : List ℕ). bare (58 ∷ drop 1 a.0.0) bytes r) p.1 (subst (λ (v : List ℕ). bare v bytes a.0.1) f w))
 want_sound false k bytes rest h e =
     let p = some_pair None k bytes rest e in
-    subst (λ (j : Option TypeTag). want j bytes rest) p.0 (p.1, λ after s. not_both (comes 58 bytes) (bracket_complete 58 bytes after refl s).0 h)
+    subst (λ (j : Option TypeTag). want j bytes rest) p.0 (p.1, colon_absent bytes h)
 
-no_colon : (b : Bool) (bytes : List ℕ) → comes 58 bytes ≡ b → ((after : List ℕ) → (blanks ▸ byte 58) bytes after → ⊥) → b ≡ false
+pub no_colon : (b : Bool) (bytes : List ℕ) → comes 58 bytes ≡ b → NoColon bytes → b ≡ false
 no_colon true bytes h n = absurd (n (after_bracket bytes) (bracket_sound 58 bytes (omega arith) h))
 no_colon false bytes h n = refl
 

@@ -175,14 +175,3 @@ not_end false w bytes rest e o = refl
 -- where a bare word stands, the line has not ended
 pub bare_begun : (w bytes rest : List ℕ) → bare w bytes rest → is_end bytes ≡ false
 bare_begun w bytes rest o = not_end (is_end bytes) w bytes rest refl o
-
--- a word that passes a test
-pub tested_agrees : (test : List ℕ → Bool) (read : Parse (List ℕ)) (span : List ℕ → Span) → Agrees (List ℕ) read span
-    → Agrees (List ℕ) (λ bytes. read bytes >>= λ w. cond (test w.0) (Some w) None) (λ w bytes rest. (test w ≡ true) × span w bytes rest)
-tested_agrees test read span agrees = record {
-  sound = λ x bytes rest e.
-      let a = bind_some (read bytes) (λ w. cond (test w.0) (Some w) None) (x, rest) e in
-      let s = cond_some (test a.0.0) a.0 (x, rest) a.2 in
-      (sym (ap (λ (w : List ℕ × List ℕ). test w.0) s.1) ∙ s.0, agrees.sound x bytes rest (a.1 ∙ ap (λ (w : List ℕ × List ℕ). Some w) s.1));
-  complete = λ x bytes rest m. rw (agrees.complete x bytes rest m.1, m.0) refl;
-}

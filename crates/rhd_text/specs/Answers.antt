@@ -18,10 +18,10 @@ abbrev pub Gives : {X Y : Type 0} → (X → Y) → Result X Stop → Option Y �
 Gives view (Ok x) read = read ≡ Some (view x)
 Gives view (Err e) read = Stops e read
 
--- what a step made is what its definition gives, unless memory ran out
-abbrev pub StepGives : {X Y : Type 0} → Result X Stop → Y → Option Y → Type 0
-StepGives (Ok x) new step = step ≡ Some new
-StepGives (Err e) new step = Stops e step
+-- what a step made of the old is what its definition gives, unless memory ran out; where it stopped, all is as before
+abbrev pub StepGives : {X Y : Type 0} → Result X Stop → Y → Y → Option Y → Type 0
+StepGives (Ok x) old new step = step ≡ Some new
+StepGives (Err e) old new step = Stops e step × (new ≡ old)
 
 -- the reader's answer is what the lines say, unless memory ran out
 abbrev pub Reads : Result SessionText TextFault → Result SessionText ℕ → Type 0

@@ -1,14 +1,16 @@
 -- BYTES AND WORDS: which bytes part words, and what a word may say.
-use Rattle.std.specs.Prelude.{ℕ, ◌^◌, Bool, true, false, ◌&&◌, ◌||◌, not, List, [], ◌∷◌, length, drop, Option, Some, None, ℤ, pos, neg_ℤ, nat_le, nat_lt, ◌==◌, slice_index, codes, take, if◌then◌else◌}
+use Rattle.std.specs.Prelude.{ℕ, ◌^◌, Bool, true, ◌&&◌, ◌||◌, not, List, [], ◌∷◌, length, drop, Option, Some, None, ℤ, pos, neg_ℤ, nat_le, nat_lt, ◌==◌, slice_index, codes, take, if◌then◌else◌}
 use Rattle.std.specs.Option.{option_map}
 use Rattle.std.specs.Str.{bytes_eq}
 use Rattle.std.specs.List.{list_all}
-use Rattle.std.specs.Char.{is_ascii_digit, is_ascii_lowercase}
+use Rattle.std.specs.Char.{is_ascii_digit}
 use Rattle.std.specs.Str.Parse.{digits_value}
 use Rattle.rhd_value.specs.declared.tag.TypeTag.{TypeTag}
 use Rattle.rhd_value.specs.declared.tag.TypeTag.TheVariants as tags
 use Rattle.rhd_text.specs.declared.body.Given.{Given}
 use Rattle.rhd_text.specs.declared.body.Given.TheVariants.{This, Last, Arg}
+use Rattle.rhd_text.specs.declared.printers.Printer.{Printer}
+use Rattle.rhd_text.specs.declared.printers.Printer.TheVariants as printers
 
 -- a space or a tab
 abbrev pub is_blank : ℕ → Bool
@@ -42,11 +44,6 @@ unescaped b =
     else (if b == 114 then Some 13
     else None)))))
 
--- one lower-case letter, and digits, possibly none
-abbrev pub is_name : List ℕ → Bool
-is_name [] = false
-is_name (c ∷ cs) = is_ascii_lowercase c && list_all is_ascii_digit cs
-
 -- one digit or more
 abbrev pub is_digits : List ℕ → Bool
 is_digits w = nat_lt 0 (length w) && list_all is_ascii_digit w
@@ -66,9 +63,9 @@ given_of w =
 unfoldable pub custom_of : List ℕ → Option TypeTag
 custom_of w = if bytes_eq (take 6 w) (codes "custom") then option_map (λ n. tags.Custom n) (num_of 32 (drop 6 w)) else None
 
--- a kind of values, or `dynamic`, which stands for any
-unfoldable pub kind_of : List ℕ → Option TypeTag
-kind_of w =
+-- a kind of values
+unfoldable pub value_kind_of : List ℕ → Option TypeTag
+value_kind_of w =
     if bytes_eq w (codes "unit") then Some tags.Unit
     else (if bytes_eq w (codes "bool") then Some tags.Bool
     else (if bytes_eq w (codes "int") then Some tags.Int
@@ -77,8 +74,15 @@ kind_of w =
     else (if bytes_eq w (codes "array") then Some tags.Array
     else (if bytes_eq w (codes "map") then Some tags.Map
     else (if bytes_eq w (codes "fn") then Some tags.FnPtr
-    else (if bytes_eq w (codes "dynamic") then Some tags.Dynamic
-    else custom_of w))))))))
+    else custom_of w)))))))
+
+-- a kind of values, or `dynamic`, which stands for any
+unfoldable pub kind_of : List ℕ → Option TypeTag
+kind_of w = if bytes_eq w (codes "dynamic") then Some tags.Dynamic else value_kind_of w
+
+-- the printer of `print`, or that of `debug`
+unfoldable pub printer_of : List ℕ → Option Printer
+printer_of w = if bytes_eq w (codes "print") then Some printers.Print else (if bytes_eq w (codes "debug") then Some printers.Debug else None)
 
 -- digits, or `-` and digits
 abbrev pub is_signed_digits : List ℕ → Bool

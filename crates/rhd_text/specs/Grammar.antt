@@ -10,8 +10,8 @@ use Rattle.rhd_text.specs.declared.line.Line.{Line}
 use Rattle.rhd_text.specs.declared.line.Line.TheVariants.{Skipped, Says}
 use Rattle.rhd_text.specs.declared.keyword.Keyword.{Keyword}
 use Rattle.rhd_text.specs.declared.keyword.Keyword.TheVariants.{Do}
-use Rattle.rhd_text.specs.Rows.{Operand, NAME, WORD, WORDS, NUM, LONG, ARG, ARGS, OPTIONAL, WANT, THIS, Meaning, From, row, call_word, keyword}
-use Rattle.rhd_text.specs.Spans.{Span, ◌▸◌, blanks, bare, name, word, words, optional, number, want, this, argument, arguments}
+use Rattle.rhd_text.specs.Rows.{Operand, NAME, WORD, WORDS, NUM, LONG, ARG, ARGS, OPTIONAL, WANT, THIS, VALUE, KIND, PRINTER, Meaning, From, row, call_word, keyword}
+use Rattle.rhd_text.specs.Spans.{Span, ◌▸◌, blanks, bare, name, word, words, optional, number, want, this, value, value_kind, printer, argument, arguments}
 
 -- how each kind of operand is written
 abbrev pub operand : (o : Operand) → Meaning o → Span
@@ -25,6 +25,9 @@ operand (ARGS given) = arguments given
 operand (OPTIONAL w) = optional w
 operand WANT = want
 operand THIS = this
+operand VALUE = value
+operand KIND = value_kind
+operand PRINTER = printer
 
 -- the operands of a row, to the end of the line, where the row gives this of what they say
 abbrev pub operands : {R : Type 0} (os : List Operand) → From os (Option R) → R → List ℕ → Type 0

@@ -1,5 +1,6 @@
 pub mod Bytes
 pub mod Arguments
+pub mod Operators
 pub mod Rows
 pub mod Maps
 pub mod Spans
@@ -12,4 +13,5 @@ pub mod Answers
 pub mod PrintedTexts
 pub mod PrintedValues
 pub mod PrintedReplies
+pub mod TreeLines
 pub mod Proper

@@ -2,9 +2,11 @@
 use Rattle.std.specs.Prelude.{ℕ, ◌*◌, ◌-◌, replicate, List, [], ◌∷◌, ◌++◌, Option, Some, None, Result, Ok, Err, codes}
 use Rattle.std.specs.List.{flat_map}
 use Rattle.std.specs.Fmt.{decimal}
-use Rattle.rhd_value.specs.Tree.{Tree}
+use Rattle.rhd_value.specs.Tree.{Bytes, Tree}
 use Rattle.rhd_value.specs.declared.fault.EvalAltResult.{EvalAltResult}
-use Rattle.rhd_value.specs.declared.fault.EvalAltResult.TheVariants.{ErrorFunctionNotFound, ErrorDataRace, ErrorMismatchOutputType, ErrorMismatchDataType, ErrorTooManyOperations, ErrorStackOverflow, ErrorDataTooLarge, ErrorRuntime}
+use Rattle.rhd_value.specs.declared.fault.EvalAltResult.TheVariants.{ErrorFunctionNotFound, ErrorDotExpr, ErrorIndexingType, ErrorParsing, ErrorNonPureMethodCallOnConstant, ErrorDataRace, ErrorMismatchOutputType, ErrorMismatchDataType, ErrorTooManyOperations, ErrorStackOverflow, ErrorDataTooLarge, ErrorRuntime}
+use Rattle.rhd_value.specs.declared.fault.ParseErrorType.{ParseErrorType}
+use Rattle.rhd_value.specs.declared.fault.ParseErrorType.TheVariants.{Reserved, MalformedIndexExpr}
 use Rattle.rhd_func.specs.declared.func.RhaiFunc.{RhaiFunc}
 use Rattle.rhd_func.specs.declared.func.RhaiFunc.TheVariants as funcs
 use Rattle.rhd_func.specs.declared.request.CallRequest.{CallRequest}
@@ -12,7 +14,7 @@ use Rattle.rhd_func.specs.declared.request.CallRequest.TheVariants.{Named}
 use Rattle.rhd_module.specs.declared.fault.DeclFault.{DeclFault}
 use Rattle.rhd_module.specs.declared.fault.DeclFault.TheVariants.{UnknownNumber, OutOfMemory}
 use Rattle.rhd_session.specs.declared.pick.Layer.{Layer}
-use Rattle.rhd_session.specs.declared.pick.Layer.TheVariants.{Library, Global}
+use Rattle.rhd_session.specs.declared.pick.Layer.TheVariants.{Library, Global, Builtin}
 use Rattle.rhd_session.specs.declared.pick.Pick.{Pick}
 use Rattle.rhd_session.specs.declared.node.Whose.{Whose}
 use Rattle.rhd_session.specs.declared.node.Whose.TheVariants as whose
@@ -23,9 +25,18 @@ use Rattle.rhd_session.specs.declared.reply.Reply.TheVariants.{Done, Made, Refus
 use Rattle.rhd_text.specs.PrintedTexts.{quoted}
 use Rattle.rhd_text.specs.PrintedValues.{spelled}
 
+-- what is wrong with a name or with the arguments of an indexer or a property
+unfoldable pub spelled_error : ParseErrorType → List ℕ
+spelled_error (Reserved name) = codes "reserved " ++ quoted name
+spelled_error (MalformedIndexExpr text) = codes "index " ++ quoted text
+
 -- the number of a fault and its parts
 unfoldable pub spelled_fault : EvalAltResult → List ℕ
 spelled_fault (ErrorFunctionNotFound text pos) = codes "1 " ++ quoted text
+spelled_fault (ErrorDotExpr text pos) = codes "2 " ++ quoted text
+spelled_fault (ErrorIndexingType text pos) = codes "3 " ++ quoted text
+spelled_fault (ErrorParsing error pos) = codes "4 " ++ spelled_error error
+spelled_fault (ErrorNonPureMethodCallOnConstant name pos) = codes "5 " ++ quoted name
 spelled_fault (ErrorDataRace text pos) = codes "6 " ++ quoted text
 spelled_fault (ErrorMismatchOutputType wanted got pos) = codes "7 " ++ quoted wanted ++ codes " " ++ quoted got
 spelled_fault (ErrorMismatchDataType wanted got pos) = codes "8 " ++ quoted wanted ++ codes " " ++ quoted got
@@ -41,12 +52,13 @@ spelled_refusal OutOfMemory = codes "5"
 
 -- what a call is called
 abbrev pub label : CallRequest → List ℕ
-label (Named name native_only shape want pos) = name
+label (Named name token native_only shape want pos) = name
 
 -- where a function was found
 unfoldable pub layer_text : Layer → List ℕ
 layer_text (Library n) = codes "lib" ++ decimal n
 layer_text (Global n) = codes "global" ++ decimal n
+layer_text Builtin = codes "builtin"
 
 -- a native by its number, a script by that of its body
 unfoldable pub func_text : RhaiFunc → List ℕ
@@ -63,6 +75,7 @@ pick_text (Some p) = layer_text p.layer ++ func_text p.func
 abbrev pub whose_text : Whose → List ℕ
 whose_text whose.Call = codes "call"
 whose_text whose.Called = codes "called"
+whose_text whose.Host = codes "host"
 
 -- the answer or the fault
 unfoldable pub result_text : Result Tree EvalAltResult → List ℕ
@@ -74,9 +87,14 @@ unfoldable pub after_text : Option Tree → List ℕ
 after_text None = []
 after_text (Some t) = codes " & " ++ spelled t
 
+-- the text that was printed, if one was
+unfoldable pub shown_text : Option Bytes → List ℕ
+shown_text None = []
+shown_text (Some text) = codes " > " ++ quoted text
+
 -- a call with its answer
-unfoldable pub call_line : CallRequest → Option Pick → Whose → Result Tree EvalAltResult → Option Tree → List ℕ
-call_line call pick whose answer after = label call ++ codes " " ++ pick_text pick ++ codes " " ++ whose_text whose ++ codes " " ++ result_text answer ++ after_text after
+unfoldable pub call_line : CallRequest → Option Pick → Whose → Result Tree EvalAltResult → Option Tree → Option Bytes → List ℕ
+call_line call pick whose answer after shown = label call ++ codes " " ++ pick_text pick ++ codes " " ++ whose_text whose ++ codes " " ++ result_text answer ++ after_text after ++ shown_text shown
 
 -- two spaces for each call above it
 abbrev pub indent : ℕ → List ℕ
@@ -85,8 +103,8 @@ indent level = replicate (2 * (level - 1)) 32
 abbrev mutual
   -- a call on a line, and the calls that it led to on the lines after it
   pub tree_text : CallNode → List ℕ
-  tree_text (CallNode' call level begun pick carries children answer whose after refused) =
-      indent level ++ call_line call pick whose answer after ++ 10 ∷ [] ++ nodes_text children
+  tree_text (CallNode' call level begun pick carries children answer whose after shown refused) =
+      indent level ++ call_line call pick whose answer after shown ++ 10 ∷ [] ++ nodes_text children
 
   pub nodes_text : Nodes → List ℕ
   nodes_text (Nodes' shape row) = row_text row

@@ -10,8 +10,8 @@ use Rattle.rhd_text.specs.declared.line.Line.{Line}
 use Rattle.rhd_text.specs.declared.line.Line.TheVariants.{Skipped, Says}
 use Rattle.rhd_text.specs.declared.keyword.Keyword.{Keyword}
 use Rattle.rhd_text.specs.declared.keyword.Keyword.TheVariants.{Call, Do}
-use Rattle.rhd_text.specs.Rows.{Operand, NAME, WORD, WORDS, NUM, LONG, ARG, ARGS, OPTIONAL, WANT, THIS, Meaning, From, Row, row, keyword, one_word}
-use Rattle.rhd_text.specs.Reading.{◌>>=◌, skip_blanks, is_end, Parse, word_at, name_at, wording_at, texts_at, flag_at, num_at, want_at, this_at, argument_at, arguments_at}
+use Rattle.rhd_text.specs.Rows.{Operand, NAME, WORD, WORDS, NUM, LONG, ARG, ARGS, OPTIONAL, WANT, THIS, VALUE, KIND, PRINTER, Meaning, From, Row, row, keyword, one_word}
+use Rattle.rhd_text.specs.Reading.{◌>>=◌, skip_blanks, is_end, Parse, word_at, name_at, wording_at, texts_at, flag_at, num_at, want_at, this_at, value_at, value_kind_at, printer_at, argument_at, arguments_at}
 
 -- how each kind of operand is read
 abbrev pub operand_at : (o : Operand) → List ℕ → Option (Meaning o × List ℕ)
@@ -25,6 +25,9 @@ operand_at (ARGS given) bytes = arguments_at given bytes
 operand_at (OPTIONAL w) bytes = Some (flag_at w bytes)
 operand_at WANT bytes = want_at bytes
 operand_at THIS bytes = this_at bytes
+operand_at VALUE bytes = value_at bytes
+operand_at KIND bytes = value_kind_at bytes
+operand_at PRINTER bytes = printer_at bytes
 
 -- the operands of a row, to the end of the line
 abbrev pub operands_at : {R : Type 0} (os : List Operand) → From os (Option R) → List ℕ → Option R

@@ -13,7 +13,8 @@ use Rattle.rhd_text.specs.declared.heads.Head.TheVariants as heads
 use Rattle.rhd_text.specs.declared.heads.Sort.{Sort}
 use Rattle.rhd_text.specs.declared.heads.Sort.TheVariants as sorts
 use Rattle.rhd_text.specs.Maps.{put_new}
-use Rattle.rhd_text.specs.Bytes.{is_blank, is_word_byte, may_end, begins, unescaped, is_name, num_of, int_of, given_of, kind_of}
+use Rattle.rhd_text.specs.Bytes.{is_blank, is_word_byte, may_end, begins, unescaped, num_of, int_of, given_of, value_kind_of, kind_of, printer_of}
+use Rattle.rhd_text.specs.declared.printers.Printer.{Printer}
 use Rattle.rhd_text.specs.declared.arguments.Argument.{Argument}
 use Rattle.rhd_text.specs.declared.arguments.Argument.TheVariants as argument
 use Rattle.rhd_text.specs.declared.arguments.Arguments.{Arguments}
@@ -44,12 +45,6 @@ run_at bytes = let n = prefix_len is_word_byte bytes in if nat_lt 0 n && may_end
 unfoldable pub word_at : Parse (List ℕ)
 word_at bytes = run_at (skip_blanks bytes)
 
--- the next word, if it is a name
-unfoldable pub name_at : Parse (List ℕ)
-name_at bytes = do
-  w ← word_at bytes
-  if is_name w.0 then Some w else None
-
 -- whether this is the next word, and the bytes after it if it is
 abbrev pub flag_of : List ℕ → List ℕ → Option (List ℕ × List ℕ) → Bool × List ℕ
 flag_of w bytes None = (false, bytes)
@@ -64,6 +59,20 @@ num_at bits bytes = do
   w ← word_at bytes
   n ← num_of bits w.0
   Some (n, w.1)
+
+-- the kind of values that the next word says
+unfoldable pub value_kind_at : Parse TypeTag
+value_kind_at bytes = do
+  w ← word_at bytes
+  k ← value_kind_of w.0
+  Some (k, w.1)
+
+-- the printer that the next word says
+unfoldable pub printer_at : Parse Printer
+printer_at bytes = do
+  w ← word_at bytes
+  p ← printer_of w.0
+  Some (p, w.1)
 
 -- whether this byte comes next, after any blanks
 abbrev pub comes : ℕ → List ℕ → Bool
@@ -123,6 +132,10 @@ text_here bytes = if begins 34 bytes then quoted_at 34 (drop 1 bytes) else plain
 -- the next text, quoted or not
 unfoldable pub wording_at : Parse (List ℕ)
 wording_at bytes = text_here (skip_blanks bytes)
+
+-- the next text, quoted or not, unless a `:` comes next
+unfoldable pub name_at : Parse (List ℕ)
+name_at bytes = if comes 58 bytes then None else wording_at bytes
 
 -- the text after `this`, where that is the next word
 unfoldable pub this_at : Parse (Option (List ℕ))

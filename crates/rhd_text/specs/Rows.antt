@@ -1,6 +1,8 @@
 -- THE TABLE: each line form, how it begins, its operands, and what it adds to the text.
-use Rattle.std.specs.Prelude.{ℕ, Bool, true, false, List, [], ◌∷◌, Option, Some, None, nat_le, codes, if◌then◌else◌}
+use Rattle.std.specs.Prelude.{ℕ, Bool, true, false, not, List, [], ◌∷◌, Option, Some, None, option_and_then, ◌==◌, nat_le, nat_lt, codes, if◌then◌else◌}
+use Rattle.std.specs.List.{list_all}
 use Rattle.std.specs.Option.{option_map}
+use Rattle.rhd_names.specs.Tokens.{token_of}
 use Rattle.rhd_value.specs.Tree.{Tree}
 use Rattle.rhd_value.specs.declared.tag.Position.{Position}
 use Rattle.rhd_value.specs.declared.tag.TypeTag.{TypeTag}
@@ -19,16 +21,19 @@ use Rattle.rhd_text.specs.declared.arguments.Argument.TheVariants as argument
 use Rattle.rhd_text.specs.declared.arguments.Arguments.{Arguments}
 use Rattle.rhd_text.specs.declared.body.BodyEnd.{BodyEnd}
 use Rattle.rhd_text.specs.declared.body.BodyEnd.TheVariants.{Ret, RetGiven, Fail}
+use Rattle.rhd_text.specs.declared.printers.Printer.{Printer}
 use Rattle.rhd_text.specs.declared.part.Part.{Part}
 use Rattle.rhd_text.specs.declared.part.Part.TheVariants as parts
 use Rattle.rhd_text.specs.declared.keyword.CallWord.{CallWord}
 use Rattle.rhd_text.specs.declared.keyword.CallWord.TheVariants as words
 use Rattle.rhd_text.specs.declared.keyword.Keyword.{Keyword}
 use Rattle.rhd_text.specs.declared.keyword.Keyword.TheVariants as keywords
+use Rattle.rhd_text.specs.Operators.{operator_of}
 
--- an operand of a line: a name; a text, quoted or not; texts between brackets; a number of 32 or of 64 bits; one
--- argument, which may be given; arguments up to the end of the line, which may be given or not; a word that may be left
--- out; the kind of the answer that is wanted; the type of a script's object, which may be left out like a word
+-- an operand of a line: the name of a call; a text, quoted or not; texts between brackets; a number of 32 or of 64 bits;
+-- one argument, which may be given; arguments up to the end of the line, which may be given or not; a word that may be
+-- left out; the kind of the answer that is wanted; the type of a script's object, which may be left out like a word; a
+-- value; a kind of values; a printer
 pub data Operand : Type 0 where
   NAME : Operand
   WORD : Operand
@@ -40,6 +45,9 @@ pub data Operand : Type 0 where
   OPTIONAL : List ℕ → Operand
   WANT : Operand
   THIS : Operand
+  VALUE : Operand
+  KIND : Operand
+  PRINTER : Operand
 
 -- what an operand says
 abbrev pub Meaning : Operand → Type 0
@@ -53,6 +61,9 @@ Meaning (ARGS given) = Arguments
 Meaning (OPTIONAL w) = Bool
 Meaning WANT = Option TypeTag
 Meaning THIS = Option (List ℕ)
+Meaning VALUE = Tree
+Meaning KIND = TypeTag
+Meaning PRINTER = Printer
 
 -- a function of what these operands say
 abbrev pub From : List Operand → Type 0 → Type 0
@@ -104,13 +115,16 @@ shape_of words.RefNative args = first_apart (λ first more. ByRef first more) ar
 shape_of words.Method args = first_apart (λ object more. Method object more) args
 shape_of words.MethodNative args = first_apart (λ object more. Method object more) args
 
--- its request, where the arguments are enough
+-- its request, where the arguments are enough, with the token that the name is
 abbrev pub request_of : CallWord → Option TypeTag → List ℕ → List Tree → Position → Option CallRequest
-request_of w want f args pos = option_map (λ shape. Named f (native_only w) shape want pos) (shape_of w args)
+request_of w want f args pos = option_map (λ shape. Named f (token_of f) (native_only w) shape want pos) (shape_of w args)
 
 -- how the first word of a line is spelled; after `do` stands the word of a call
 abbrev pub keyword : Keyword → List ℕ
 keyword keywords.Limits = codes "limits"
+keyword keywords.Printer = codes "printer"
+keyword keywords.Builtin = codes "builtin"
+keyword keywords.Host = codes "host"
 keyword keywords.Body = codes "body"
 keyword (keywords.Do _) = codes "do"
 keyword keywords.Ret = codes "ret"
@@ -124,11 +138,19 @@ keyword (keywords.Call w) = call_word w
 
 -- all keywords of one word
 abbrev pub one_word : List Keyword
-one_word = keywords.Limits ∷ keywords.Body ∷ keywords.Ret ∷ keywords.Fail ∷ keywords.Register ∷ keywords.Module ∷ keywords.Script ∷ keywords.Lib ∷ keywords.PopLib ∷ keywords.Call words.Call ∷ keywords.Call words.CallNative ∷ keywords.Call words.Ref ∷ keywords.Call words.RefNative ∷ keywords.Call words.Method ∷ keywords.Call words.MethodNative ∷ []
+one_word = keywords.Limits ∷ keywords.Printer ∷ keywords.Builtin ∷ keywords.Host ∷ keywords.Body ∷ keywords.Ret ∷ keywords.Fail ∷ keywords.Register ∷ keywords.Module ∷ keywords.Script ∷ keywords.Lib ∷ keywords.PopLib ∷ keywords.Call words.Call ∷ keywords.Call words.CallNative ∷ keywords.Call words.Ref ∷ keywords.Call words.RefNative ∷ keywords.Call words.Method ∷ keywords.Call words.MethodNative ∷ []
 
 -- limits, of which the level is at most 1,000
 abbrev pub allowed : Limits → Option Part
 allowed limits = if nat_le limits.level 1000 then Some (parts.Limits limits) else None
+
+-- the native of a number for an operator between two kinds, where the word is an operator and so many natives are held
+abbrev pub built_in : ℕ → List ℕ → TypeTag → TypeTag → ℕ → Option Part
+built_in held w left right n = option_and_then (λ op. if nat_lt n held then Some (parts.Builtin op left right (record { 0 = n })) else None) (operator_of w)
+
+-- the native of a number under a name, which has no `$`
+abbrev pub registered : List ℕ → ℕ → Option Part
+registered f n = if list_all (λ b. not (b == 36)) f then Some (parts.Command (commands.RegisterFn f (record { 0 = n }))) else None
 
 -- the end of a body that answers this
 abbrev pub answered : Argument → BodyEnd
@@ -153,11 +175,14 @@ called true w = record { operands = WANT ∷ NAME ∷ ARGS true ∷ []; part = �
 -- THE ROWS
 abbrev pub row : Keyword → Row
 row keywords.Limits = record { operands = NUM ∷ NUM ∷ NUM ∷ NUM ∷ LONG ∷ []; part = λ place a m t l b. allowed (record { array = a; map = m; text = t; level = l; budget = b }) }
+row keywords.Printer = record { operands = PRINTER ∷ []; part = λ place p. Some (parts.Printer p) }
+row keywords.Builtin = record { operands = WORD ∷ KIND ∷ KIND ∷ NUM ∷ []; part = λ place w left right n. built_in place.held w left right n }
+row keywords.Host = record { operands = WORD ∷ VALUE ∷ []; part = λ place f t. Some (parts.Host f t) }
 row keywords.Body = record { operands = []; part = λ place. Some parts.Body }
 row (keywords.Do w) = called true w
 row keywords.Ret = record { operands = ARG ∷ []; part = λ place x. Some (parts.End (answered x)) }
 row keywords.Fail = record { operands = WORD ∷ []; part = λ place text. Some (parts.End (Fail text)) }
-row keywords.Register = record { operands = NAME ∷ NUM ∷ []; part = λ place f n. Some (parts.Command (commands.RegisterFn f (record { 0 = n }))) }
+row keywords.Register = record { operands = WORD ∷ NUM ∷ []; part = λ place f n. registered f n }
 row keywords.Module = record { operands = []; part = λ place. Some (parts.Command commands.NewModule) }
 row keywords.Script = record { operands = NUM ∷ WORD ∷ WORDS ∷ NUM ∷ THIS ∷ OPTIONAL (codes "private") ∷ []; part = λ place m f params n type private. Some (parts.Command (commands.Script (record { 0 = m }) (scripted f params n type private))) }
 row keywords.Lib = record { operands = NUM ∷ []; part = λ place m. Some (parts.Command (commands.PushLib (record { 0 = m }))) }

@@ -1,14 +1,22 @@
 -- WHAT A SESSION TEXT SAYS: its lines one after the other, and which line is the first bad one.
-use Rattle.std.specs.Prelude.{◌≡◌, ℕ, ◌+◌, ◌-◌, ◌&&◌, ◌==◌, Bool, List, [], ◌∷◌, ◌++◌, length, slice_set, Option, Some, None, Result, Ok, Err, if◌then◌else◌}
+use Rattle.std.specs.Prelude.{◌≡◌, ℕ, ◌+◌, ◌-◌, ◌&&◌, ◌==◌, Bool, true, false, List, [], ◌∷◌, ◌++◌, length, slice_set, Option, Some, None, Result, Ok, Err, if◌then◌else◌}
 use Rattle.std.specs.Option.{is_none}
 use Rattle.std.specs.List.{slice_get}
+use Rattle.rhd_value.specs.Tree.{Bytes, Tree}
+use Rattle.rhd_value.specs.Entries.{put}
+use Rattle.rhd_value.specs.declared.tag.FnId.{FnId}
+use Rattle.rhd_session.specs.declared.builtins.Operator.{Operator}
+use Rattle.rhd_session.specs.Operators.{put_builtin}
 use Rattle.rhd_session.specs.declared.limits.Limits.{Limits}
+use Rattle.rhd_session.specs.declared.limits.Printers.{Printers}
 use Rattle.rhd_text.specs.declared.fault.TextFault.{TextFault}
 use Rattle.rhd_text.specs.declared.fault.TextFault.TheVariants.{BadLine, OutOfMemory}
 use Rattle.rhd_text.specs.declared.session.SessionText.{SessionText}
 use Rattle.rhd_text.specs.declared.body.CallPlan.{CallPlan}
 use Rattle.rhd_text.specs.declared.body.BodyEnd.{BodyEnd}
 use Rattle.rhd_text.specs.declared.body.BodyPlan.{BodyPlan}
+use Rattle.rhd_text.specs.declared.printers.Printer.{Printer}
+use Rattle.rhd_text.specs.declared.printers.Printer.TheVariants as printers
 use Rattle.rhd_text.specs.declared.part.Part.{Part}
 use Rattle.rhd_text.specs.declared.part.Part.TheVariants as parts
 use Rattle.rhd_text.specs.declared.line.Line.{Line}
@@ -18,7 +26,7 @@ use Rattle.rhd_text.specs.Grammar.{IsLine}
 
 -- what a text without lines says
 abbrev pub empty_text : SessionText
-empty_text = record { limits = None; bodies = []; commands = [] }
+empty_text = record { limits = None; printers = record { print = false; debug = false }; builtins = []; hosts = []; bodies = []; commands = [] }
 
 -- whether headers may still stand: no command has come
 abbrev pub takes_headers : SessionText → Bool
@@ -27,6 +35,22 @@ takes_headers t = length t.commands == 0
 -- limits are set once at most, before the first command
 unfoldable pub with_limits : SessionText → Limits → Option SessionText
 with_limits t limits = if takes_headers t && is_none t.limits then Some (record t { limits = Some limits }) else None
+
+-- one printer more is set; again is allowed
+abbrev pub printers_with : Printer → Printers → Printers
+printers_with printers.Print p = record p { print = true }
+printers_with printers.Debug p = record p { debug = true }
+
+unfoldable pub with_printer : SessionText → Printer → Option SessionText
+with_printer t printer = if takes_headers t then Some (record t { printers = printers_with printer t.printers }) else None
+
+-- the function of an operator between two kinds, in the place of an earlier one
+unfoldable pub with_builtin : SessionText → Operator → FnId → Option SessionText
+with_builtin t operator id = if takes_headers t then Some (record t { builtins = put_builtin operator id t.builtins }) else None
+
+-- what the host answers for a name, in the place of an earlier answer
+unfoldable pub with_host : SessionText → Bytes → Tree → Option SessionText
+with_host t name value = if takes_headers t then Some (record t { hosts = put name value t.hosts }) else None
 
 -- a body without calls and end
 abbrev pub new_body : BodyPlan
@@ -66,6 +90,9 @@ with_end t end = if takes_headers t then (do
 -- what is said with a part more; none where it may not stand there
 abbrev pub with_part : SessionText → Part → Option SessionText
 with_part t (parts.Limits limits) = with_limits t limits
+with_part t (parts.Printer printer) = with_printer t printer
+with_part t (parts.Builtin op left right id) = with_builtin t (record { token = op; left = left; right = right }) id
+with_part t (parts.Host name value) = with_host t name value
 with_part t parts.Body = with_body t
 with_part t (parts.Do call) = with_call t call
 with_part t (parts.End end) = with_end t end

@@ -8,7 +8,8 @@ use Rattle.rhd_value.specs.declared.tag.FnPtrType.{FnPtrType}
 use Rattle.rhd_value.specs.declared.tag.FnPtrType.TheVariants.{Normal, Script, Native}
 use Rattle.rhd_value.specs.Tree.{Bytes, Kind, unit, boolean, integer, character, text, array, object, pointer, custom, Tree, list_of, entries_of}
 use Rattle.rhd_text.specs.Maps.{put_each}
-use Rattle.rhd_text.specs.Bytes.{is_blank, is_word_byte, may_end, unescaped, is_name, num_of, int_of, given_of, kind_of}
+use Rattle.rhd_text.specs.Bytes.{is_blank, is_word_byte, may_end, unescaped, num_of, int_of, given_of, value_kind_of, kind_of, printer_of}
+use Rattle.rhd_text.specs.declared.printers.Printer.{Printer}
 use Rattle.rhd_text.specs.declared.arguments.Argument.{Argument}
 use Rattle.rhd_text.specs.declared.arguments.Argument.TheVariants as one
 use Rattle.rhd_text.specs.declared.arguments.Arguments.{Arguments}
@@ -53,10 +54,6 @@ run w bytes rest = (list_all is_word_byte w ≡ true) × (0 < length w) × (byte
 abbrev pub bare : List ℕ → Span
 bare w = blanks ▸ run w
 
--- an unquoted word that is a name
-abbrev pub name : List ℕ → Span
-name w bytes rest = (is_name w ≡ true) × bare w bytes rest
-
 -- an unquoted word that has this meaning
 abbrev pub meant : {A : Type 0} → (List ℕ → Option A) → A → Span
 meant of x bytes rest = (w : List ℕ) × (of w ≡ Some x) × bare w bytes rest
@@ -70,10 +67,22 @@ optional w false = nothing
 abbrev pub number : ℕ → ℕ → Span
 number bits = meant (num_of bits)
 
+-- the word of a kind of values
+abbrev pub value_kind : TypeTag → Span
+value_kind = meant value_kind_of
+
+-- the word of a printer
+abbrev pub printer : Printer → Span
+printer = meant printer_of
+
+-- no `:` comes next
+abbrev pub NoColon : List ℕ → Type 0
+NoColon bytes = (after : List ℕ) → (blanks ▸ byte 58) bytes after → ⊥
+
 -- `:` and at once the word of a kind; or nothing, where no `:` comes next
 abbrev pub want : Option TypeTag → Span
 want (Some tag) bytes rest = (w : List ℕ) × (kind_of w ≡ Some tag) × bare (58 ∷ w) bytes rest
-want None bytes rest = (bytes ≡ rest) × ((after : List ℕ) → (blanks ▸ byte 58) bytes after → ⊥)
+want None bytes rest = (bytes ≡ rest) × NoColon bytes
 
 -- ---- quoted texts
 
@@ -108,6 +117,10 @@ unquoted s bytes rest = (is_utf8 s ≡ true) × run s bytes rest
 -- a text, quoted or not
 abbrev pub word : List ℕ → Span
 word s = blanks ▸ either (unquoted s) (quotation s)
+
+-- the name of a call: a text, quoted or not, which does not begin with `:` where it isn't quoted
+abbrev pub name : List ℕ → Span
+name s bytes rest = word s bytes rest × NoColon bytes
 
 -- `this` and a text, or nothing
 abbrev pub this : Option (List ℕ) → Span

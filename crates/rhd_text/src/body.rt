@@ -168,7 +168,7 @@ impl BodyPlan {
     /// Adds a call, where the body has no end yet.
     #[tactic(auto, unfolding(crate::specs::Session::stepped))]
     fn add_call(&mut self, call: CallPlan) -> Result<(), Stop>
-        ensures { StepGives result self.new (stepped call self.old) }
+        ensures { StepGives result self.old self.new (stepped call self.old) }
     {
         if self.end.is_some() {
             return Err(Stop::Bad);
@@ -179,7 +179,7 @@ impl BodyPlan {
     /// Ends the body, where it has no end yet.
     #[tactic(auto, unfolding(crate::specs::Session::ended))]
     fn add_end(&mut self, end: BodyEnd) -> Result<(), Stop>
-        ensures { StepGives result self.new (ended end self.old) }
+        ensures { StepGives result self.old self.new (ended end self.old) }
     {
         match self.end {
             Some(_) => Err(Stop::Bad),
@@ -250,7 +250,7 @@ impl BodyPlans {
     /// Adds a call to the latest body.
     #[tactic(auto, unfolding(crate::specs::Session::in_latest))]
     pub(crate) fn add_call(&mut self, call: CallPlan) -> Result<(), Stop>
-        ensures { StepGives result self.new (in_latest (stepped call) self.old) }
+        ensures { StepGives result self.old self.new (in_latest (stepped call) self.old) }
     {
         let Some(body) = self.items.last_mut() else {
             return Err(Stop::Bad);
@@ -261,7 +261,7 @@ impl BodyPlans {
     /// Ends the latest body.
     #[tactic(auto, unfolding(crate::specs::Session::in_latest))]
     pub(crate) fn add_end(&mut self, end: BodyEnd) -> Result<(), Stop>
-        ensures { StepGives result self.new (in_latest (ended end) self.old) }
+        ensures { StepGives result self.old self.new (in_latest (ended end) self.old) }
     {
         let Some(body) = self.items.last_mut() else {
             return Err(Stop::Bad);

@@ -1,8 +1,9 @@
 //! One function for each row of the table.
 
-ghost use Rattle.std.specs.Prelude.{◌≡◌};
+ghost use Rattle.std.specs.Prelude.{◌≡◌, ◌==◌, not};
+ghost use Rattle.std.specs.List.{list_all};
 ghost use Rattle.rhd_text.specs.declared.keyword.Keyword.TheVariants as keywords;
-ghost use Rattle.rhd_text.specs.Rows.{answered, access};
+ghost use Rattle.rhd_text.specs.Rows.{answered, access, built_in, registered};
 ghost use Rattle.rhd_text.specs.ReadRows.{row_at};
 ghost use Rattle.rhd_text.specs.Answers.{Gives};
 
@@ -12,30 +13,109 @@ use crate::fault::Stop;
 use crate::keyword::{CallWord, Keyword};
 use crate::numbers::{long_at, num_at};
 use crate::operands::{name_at, texts_at, this_at};
+use crate::operators::operator_of;
 use crate::part::Part;
 use crate::place::Place;
+use crate::printers::printer_at;
 use crate::quoted::wording_at;
 use crate::requests::request_of;
-use crate::wants::want_at;
+use crate::values::value_at;
+use crate::wants::{value_kind_at, want_at};
 use crate::words::{flag_at, is_end};
 use rhd_func::{BodyId, FnAccess, ScriptFuncDef, SharedDef};
 use rhd_session::{Command, Limits, ModuleId};
-use rhd_value::{FnId, Position};
+use rhd_value::{FnId, Position, Text, TypeTag};
 use std::alloc::Global;
+
+#[tactic(auto, unfolding(crate::specs::ReadRows::row_at))]
+fn printer_line_at(bytes: &[u8], place: Place) -> Result<Part, Stop>
+    ensures { Gives (λ x. x) result (row_at place keywords.Printer bytes.now) }
+{
+    let (printer, rest) = printer_at(bytes)?;
+    if !is_end(rest) {
+        return Err(Stop::Bad);
+    }
+    Ok(Part::Printer(printer))
+}
+
+/// The native of a number for the operator of a word, where so many natives are held.
+fn built_in(held: usize, word: &Text, left: TypeTag, right: TypeTag, number: u32) -> Option<Part>
+    ensures { result ≡ built_in held word.now left right number }
+{
+    let op = operator_of(word.as_str())?;
+    if number as usize >= held {
+        return None;
+    }
+    Some(Part::Builtin {
+        op,
+        left,
+        right,
+        id: FnId(number),
+    })
+}
+
+#[tactic(auto, unfolding(crate::specs::ReadRows::row_at))]
+fn builtin_at(alloc: Global, bytes: &[u8], place: Place) -> Result<Part, Stop>
+    ensures { Gives (λ x. x) result (row_at place keywords.Builtin bytes.now) }
+{
+    let (word, rest) = wording_at(alloc, bytes)?;
+    let (left, rest) = value_kind_at(rest)?;
+    let (right, rest) = value_kind_at(rest)?;
+    let (number, rest) = num_at(rest)?;
+    if !is_end(rest) {
+        return Err(Stop::Bad);
+    }
+    match built_in(place.held, &word, left, right, number) {
+        Some(part) => Ok(part),
+        None => Err(Stop::Bad),
+    }
+}
+
+#[tactic(auto, unfolding(crate::specs::ReadRows::row_at))]
+fn host_at(alloc: Global, bytes: &[u8], place: Place) -> Result<Part, Stop>
+    ensures { Gives (λ x. x) result (row_at place keywords.Host bytes.now) }
+{
+    let (name, rest) = wording_at(alloc, bytes)?;
+    let (answer, rest) = value_at(alloc, rest)?;
+    if !is_end(rest) {
+        return Err(Stop::Bad);
+    }
+    Ok(Part::Host { name, answer })
+}
+
+/// Whether a name has no `$`.
+fn has_no_dollar(name: &Text) -> bool
+    ensures { result ≡ list_all (λ b. not (b == 36)) name.now }
+{
+    name.as_str().as_bytes().iter().all(|b| *b != b'$')
+}
+
+/// The native of a number under a name, where that may be registered.
+fn registered(name: Text, number: u32) -> Option<Part>
+    ensures { result ≡ registered name number }
+{
+    if !has_no_dollar(&name) {
+        return None;
+    }
+    Some(Part::Command(Command::RegisterFn {
+        name,
+        id: FnId(number),
+    }))
+}
 
 #[tactic(auto, unfolding(crate::specs::ReadRows::row_at))]
 fn register_at(alloc: Global, bytes: &[u8], place: Place) -> Result<Part, Stop>
     ensures { Gives (λ x. x) result (row_at place keywords.Register bytes.now) }
 {
-    let (name, rest) = name_at(alloc, bytes)?;
+    let (name, rest) = wording_at(alloc, bytes)?;
     let (number, rest) = num_at(rest)?;
     if !is_end(rest) {
         return Err(Stop::Bad);
     }
-    Ok(Part::Command(Command::RegisterFn {
-        name,
-        id: FnId(number),
-    }))
+    match registered(name, number) {
+        Some(part) => Ok(part),
+        None => Err(Stop::Bad),
+    }
 }
 
 #[tactic(auto, unfolding(crate::specs::ReadRows::row_at))]
@@ -207,6 +287,9 @@ pub fn row_at(alloc: Global, keyword: Keyword, bytes: &[u8], place: Place) -> Re
 {
     match keyword {
         Keyword::Limits => limits_at(bytes, place),
+        Keyword::Printer => printer_line_at(bytes, place),
+        Keyword::Builtin => builtin_at(alloc, bytes, place),
+        Keyword::Host => host_at(alloc, bytes, place),
         Keyword::Body => body_at(bytes, place),
         Keyword::Do(call) => do_at(alloc, bytes, place, call),
         Keyword::Ret => ret_at(alloc, bytes, place),

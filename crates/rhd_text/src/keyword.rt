@@ -52,6 +52,9 @@ impl CallWord {
 #[derive(Clone, Copy, Debug, PartialEq, Eq)]
 pub enum Keyword {
     Limits,
+    Printer,
+    Builtin,
+    Host,
     Body,
     Do(CallWord),
     Ret,
@@ -71,6 +74,9 @@ impl Keyword {
     {
         match self {
             Keyword::Limits => b"limits",
+            Keyword::Printer => b"printer",
+            Keyword::Builtin => b"builtin",
+            Keyword::Host => b"host",
             Keyword::Body => b"body",
             Keyword::Do(_) => b"do",
             Keyword::Ret => b"ret",
@@ -104,6 +110,9 @@ fn keyword_of(word: &[u8]) -> Option<Keyword>
     keyword_in(
         &[
             Keyword::Limits,
+            Keyword::Printer,
+            Keyword::Builtin,
+            Keyword::Host,
             Keyword::Body,
             Keyword::Ret,
             Keyword::Fail,

@@ -1,36 +1,25 @@
-//! Names, lists of texts, and the type of an object.
+//! Names of calls, lists of texts, and the type of an object.
 
-ghost use Rattle.std.specs.Prelude.{◌≡◌, [], length, true};
-ghost use Rattle.rhd_text.specs.Bytes.{is_name};
+ghost use Rattle.std.specs.Prelude.{[], length};
 ghost use Rattle.rhd_text.specs.Reading.{name_at, comes, wording_at, many, texts_at, this_at};
 ghost use Rattle.rhd_text.specs.Answers.{Gives};
 
 use crate::brackets::{after_bracket, comes};
 use crate::fault::Stop;
-use crate::quoted::{text_of, wording_at};
-use crate::words::{flag_at, is_name, word_at};
+use crate::quoted::wording_at;
+use crate::words::flag_at;
 use rhd_value::{Text, Texts};
 use std::alloc::Global;
 
-/// The text of a name.
-fn name_of(alloc: Global, word: &[u8]) -> Result<Text, Stop>
-    requires { is_name word.now ≡ true }
-    ensures { Gives (λ x. x) result (Some word.now) }
-{
-    text_of(alloc, word)
-}
-
-/// A name, and the bytes after it.
+/// The name of a call, and the bytes after it. One that begins with `:` is quoted.
 #[tactic(auto, unfolding(crate::specs::Reading::name_at))]
 pub fn name_at(alloc: Global, bytes: &[u8]) -> Result<(Text, &[u8]), Stop>
     ensures { Gives (λ x. (x.0, x.1.now)) result (name_at bytes.now) }
 {
-    let (word, rest) = word_at(bytes)?;
-    if !is_name(word) {
+    if comes(bytes, b':') {
         return Err(Stop::Bad);
     }
-    let name = name_of(alloc, word)?;
-    Ok((name, rest))
+    wording_at(alloc, bytes)
 }
 
 /// Texts up to the bracket that ends them, and the bytes from there.

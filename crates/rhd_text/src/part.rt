@@ -1,13 +1,30 @@
 //! Parts of a session text.
 
 use crate::body::{BodyEnd, CallPlan};
+use crate::printers::Printer;
+use rhd_names::OpToken;
 use rhd_session::{Command, Limits};
+use rhd_value::{Dynamic, FnId, Text, TypeTag};
 
 /// What one line adds to a session text.
 #[derive(Drop)]
 pub enum Part {
     /// The limits of the session.
     Limits(Limits),
+    /// A printer that is set.
+    Printer(Printer),
+    /// The function of an operator between two kinds.
+    Builtin {
+        op: OpToken,
+        left: TypeTag,
+        right: TypeTag,
+        id: FnId,
+    },
+    /// What the host answers for a name.
+    Host {
+        name: Text,
+        answer: Dynamic,
+    },
     /// The beginning of the next body.
     Body,
     /// A call of the latest body.

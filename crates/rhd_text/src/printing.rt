@@ -16,6 +16,9 @@ use rhd_value::{Dynamic, OutOfMemory};
 use std::alloc::Global;
 use values::push_value;
 
+/// The bytes that most replies fit in.
+const MOST_LINES: usize = 128;
+
 /// Puts a value at the end, as it is written: its marks, and then its kind in one line.
 pub fn print_value(alloc: Global, value: &Dynamic, out: &mut Vec<u8>) -> Result<(), OutOfMemory>
     ensures ok { OnOk result (out.new.items ≡ out.old.items ++ spelled value.now) }
@@ -47,7 +50,7 @@ fn push_refusal(alloc: Global, fault: &DeclFault, out: &mut Vec<u8>) -> Result<(
 fn lines_of(alloc: Global, reply: &Reply) -> Result<Vec<u8>, OutOfMemory>
     ensures { IfOk result (λ lines. lines.items ≡ printed reply.now) }
 {
-    let mut lines = Vec::new(alloc);
+    let mut lines = Vec::with_capacity(alloc, MOST_LINES)?;
     match reply {
         Reply::Done => lines.extend_from_slice(b"ok\n")?,
         Reply::Made(module) => {

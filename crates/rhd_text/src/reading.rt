@@ -1,7 +1,8 @@
 //! Reading a text.
 
-ghost use Rattle.std.specs.Prelude.{ℕ, ◌<◌, ◌≤◌, ◌^◌, length, IfOk, IfSome, OnOk};
+ghost use Rattle.std.specs.Prelude.{◌≡◌, true, ℕ, ◌<◌, ◌≤◌, ◌^◌, length, IfOk, IfSome, OnOk};
 ghost use Rattle.std.specs.Str.Lines.{lines};
+ghost use Rattle.rhd_session.specs.Held.{builtins_held};
 ghost use Rattle.rhd_text.specs.declared.session.SessionText.{SessionText};
 ghost use Rattle.rhd_text.specs.Session.{IsSession, IsFirstBad, ReadsText, ReadsNoOther, NamesNoOther};
 ghost use Rattle.rhd_text.specs.ReadSession.{after_line, session_of};
@@ -18,7 +19,7 @@ use std::alloc::Global;
 /// Reads one line after what is said so far.
 #[tactic(auto, unfolding(crate::specs::ReadSession::after_line))]
 fn read_line(alloc: Global, said: &mut SessionText, line: &[u8], place: Place) -> Result<(), Stop>
-    ensures { StepGives result said.new (after_line place.held place.line said.old line.now) }
+    ensures { StepGives result said.old said.new (after_line place.held place.line said.old line.now) }
 {
     let line = line_at(alloc, line, place)?;
     said.add_line(alloc, line)
@@ -56,6 +57,8 @@ pub fn read_text(alloc: Global, bytes: &[u8], natives: &Natives) -> Result<Sessi
     ensures bad { (number : ℕ) → IsFirstBad (length natives.now.items.items) number (lines bytes.now) → NamesNoOther result number }
     // The limits that it sets are allowed.
     ensures limits { IfOk result (λ t. IfSome t.limits (λ l. l.level ≤ 1000)) }
+    // The natives of the built-in functions are held.
+    ensures builtins { IfOk result (λ t. builtins_held (length natives.now.items.items) t.builtins ≡ true) }
     // A command takes a line, and a line takes a byte.
     ensures count { IfOk result (λ t. length t.commands ≤ length bytes.now) }
 {

@@ -6,6 +6,7 @@ ghost use Rattle.rhd_text.specs.Rows.{first_apart, shape_of, request_of};
 
 use crate::keyword::CallWord;
 use rhd_func::{CallRequest, CallShape};
+use rhd_names::lookup_symbol_from_syntax;
 use rhd_value::{Position, Text, TypeTag, Values};
 
 /// Arguments of which the first is handed over by reference, where there is a first.
@@ -46,8 +47,10 @@ pub fn request_of(
     ensures { result ≡ request_of call want name args pos }
 {
     let shape = shape_of(call, args)?;
+    let token = lookup_symbol_from_syntax(name.as_str());
     Some(CallRequest::Named {
         name,
+        token,
         native_only: call.native_only(),
         shape,
         want,

@@ -1,14 +1,17 @@
 //! What a text says.
 
 ghost use Rattle.std.specs.Prelude.{◌≡◌};
-ghost use Rattle.rhd_text.specs.Session.{empty_text, takes_headers, with_limits, with_body, with_call, with_end, with_part, with_line};
+ghost use Rattle.rhd_text.specs.Session.{empty_text, takes_headers, with_limits, with_printer, with_builtin, with_host, with_body, with_call, with_end, with_part, with_line};
 ghost use Rattle.rhd_text.specs.Answers.{StepGives};
 
 use crate::body::{BodyEnd, BodyPlans, CallPlan};
 use crate::fault::Stop;
 use crate::line::Line;
 use crate::part::Part;
-use rhd_session::{Commands, Limits};
+use crate::printers::Printer;
+use rhd_names::OpToken;
+use rhd_session::{Builtins, Commands, Limits, Printers};
+use rhd_value::{Dynamic, Entries, FnId, Text, TypeTag};
 use std::alloc::Global;
 
 /// What a session text says.
@@ -16,6 +19,12 @@ use std::alloc::Global;
 pub struct SessionText {
     /// The limits of the session, where the text sets them.
     pub limits: Option<Limits>,
+    /// The printers that are set.
+    pub printers: Printers,
+    /// The functions of operators.
+    pub builtins: Builtins,
+    /// What the host answers, by the name of the call.
+    pub hosts: Entries,
     /// The bodies, by their numbers.
     pub bodies: BodyPlans,
     /// What the session is told to do, in order.
@@ -29,6 +38,9 @@ impl SessionText {
     {
         SessionText {
             limits: None,
+            printers: Printers::NONE,
+            builtins: Builtins::new(alloc),
+            hosts: Entries::new(alloc),
             bodies: BodyPlans::new(alloc),
             commands: Commands::new(alloc),
         }
@@ -43,7 +55,7 @@ impl SessionText {
 
     #[tactic(auto, unfolding(crate::specs::Session::with_limits))]
     fn set_limits(&mut self, limits: Limits) -> Result<(), Stop>
-        ensures { StepGives result self.new (with_limits self.old limits) }
+        ensures { StepGives result self.old self.new (with_limits self.old limits) }
     {
         if !self.takes_headers() || self.limits.is_some() {
             return Err(Stop::Bad);
@@ -52,9 +64,50 @@ impl SessionText {
         Ok(())
     }
 
+    #[tactic(auto, unfolding(crate::specs::Session::with_printer))]
+    fn set_printer(&mut self, printer: Printer) -> Result<(), Stop>
+        ensures { StepGives result self.old self.new (with_printer self.old printer) }
+    {
+        if !self.takes_headers() {
+            return Err(Stop::Bad);
+        }
+        match printer {
+            Printer::Print => self.printers.print = true,
+            Printer::Debug => self.printers.debug = true,
+        }
+        Ok(())
+    }
+
+    #[tactic(auto, unfolding(crate::specs::Session::with_builtin))]
+    fn set_builtin(
+        &mut self,
+        alloc: Global,
+        op: OpToken,
+        left: TypeTag,
+        right: TypeTag,
+        id: FnId,
+    ) -> Result<(), Stop>
+        ensures { StepGives result self.old self.new (with_builtin self.old (record { token = op; left = left; right = right }) id) }
+    {
+        if !self.takes_headers() {
+            return Err(Stop::Bad);
+        }
+        Ok(self.builtins.set(alloc, op, left, right, id)?)
+    }
+
+    #[tactic(auto, unfolding(crate::specs::Session::with_host))]
+    fn set_host(&mut self, name: Text, answer: Dynamic) -> Result<(), Stop>
+        ensures { StepGives result self.old self.new (with_host self.old name answer) }
+    {
+        if !self.takes_headers() {
+            return Err(Stop::Bad);
+        }
+        Ok(self.hosts.insert(name, answer)?)
+    }
+
     #[tactic(auto, unfolding(crate::specs::Session::with_body))]
     fn begin_body(&mut self, alloc: Global) -> Result<(), Stop>
-        ensures { StepGives result self.new (with_body self.old) }
+        ensures { StepGives result self.old self.new (with_body self.old) }
     {
         if !self.takes_headers() {
             return Err(Stop::Bad);
@@ -64,7 +117,7 @@ impl SessionText {
 
     #[tactic(auto, unfolding(crate::specs::Session::with_call))]
     fn add_call(&mut self, call: CallPlan) -> Result<(), Stop>
-        ensures { StepGives result self.new (with_call self.old call) }
+        ensures { StepGives result self.old self.new (with_call self.old call) }
     {
         if !self.takes_headers() {
             return Err(Stop::Bad);
@@ -74,7 +127,7 @@ impl SessionText {
 
     #[tactic(auto, unfolding(crate::specs::Session::with_end))]
     fn end_body(&mut self, end: BodyEnd) -> Result<(), Stop>
-        ensures { StepGives result self.new (with_end self.old end) }
+        ensures { StepGives result self.old self.new (with_end self.old end) }
     {
         if !self.takes_headers() {
             return Err(Stop::Bad);
@@ -83,10 +136,18 @@ impl SessionText {
     }
 
     fn add_part(&mut self, alloc: Global, part: Part) -> Result<(), Stop>
-        ensures { StepGives result self.new (with_part self.old part) }
+        ensures { StepGives result self.old self.new (with_part self.old part) }
     {
         match part {
             Part::Limits(limits) => self.set_limits(limits),
+            Part::Printer(printer) => self.set_printer(printer),
+            Part::Builtin {
+                op,
+                left,
+                right,
+                id,
+            } => self.set_builtin(alloc, op, left, right, id),
+            Part::Host { name, answer } => self.set_host(name, answer),
             Part::Body => self.begin_body(alloc),
             Part::Do(call) => self.add_call(call),
             Part::End(end) => self.end_body(end),
@@ -94,9 +155,9 @@ impl SessionText {
         }
     }
 
-    /// Adds what a line says, where it may stand there.
+    /// Adds what a line says, where it may stand there; else all stays as it was.
     pub fn add_line(&mut self, alloc: Global, line: Line) -> Result<(), Stop>
-        ensures { StepGives result self.new (with_line self.old line) }
+        ensures { StepGives result self.old self.new (with_line self.old line) }
     {
         match line {
             Line::Skipped => Ok(()),

@@ -104,7 +104,7 @@ fn custom_at(bytes: &[u8]) -> Result<(Value, &[u8]), Stop>
 
 /// Puts an entry into a map, unless its name stands there already.
 fn put_new(entries: &mut Entries, name: Text, value: Dynamic) -> Result<(), Stop>
-    ensures { StepGives result entries.new (put_new (name, value) entries.old) }
+    ensures { StepGives result entries.old entries.new (put_new (name, value) entries.old) }
 {
     if entries.get(&name).is_some() {
         return Err(Stop::Bad);

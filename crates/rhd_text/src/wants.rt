@@ -1,8 +1,8 @@
-//! The kind of the answer that a call wants.
+//! Kinds: of values, and of the answer that a call wants.
 
 ghost use Rattle.std.specs.Prelude.{◌≡◌, drop};
-ghost use Rattle.rhd_text.specs.Bytes.{custom_of, kind_of};
-ghost use Rattle.rhd_text.specs.Reading.{want_at};
+ghost use Rattle.rhd_text.specs.Bytes.{custom_of, value_kind_of, kind_of};
+ghost use Rattle.rhd_text.specs.Reading.{value_kind_at, want_at};
 ghost use Rattle.rhd_text.specs.Answers.{Gives};
 
 use crate::brackets::comes;
@@ -20,10 +20,10 @@ fn custom_of(word: &[u8]) -> Option<TypeTag>
     Some(TypeTag::Custom(num_of(digits)?))
 }
 
-/// The kind of values that a word says, or any.
-#[tactic(auto, unfolding(crate::specs::Bytes::kind_of))]
-fn kind_of(word: &[u8]) -> Option<TypeTag>
-    ensures { result ≡ kind_of word.now }
+/// The kind of values that a word says.
+#[tactic(auto, unfolding(crate::specs::Bytes::value_kind_of))]
+fn value_kind_of(word: &[u8]) -> Option<TypeTag>
+    ensures { result ≡ value_kind_of word.now }
 {
     if word == b"unit".as_slice() {
         return Some(TypeTag::Unit);
@@ -49,10 +49,30 @@ fn kind_of(word: &[u8]) -> Option<TypeTag>
     if word == b"fn".as_slice() {
         return Some(TypeTag::FnPtr);
     }
+    custom_of(word)
+}
+
+/// The kind of values that a word says, or any.
+#[tactic(auto, unfolding(crate::specs::Bytes::kind_of))]
+fn kind_of(word: &[u8]) -> Option<TypeTag>
+    ensures { result ≡ kind_of word.now }
+{
     if word == b"dynamic".as_slice() {
         return Some(TypeTag::Dynamic);
     }
-    custom_of(word)
+    value_kind_of(word)
+}
+
+/// A kind of values, and the bytes after its word.
+#[tactic(auto, unfolding(crate::specs::Reading::value_kind_at))]
+pub fn value_kind_at(bytes: &[u8]) -> Result<(TypeTag, &[u8]), Stop>
+    ensures { Gives (λ x. (x.0, x.1.now)) result (value_kind_at bytes.now) }
+{
+    let (word, rest) = word_at(bytes)?;
+    let Some(kind) = value_kind_of(word) else {
+        return Err(Stop::Bad);
+    };
+    Ok((kind, rest))
 }
 
 /// What stands after the first byte of a word.

@@ -4,7 +4,7 @@ ghost use Rattle.std.specs.Prelude.{◌≡◌, ◌≤◌, length, not};
 ghost use Rattle.std.specs.List.{list_all, prefix_len};
 ghost use Rattle.std.specs.Option.{option_map};
 ghost use Rattle.std.specs.Char.{is_ascii_digit};
-ghost use Rattle.rhd_text.specs.Bytes.{is_blank, is_bracket, is_word_byte, may_end, is_name};
+ghost use Rattle.rhd_text.specs.Bytes.{is_blank, is_bracket, is_word_byte, may_end};
 ghost use Rattle.rhd_text.specs.Reading.{skip_blanks, is_end, run_at, word_at, flag_at};
 ghost use Rattle.rhd_text.specs.Answers.{Gives};
 
@@ -121,14 +121,4 @@ pub fn all_digits(word: &[u8]) -> bool
     ensures { result ≡ list_all is_ascii_digit word.now }
 {
     word.iter().all(|b| b.is_ascii_digit())
-}
-
-/// Whether a word is a lower-case letter and digits.
-pub fn is_name(word: &[u8]) -> bool
-    ensures { result ≡ is_name word.now }
-{
-    match word {
-        [] => false,
-        [first, rest @ ..] => first.is_ascii_lowercase() && all_digits(rest),
-    }
 }

@@ -3,6 +3,7 @@ use Rattle.std.specs.Prelude.{◌⊎◌, ◌≡◌, ℕ, List, [], ◌∷◌, le
 use Rattle.std.specs.declared.option.Option.{Option}
 use Rattle.std.specs.Io.KnownBytes.{Appends}
 use Rattle.std.specs.Str.Lines.{lines}
+use Rattle.rhd_value.specs.Tree.{Bytes, Tree}
 use Rattle.rhd_func.specs.Natives.{NativeInfo}
 use Rattle.rhd_session.specs.declared.command.Command.{Command}
 use Rattle.rhd_session.specs.declared.reply.Reply.{Reply}
@@ -29,7 +30,7 @@ run_words = codes "run" ∷ []
 abbrev pub IsStatus : ℕ → Type 0
 IsStatus n = (n ≡ 0) ⊎ (n ≡ 1) ⊎ (n ≡ 2) ⊎ (n ≡ 3) ⊎ (n ≡ 4) ⊎ (n ≡ 5) ⊎ (n ≡ 6)
 
--- Below, `held` is the number of natives, `natives` what they say of themselves, and `o` what they and the bodies may do.
+-- Below, `held` is the number of natives, `natives` what they say of themselves, and `o` what they, the host and the bodies may do.
 
 -- all bytes of the source were read, and this line is the first that is no line of a session text
 pub record WasBad (held : ℕ) (old new : Option (List ℕ)) (line : ℕ) : Type 0 where
@@ -41,6 +42,10 @@ pub record WasBad (held : ℕ) (old new : Option (List ℕ)) (line : ℕ) : Type
 abbrev pub Bodies : Type 0
 Bodies = List BodyPlan
 
+-- what the host of a text answers, by name
+abbrev pub Hosts : Type 0
+Hosts = List (Bytes × Tree)
+
 -- the limits where a text sets none
 abbrev pub default_limits : Limits
 default_limits = record { array = 65536; map = 65536; text = 1048576; level = 64; budget = 1000000 }
@@ -49,45 +54,49 @@ default_limits = record { array = 65536; map = 65536; text = 1048576; level = 64
 abbrev pub limits_of : SessionText → Limits
 limits_of text = unwrap_or text.limits default_limits
 
--- the replies answer the commands, one after the other, in a new session with these limits and bodies
-pub record IsAnswered (o : Objects Bodies) (natives : List NativeInfo) (limits : Limits) (bodies : Bodies) (commands : List Command) (replies : List Reply) : Type 0 where
+-- a new session with what the text sets
+abbrev pub start_of : List NativeInfo → SessionText → World
+start_of natives text = start_world natives (limits_of text) text.builtins text.printers
+
+-- the replies answer the commands, one after the other, in a new session with what the text sets, and with its host and bodies
+pub record IsAnswered (o : Objects Hosts Bodies) (natives : List NativeInfo) (text : SessionText) (commands : List Command) (replies : List Reply) : Type 0 where
   pub world : World
   pub frame : Frame
-  pub after : Moment Bodies
-  pub answered : Answered o (start_world natives limits) start_frame (start_moment bodies) commands replies world frame after
+  pub after : Moment Hosts Bodies
+  pub answered : Answered o (start_of natives text) start_frame (start_moment text.hosts text.bodies) commands replies world frame after
 
 -- these bytes are a session text, and the replies answer its commands
-pub record Ran (o : Objects Bodies) (natives : List NativeInfo) (held : ℕ) (bytes : List ℕ) (replies : List Reply) : Type 0 where
+pub record Ran (o : Objects Hosts Bodies) (natives : List NativeInfo) (held : ℕ) (bytes : List ℕ) (replies : List Reply) : Type 0 where
   pub text : SessionText
   pub says : IsSession held (lines bytes) text
-  pub answers : IsAnswered o natives (limits_of text) text.bodies text.commands replies
+  pub answers : IsAnswered o natives text text.commands replies
 
 -- they are one, and the replies answer as many of its first commands
-pub record RanFront (o : Objects Bodies) (natives : List NativeInfo) (held : ℕ) (bytes : List ℕ) (replies : List Reply) : Type 0 where
+pub record RanFront (o : Objects Hosts Bodies) (natives : List NativeInfo) (held : ℕ) (bytes : List ℕ) (replies : List Reply) : Type 0 where
   pub text : SessionText
   pub says : IsSession held (lines bytes) text
-  pub answers : IsAnswered o natives (limits_of text) text.bodies (take (length replies) text.commands) replies
+  pub answers : IsAnswered o natives text (take (length replies) text.commands) replies
 
 -- the same, or there are no replies
-abbrev pub RanPart : Objects Bodies → List NativeInfo → ℕ → List ℕ → List Reply → Type 0
+abbrev pub RanPart : Objects Hosts Bodies → List NativeInfo → ℕ → List ℕ → List Reply → Type 0
 RanPart o natives held bytes replies = (replies ≡ []) ⊎ RanFront o natives held bytes replies
 
 -- all bytes of the source are a session text, and the replies to it were written, printed
-pub record WasDone (o : Objects Bodies) (natives : List NativeInfo) (held : ℕ) (left_old left_new written_old written_new : Option (List ℕ)) (replies : List Reply) : Type 0 where
+pub record WasDone (o : Objects Hosts Bodies) (natives : List NativeInfo) (held : ℕ) (left_old left_new written_old written_new : Option (List ℕ)) (replies : List Reply) : Type 0 where
   pub bytes : List ℕ
   pub whole : CameWhole most_bytes left_old left_new bytes
   pub ran : Ran o natives held bytes replies
   pub wrote : Appends written_old written_new (all_printed replies)
 
 -- the same, of which a front was written
-pub record WasCut (o : Objects Bodies) (natives : List NativeInfo) (held : ℕ) (left_old left_new written_old written_new : Option (List ℕ)) (replies : List Reply) : Type 0 where
+pub record WasCut (o : Objects Hosts Bodies) (natives : List NativeInfo) (held : ℕ) (left_old left_new written_old written_new : Option (List ℕ)) (replies : List Reply) : Type 0 where
   pub bytes : List ℕ
   pub whole : CameWhole most_bytes left_old left_new bytes
   pub ran : Ran o natives held bytes replies
   pub wrote : WrotePart written_old written_new (all_printed replies)
 
 -- all bytes of the source are a session text, and the replies answer as many of its first commands
-pub record WasStopped (o : Objects Bodies) (natives : List NativeInfo) (held : ℕ) (left_old left_new : Option (List ℕ)) (replies : List Reply) : Type 0 where
+pub record WasStopped (o : Objects Hosts Bodies) (natives : List NativeInfo) (held : ℕ) (left_old left_new : Option (List ℕ)) (replies : List Reply) : Type 0 where
   pub bytes : List ℕ
   pub whole : CameWhole most_bytes left_old left_new bytes
   pub ran : RanFront o natives held bytes replies

@@ -11,6 +11,7 @@ use Rattle.rhd_value.specs.declared.fault.EvalAltResult.TheVariants.{ErrorMismat
 use Rattle.rhd_value.specs.declared.tag.Position.{Position}
 use Rattle.rhd_value.specs.declared.tag.TypeTag.{TypeTag}
 use Rattle.rhd_value.specs.declared.tag.TypeTag.TheVariants as tags
+use Rattle.rhd_names.specs.Tokens.{token_of}
 use Rattle.rhd_func.specs.Natives.{NativeInfo}
 use Rattle.rhd_func.specs.declared.request.Carry.{Carry}
 use Rattle.rhd_func.specs.declared.request.CallRequest.{CallRequest}
@@ -56,7 +57,7 @@ kit_rows =
     row (tags.Int ∷ tags.Int ∷ []) true false false ∷ []
 
 -- what the native of a number says of itself
-abbrev pub kit_info : ℕ → NativeInfo
+unfoldable pub kit_info : ℕ → NativeInfo
 kit_info number = unwrap_or (slice_get kit_rows number) (row [] false false false)
 
 -- one is to come
@@ -128,9 +129,9 @@ payload_in _ = pos 0
 abbrev pub position_of : Option NativeCallContext → Position
 position_of ctx = option_map_or (λ given. given.pos) ctx (record { line = 0; column = 0 })
 
--- the call of a name without arguments, scripts allowed
+-- the call of a name, with its token, without arguments, scripts allowed
 abbrev pub call_of : Option NativeCallContext → Bytes → CallRequest
-call_of ctx name = Named name false (Plain []) None (position_of ctx)
+call_of ctx name = Named name (token_of name) false (Plain []) None (position_of ctx)
 
 -- asks the call of a name, and keeps nothing
 abbrev pub asks_once : Option NativeCallContext → Bytes → Option Tree → NativeStep
@@ -149,7 +150,7 @@ abbrev pub asks_often : Option NativeCallContext → Tree → ℤ → Option Tre
 asks_often ctx name times first = if int_lt times (pos 1) then Done (plain unit) first else asks_with_left ctx name (times -ℤ pos 1) first
 
 -- what the native of a number does with arguments of its types; the others answer their number
-abbrev pub kit_does : ℕ → Option NativeCallContext → Option Tree → List Tree → NativeStep
+unfoldable pub kit_does : ℕ → Option NativeCallContext → Option Tree → List Tree → NativeStep
 kit_does number ctx first args =
     if number == 6 then answers (bytes_in (text_at args 0)) first
     else if number == 7 then answers (sum_of args) first

@@ -4,4 +4,5 @@ pub mod Kit
 pub mod Memory
 pub mod PlanBodies
 pub mod Streams
+pub mod TableHost
 pub mod Values

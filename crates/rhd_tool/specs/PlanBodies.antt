@@ -55,7 +55,7 @@ with_args (Method _ _) values = Method (argument_at values 0) (drop 1 values)
 
 -- a call as it is asked; places count all arguments
 abbrev pub call_with : Scope → List GivenAt → CallRequest → CallRequest
-call_with scope places (Named name native_only shape want position) = Named name native_only (with_args shape (with_given scope places (all_args shape))) want position
+call_with scope places (Named name token native_only shape want position) = Named name token native_only (with_args shape (with_given scope places (all_args shape))) want position
 
 -- what a body keeps: the number of calls asked so far, and its arguments
 abbrev pub with_count : ℕ → List Tree → List Tree

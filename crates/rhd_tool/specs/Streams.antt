@@ -1,5 +1,5 @@
 -- Reading a source to its end, and writing all.
-use Rattle.std.specs.Prelude.{◌≡◌, ℕ, ◌<◌, ◌≤◌, List, length, take, Result, Ok, Err}
+use Rattle.std.specs.Prelude.{◌≡◌, ℕ, ◌+◌, ◌<◌, ◌≤◌, List, length, take, Result, Ok, Err}
 use Rattle.std.specs.declared.option.Option.{Option}
 use Rattle.std.specs.Io.KnownBytes.{Consumes, Appends, IsAtEnd}
 use Rattle.rhd_tool.specs.declared.reading.ReadEnd.{ReadEnd}
@@ -13,11 +13,16 @@ pub record CameWhole (most : ℕ) (old new : Option (List ℕ)) (bytes : List �
   pub whole : IsAtEnd new
   pub bounded : length bytes ≤ most
 
--- more than most came
+-- the most bytes that one read asks for
+abbrev pub most_asked : ℕ
+most_asked = 16384
+
+-- more than most came, and no read was made after the one that brought more
 pub record CameMore (most : ℕ) (old new : Option (List ℕ)) : Type 0 where
   pub bytes : List ℕ
   pub came : Consumes old new bytes
   pub more : most < length bytes
+  pub once : length bytes ≤ most + most_asked
 
 -- what reading a source to its end gave
 abbrev pub ReadsWhole : ℕ → Option (List ℕ) → Option (List ℕ) → ℕ → ℕ → Result (Vec ℕ) ReadEnd → Type 0

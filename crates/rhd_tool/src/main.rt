@@ -6,11 +6,16 @@ mod plan_bodies;
 mod reading;
 mod sink;
 mod source;
+mod table_host;
 #[cfg(test)]
 mod tests;
 mod tool;
 mod values;
 mod writing;
+
+ghost use Rattle.std.specs.Prelude.{◌≡◌, ◌≢◌};
+ghost use Rattle.std.specs.IoError.{error_kind};
+ghost use Rattle.std.specs.declared.io.ErrorKind.TheVariants.{OutOfMemory};
 
 use crate::kit::{KIT_LEN, KitFn, kit};
 use crate::sink::Writing;
@@ -30,10 +35,22 @@ fn own_words(alloc: Global, args: env::Args) -> Result<Vec<String>, AllocError> 
     Ok(words)
 }
 
+/// The status of a run whose words can't be read: one isn't valid UTF-8, or memory ran out.
+fn unread_words(error: &io::Error) -> u8
+    ensures memory { error_kind error.now ≡ OutOfMemory → result ≡ 5 }
+    ensures words { error_kind error.now ≢ OutOfMemory → result ≡ 1 }
+{
+    match error.kind() {
+        io::ErrorKind::OutOfMemory => 5,
+        _ => 1,
+    }
+}
+
 fn main(rt: HostRuntime) -> ExitCode {
     let alloc = rt.alloc();
-    let Ok(args) = env::args(&rt) else {
-        return ExitCode::from(1);
+    let args = match env::args(&rt) {
+        Ok(args) => args,
+        Err(error) => return ExitCode::from(unread_words(&error)),
     };
     let Ok(words) = own_words(alloc, args) else {
         return ExitCode::from(5);

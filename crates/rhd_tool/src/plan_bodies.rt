@@ -118,6 +118,7 @@ fn call_with(
 {
     let CallRequest::Named {
         name,
+        token,
         native_only,
         shape,
         want,
@@ -126,6 +127,7 @@ fn call_with(
     let places = call.places.as_slice();
     Ok(CallRequest::Named {
         name,
+        token,
         native_only,
         shape: shape_with(alloc, shape, places, object, latest, args)?,
         want,

@@ -102,6 +102,9 @@ impl MemSink {
         requires { 0 < most }
         ensures written { ⟦<MemSink as Sink>⟧.written result ≡ Some [] }
         ensures faults { ⟦<MemSink as Sink>⟧.faults result ≡ 0 }
+        ensures calls { result.calls ≡ 0 }
+        ensures listed { result.fails.items ≡ fails.items }
+        ensures most { result.most ≡ most }
     {
         MemSink {
             bytes: Vec::new(alloc),
@@ -128,13 +131,22 @@ fn lesser(a: usize, b: u64) -> usize
 }
 
 impl Sink for MemSink {
-    ghost use Rattle.rhd_tool.specs.Memory.{bytes_written};
+    ghost use Rattle.rhd_tool.specs.Memory.{bytes_written, next_call, fails_next, is_failed};
 
     ghost written = { λ s. Some (bytes_written s) };
 
     ghost faults = { λ s. s.faults };
 
-    fn write(&mut self, piece: &[u8]) -> Result<usize, SinkFault> {
+    fn write(&mut self, piece: &[u8]) -> Result<usize, SinkFault>
+        ensures bound { IfOk result (λ n. n ≤ length piece.now) }
+        ensures some { 0 < length piece.now → IfOk result (λ n. 0 < n) }
+        ensures bytes { WriteAppends (Some (bytes_written self.old)) (Some (bytes_written self.new)) result piece.now }
+        ensures cause { HasSinkCause self.old.faults self.new.faults result }
+        ensures failed { is_failed result ≡ fails_next self.old.calls self.old.fails.items }
+        ensures count { IfOk result (λ n. n ≡ min (length piece.now) self.old.most) }
+        ensures calls { self.new.calls ≡ next_call self.old.calls }
+        ensures kept { (self.new.fails.items ≡ self.old.fails.items) × (self.new.most ≡ self.old.most) }
+    {
         self.calls = self.calls.saturating_add(1);
         if self.fails.contains(&self.calls) {
             self.faults = self.faults.saturating_add(1);

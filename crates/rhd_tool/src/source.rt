@@ -1,6 +1,6 @@
 //! Where bytes come from.
 
-ghost use Rattle.std.specs.Prelude.{◌≡◌, ◌<◌, ◌≤◌, List, ℕ, Option, Some, None, IfSome, IsOk, length, min, take};
+ghost use Rattle.std.specs.Prelude.{◌≡◌, ◌<◌, ◌≤◌, List, ℕ, Option, Some, None, IfSome, IfOk, IsOk, is_err, length, min, take};
 ghost use Rattle.std.specs.Io.{ReadsAtMost};
 ghost use Rattle.std.specs.Io.KnownBytes.{ReadConsumes, Consumes, IsAtEnd, Keeps};
 ghost use Rattle.rhd_tool.specs.Causes.{HasCause};
@@ -98,6 +98,9 @@ impl MemSource {
         requires { 0 < most }
         ensures left { ⟦<MemSource as Source>⟧.left result ≡ Some bytes.items }
         ensures faults { ⟦<MemSource as Source>⟧.faults result ≡ 0 }
+        ensures calls { result.calls ≡ 0 }
+        ensures listed { result.fails.items ≡ fails.items }
+        ensures most { result.most ≡ most }
     {
         MemSource {
             bytes,
@@ -126,13 +129,21 @@ fn fill_front(rest: &[u8], buf: &mut [u8], most: u64) -> usize
 }
 
 impl Source for MemSource {
-    ghost use Rattle.rhd_tool.specs.Memory.{bytes_left};
+    ghost use Rattle.rhd_tool.specs.Memory.{bytes_left, next_call, fails_next};
 
     ghost left = { λ s. Some (bytes_left s) };
 
     ghost faults = { λ s. s.faults };
 
-    fn read(&mut self, buf: &mut [u8]) -> Result<usize, Failed> {
+    fn read(&mut self, buf: &mut [u8]) -> Result<usize, Failed>
+        ensures bound { ReadsAtMost result buf.new }
+        ensures bytes { ReadConsumes (Some (bytes_left self.old)) (Some (bytes_left self.new)) result buf.new }
+        ensures cause { HasCause self.old.faults self.new.faults result }
+        ensures failed { is_err result ≡ fails_next self.old.calls self.old.fails.items }
+        ensures count { IfOk result (λ n. n ≡ min (length (bytes_left self.old)) (min (length buf.old) self.old.most)) }
+        ensures calls { self.new.calls ≡ next_call self.old.calls }
+        ensures kept { (self.new.fails.items ≡ self.old.fails.items) × (self.new.most ≡ self.old.most) }
+    {
         self.calls = self.calls.saturating_add(1);
         if self.fails.contains(&self.calls) {
             self.faults = self.faults.saturating_add(1);

@@ -1,9 +1,11 @@
 //! Tests of what no contract says: that calls succeed, and that the contracts say what is meant.
 
 mod calls;
+mod hosts;
 mod machine;
 mod printing;
 mod runs;
+mod searches;
 mod texts;
 
 use crate::kit::{KIT_LEN, KitFn, kit};
@@ -11,6 +13,7 @@ use crate::sink::Sink;
 use crate::source::Source;
 use crate::tool::{ToolEnd, run_tool};
 use rhd_func::{Natives, PluginFunc};
+use rhd_names::OpToken;
 use rhd_value::{FnPtr, FnPtrType, OutOfMemory, Text, Values};
 use std::alloc::{AllocError, Global};
 use std::process::Abort;
@@ -54,6 +57,15 @@ fn text_of(alloc: Global, text: &str) -> Result<Text, OutOfMemory> {
     let mut made = Text::new(alloc);
     made.push(text)?;
     Ok(made)
+}
+
+/// The token of a name of the cases, which is `+` or none.
+fn token_of(name: &str) -> Option<OpToken> {
+    if name == "+" {
+        Some(OpToken::Plus)
+    } else {
+        None
+    }
 }
 
 /// A pointer to a function.

@@ -1,11 +1,13 @@
 //! The program's one call.
 
-ghost use Rattle.std.specs.Prelude.{ℕ, Some, ◌^◌, ◌≡◌, ◌≢◌, ◌↔◌, ◌⊎◌, ◌<◌, ◌≤◌, List, [], IfOk, IfErr, map, length, take, string_bytes, IsTrue};
+ghost use Rattle.std.specs.Prelude.{ℕ, Some, ◌^◌, ◌≡◌, ◌≢◌, ◌↔◌, ◌⊎◌, ◌<◌, ◌≤◌, true, List, [], IfOk, IfErr, map, length, take, string_bytes, IsTrue};
 ghost use Rattle.std.specs.Io.KnownBytes.{Appends};
 ghost use Rattle.std.specs.Str.Lines.{lines};
+ghost use Rattle.rhd_session.specs.Held.{builtins_held};
 ghost use Rattle.rhd_session.specs.Objects.{infos_of, objects_of};
 ghost use Rattle.rhd_text.specs.declared.session.SessionText.{SessionText};
 ghost use Rattle.rhd_tool.specs.PlanBodies.{plan_starts, plan_resumes};
+ghost use Rattle.rhd_tool.specs.TableHost.{table_answers};
 ghost use Rattle.rhd_text.specs.Session.{IsSession, IsFirstBad};
 ghost use Rattle.rhd_text.specs.PrintedReplies.{all_printed};
 ghost use Rattle.rhd_tool.specs.Causes.{Rose};
@@ -16,9 +18,10 @@ use crate::plan_bodies::PlanBodies;
 use crate::reading::{ReadEnd, read_whole};
 use crate::sink::{Sink, SinkFault};
 use crate::source::Source;
+use crate::table_host::TableHost;
 use crate::writing::write_whole;
 use rhd_func::Natives;
-use rhd_session::{Command, Limits, Replies, Reply, Session, Stopped};
+use rhd_session::{Limits, Replies, Reply, Session, Stopped};
 use rhd_text::{SessionText, TextFault, print_replies, read_text};
 use rhd_value::OutOfMemory;
 use std::alloc::Global;
@@ -85,25 +88,32 @@ fn write_replies<K: Sink>(alloc: Global, replies: Replies, sink: &mut K) -> Tool
     }
 }
 
-/// The replies to commands in a new session.
-fn answer(
-    alloc: Global,
-    natives: Natives,
-    limits: Limits,
-    mut bodies: PlanBodies,
-    commands: &[Command],
-) -> Result<Replies, Stopped>
-    requires { (limits.level ≤ 1000) × (length commands.now < 2 ^ 32) }
-    ensures all { IfOk result (IsAnswered (objects_of allows_call allows_resume plan_starts plan_resumes natives) (infos_of info natives) limits bodies commands.now) }
-    ensures count { IfOk result (λ replies. length replies ≡ length commands.now) }
-    ensures some { IfErr result (λ s. IsAnswered (objects_of allows_call allows_resume plan_starts plan_resumes natives) (infos_of info natives) limits bodies (take (length s.replies) commands.now) s.replies) }
+/// The replies to the commands of a text, in a new session.
+fn answer(alloc: Global, natives: Natives, text: SessionText) -> Result<Replies, Stopped>
+    requires level { (limits_of text).level ≤ 1000 }
+    requires builtins { builtins_held (length natives.items.items) text.builtins ≡ true }
+    requires count { length text.commands < 2 ^ 32 }
+    ensures all { IfOk result (IsAnswered (objects_of allows_call allows_resume plan_starts plan_resumes table_answers natives) (infos_of info natives) text text.commands) }
+    ensures count { IfOk result (λ replies. length replies ≡ length text.commands) }
+    ensures some { IfErr result (λ s. IsAnswered (objects_of allows_call allows_resume plan_starts plan_resumes table_answers natives) (infos_of info natives) text (take (length s.replies) text.commands) s.replies) }
 {
-    let Ok(mut session) = Session::new(alloc, natives, limits) else {
+    let SessionText {
+        limits,
+        printers,
+        builtins,
+        hosts,
+        bodies,
+        commands,
+    } = text;
+    let limits = limits.unwrap_or(Limits::DEFAULT);
+    let mut host = TableHost::new(hosts);
+    let mut bodies = PlanBodies::new(bodies);
+    let Ok(mut session) = Session::new(alloc, natives, limits, builtins, printers) else {
         return Err(Stopped {
             replies: Replies::new(alloc),
         });
     };
-    session.run(alloc, commands, &mut bodies)
+    session.run(alloc, commands.as_slice(), &mut host, &mut bodies)
 }
 
 /// Answers the commands of a text, and writes the replies where all commands are answered.
@@ -113,25 +123,20 @@ fn answer_and_write<K: Sink>(
     text: SessionText,
     sink: &mut K,
 ) -> ToolEnd
-    requires { ((limits_of text).level ≤ 1000) × (length text.commands < 2 ^ 32) }
+    requires level { (limits_of text).level ≤ 1000 }
+    requires builtins { builtins_held (length natives.items.items) text.builtins ≡ true }
+    requires count { length text.commands < 2 ^ 32 }
     ensures statuses { (result.status ≡ 0) ⊎ (result.status ≡ 4) ⊎ (result.status ≡ 5) }
     ensures line { result.line ≡ 0 }
-    ensures all { (result.status ≡ 0) ⊎ (result.status ≡ 4) → IsAnswered (objects_of allows_call allows_resume plan_starts plan_resumes natives) (infos_of info natives) (limits_of text) text.bodies text.commands result.replies }
-    ensures some { IsAnswered (objects_of allows_call allows_resume plan_starts plan_resumes natives) (infos_of info natives) (limits_of text) text.bodies (take (length result.replies) text.commands) result.replies }
+    ensures all { (result.status ≡ 0) ⊎ (result.status ≡ 4) → IsAnswered (objects_of allows_call allows_resume plan_starts plan_resumes table_answers natives) (infos_of info natives) text text.commands result.replies }
+    ensures some { IsAnswered (objects_of allows_call allows_resume plan_starts plan_resumes table_answers natives) (infos_of info natives) text (take (length result.replies) text.commands) result.replies }
     ensures done { result.status ≡ 0 → Appends (K.written sink.old) (K.written sink.new) (all_printed result.replies) }
     ensures part { WrotePart (K.written sink.old) (K.written sink.new) (all_printed result.replies) }
     ensures short { result.status ≡ 4 → WroteLess (K.written sink.old) (K.written sink.new) (all_printed result.replies) }
     ensures fault { result.status ≡ 4 → Rose (K.faults sink.old) (K.faults sink.new) }
     ensures later { K.faults sink.old ≤ K.faults sink.new }
 {
-    let SessionText {
-        limits,
-        bodies,
-        commands,
-    } = text;
-    let limits = limits.unwrap_or(Limits::DEFAULT);
-    let bodies = PlanBodies::new(bodies);
-    match answer(alloc, natives, limits, bodies, commands.as_slice()) {
+    match answer(alloc, natives, text) {
         Ok(replies) => write_replies(alloc, replies, sink),
         Err(stopped) => ToolEnd {
             status: 5,
@@ -146,8 +151,8 @@ fn run_bytes<K: Sink>(alloc: Global, natives: Natives, bytes: &[u8], sink: &mut 
     requires { length bytes.now ≤ most_bytes }
     ensures statuses { (result.status ≡ 0) ⊎ (result.status ≡ 2) ⊎ (result.status ≡ 4) ⊎ (result.status ≡ 5) }
     ensures line { (result.status ≡ 2) ⊎ (result.line ≡ 0) }
-    ensures ran { (result.status ≡ 0) ⊎ (result.status ≡ 4) → Ran (objects_of allows_call allows_resume plan_starts plan_resumes natives) (infos_of info natives) (length natives.items.items) bytes.now result.replies }
-    ensures made { result.status ≡ 5 → RanPart (objects_of allows_call allows_resume plan_starts plan_resumes natives) (infos_of info natives) (length natives.items.items) bytes.now result.replies }
+    ensures ran { (result.status ≡ 0) ⊎ (result.status ≡ 4) → Ran (objects_of allows_call allows_resume plan_starts plan_resumes table_answers natives) (infos_of info natives) (length natives.items.items) bytes.now result.replies }
+    ensures made { result.status ≡ 5 → RanPart (objects_of allows_call allows_resume plan_starts plan_resumes table_answers natives) (infos_of info natives) (length natives.items.items) bytes.now result.replies }
     ensures done { result.status ≡ 0 → Appends (K.written sink.old) (K.written sink.new) (all_printed result.replies) }
     ensures part { WrotePart (K.written sink.old) (K.written sink.new) (all_printed result.replies) }
     ensures short { result.status ≡ 4 → WroteLess (K.written sink.old) (K.written sink.new) (all_printed result.replies) }
@@ -182,13 +187,13 @@ fn run<S: Source, K: Sink>(
     natives: Natives,
 ) -> ToolEnd
     ensures statuses { IsStatus result.status }
-    ensures done { result.status ≡ 0 → WasDone (objects_of allows_call allows_resume plan_starts plan_resumes natives) (infos_of info natives) (length natives.items.items) (S.left source.old) (S.left source.new) (K.written sink.old) (K.written sink.new) result.replies }
+    ensures done { result.status ≡ 0 → WasDone (objects_of allows_call allows_resume plan_starts plan_resumes table_answers natives) (infos_of info natives) (length natives.items.items) (S.left source.old) (S.left source.new) (K.written sink.old) (K.written sink.new) result.replies }
     ensures words { (result.status ≡ 1) ↔ (map (λ w. string_bytes w) words.now ≢ run_words) }
     ensures bad { result.status ≡ 2 → WasBad (length natives.items.items) (S.left source.old) (S.left source.new) result.line }
     ensures read { result.status ≡ 3 → Rose (S.faults source.old) (S.faults source.new) }
     ensures write { result.status ≡ 4 → Rose (K.faults sink.old) (K.faults sink.new) }
-    ensures cut { result.status ≡ 4 → WasCut (objects_of allows_call allows_resume plan_starts plan_resumes natives) (infos_of info natives) (length natives.items.items) (S.left source.old) (S.left source.new) (K.written sink.old) (K.written sink.new) result.replies }
-    ensures stopped { result.status ≡ 5 → (result.replies ≡ []) ⊎ WasStopped (objects_of allows_call allows_resume plan_starts plan_resumes natives) (infos_of info natives) (length natives.items.items) (S.left source.old) (S.left source.new) result.replies }
+    ensures cut { result.status ≡ 4 → WasCut (objects_of allows_call allows_resume plan_starts plan_resumes table_answers natives) (infos_of info natives) (length natives.items.items) (S.left source.old) (S.left source.new) (K.written sink.old) (K.written sink.new) result.replies }
+    ensures stopped { result.status ≡ 5 → (result.replies ≡ []) ⊎ WasStopped (objects_of allows_call allows_resume plan_starts plan_resumes table_answers natives) (infos_of info natives) (length natives.items.items) (S.left source.old) (S.left source.new) result.replies }
     ensures part { result.status ≡ 5 → WrotePart (K.written sink.old) (K.written sink.new) (all_printed result.replies) }
     ensures many { result.status ≡ 6 → CameMore most_bytes (S.left source.old) (S.left source.new) }
     ensures line { (result.status ≡ 2) ⊎ (result.line ≡ 0) }
@@ -230,7 +235,7 @@ pub fn run_tool<S: Source, K: Sink>(
     ensures statuses { result.status ≤ 6 }
     // 0: all bytes of the source are a session text, its commands were answered one after the other in a
     // new session, and all replies were written, printed.
-    ensures done { result.status ≡ 0 → WasDone (objects_of allows_call allows_resume plan_starts plan_resumes natives) (infos_of info natives) (length natives.items.items) (S.left source.old) (S.left source.new) (K.written sink.old) (K.written sink.new) result.replies }
+    ensures done { result.status ≡ 0 → WasDone (objects_of allows_call allows_resume plan_starts plan_resumes table_answers natives) (infos_of info natives) (length natives.items.items) (S.left source.old) (S.left source.new) (K.written sink.old) (K.written sink.new) result.replies }
     // 1: exactly where the words are not `run`.
     ensures words { (result.status ≡ 1) ↔ (map (λ w. string_bytes w) words.now ≢ run_words) }
     // 2: the bytes are no session text, and this line is the first bad one.
@@ -240,10 +245,10 @@ pub fn run_tool<S: Source, K: Sink>(
     // 4: only where the sink failed; all commands were answered, and a front of the printed replies was
     // written.
     ensures write { result.status ≡ 4 → Rose (K.faults sink.old) (K.faults sink.new) }
-    ensures cut { result.status ≡ 4 → WasCut (objects_of allows_call allows_resume plan_starts plan_resumes natives) (infos_of info natives) (length natives.items.items) (S.left source.old) (S.left source.new) (K.written sink.old) (K.written sink.new) result.replies }
+    ensures cut { result.status ≡ 4 → WasCut (objects_of allows_call allows_resume plan_starts plan_resumes table_answers natives) (infos_of info natives) (length natives.items.items) (S.left source.old) (S.left source.new) (K.written sink.old) (K.written sink.new) result.replies }
     // 5: memory ran out; the replies answer as many of the first commands, and a front of the printed
     // replies was written.
-    ensures stopped { result.status ≡ 5 → (result.replies ≡ []) ⊎ WasStopped (objects_of allows_call allows_resume plan_starts plan_resumes natives) (infos_of info natives) (length natives.items.items) (S.left source.old) (S.left source.new) result.replies }
+    ensures stopped { result.status ≡ 5 → (result.replies ≡ []) ⊎ WasStopped (objects_of allows_call allows_resume plan_starts plan_resumes table_answers natives) (infos_of info natives) (length natives.items.items) (S.left source.old) (S.left source.new) result.replies }
     ensures part { result.status ≡ 5 → WrotePart (K.written sink.old) (K.written sink.new) (all_printed result.replies) }
     // 6: more bytes came than a text may have.
     ensures many { result.status ≡ 6 → CameMore most_bytes (S.left source.old) (S.left source.new) }

@@ -7,11 +7,43 @@ use crate::tag::Position;
 use crate::text::Text;
 use std::alloc::Global;
 
+/// What is wrong with a name, or with the arguments of an indexer or a property.
+#[derive(Drop)]
+pub enum ParseErrorType {
+    /// The name is reserved.
+    Reserved(Text),
+    /// An indexer or a property is called with another number of arguments than it takes.
+    MalformedIndexExpr(Text),
+}
+
+impl ParseErrorType {
+    /// An equal one.
+    pub fn dup(&self, alloc: Global) -> Result<ParseErrorType, OutOfMemory>
+        ensures { IfOk result (λ error. error ≡ self.now) }
+    {
+        match self {
+            ParseErrorType::Reserved(name) => Ok(ParseErrorType::Reserved(name.dup(alloc)?)),
+            ParseErrorType::MalformedIndexExpr(text) => {
+                Ok(ParseErrorType::MalformedIndexExpr(text.dup(alloc)?))
+            }
+        }
+    }
+}
+
 /// Why a call gave no value. Each fault ends with the position of its cause.
 #[derive(Drop)]
 pub enum EvalAltResult {
     /// Fault 1: no function has this signature.
     ErrorFunctionNotFound(Text, Position),
+    /// Fault 2: a property isn't there.
+    ErrorDotExpr(Text, Position),
+    /// Fault 3: an indexer isn't there.
+    ErrorIndexingType(Text, Position),
+    /// Fault 4: a name is reserved, or an indexer or a property is called with another number of
+    /// arguments than it takes.
+    ErrorParsing(ParseErrorType, Position),
+    /// Fault 5: a function that may change its first argument is called on a constant.
+    ErrorNonPureMethodCallOnConstant(Text, Position),
     /// Fault 6: an argument is being used elsewhere.
     ErrorDataRace(Text, Position),
     /// Fault 7: a call answered a value of another type than is wanted: the type wanted, and the
@@ -37,6 +69,18 @@ impl EvalAltResult {
         match self {
             EvalAltResult::ErrorFunctionNotFound(signature, pos) => Ok(
                 EvalAltResult::ErrorFunctionNotFound(signature.dup(alloc)?, *pos),
+            ),
+            EvalAltResult::ErrorDotExpr(text, pos) => {
+                Ok(EvalAltResult::ErrorDotExpr(text.dup(alloc)?, *pos))
+            }
+            EvalAltResult::ErrorIndexingType(text, pos) => {
+                Ok(EvalAltResult::ErrorIndexingType(text.dup(alloc)?, *pos))
+            }
+            EvalAltResult::ErrorParsing(error, pos) => {
+                Ok(EvalAltResult::ErrorParsing(error.dup(alloc)?, *pos))
+            }
+            EvalAltResult::ErrorNonPureMethodCallOnConstant(name, pos) => Ok(
+                EvalAltResult::ErrorNonPureMethodCallOnConstant(name.dup(alloc)?, *pos),
             ),
             EvalAltResult::ErrorDataRace(text, pos) => {
                 Ok(EvalAltResult::ErrorDataRace(text.dup(alloc)?, *pos))

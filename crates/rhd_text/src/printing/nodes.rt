@@ -3,14 +3,14 @@
 ghost use Rattle.std.specs.Prelude.{◌≡◌, ◌++◌, ◌∷◌, [], OnOk, codes};
 ghost use Rattle.rhd_text.specs.PrintedTexts.{quoted};
 ghost use Rattle.std.specs.Fmt.{decimal};
-ghost use Rattle.rhd_text.specs.PrintedReplies.{spelled_fault, label, layer_text, func_text, pick_text, whose_text, result_text, after_text, call_line, indent, tree_text, nodes_text};
+ghost use Rattle.rhd_text.specs.PrintedReplies.{spelled_error, spelled_fault, label, layer_text, func_text, pick_text, whose_text, result_text, after_text, shown_text, call_line, indent, tree_text, nodes_text};
 ghost use Rattle.rhd_session.specs.declared.node.CallNode.{out-CallNode};
 
 use super::quotes::{push_number, push_quoted};
 use super::values::push_value;
 use rhd_func::{CallRequest, RhaiFunc};
 use rhd_session::{CallNode, Layer, Nodes, Pick, Whose};
-use rhd_value::{Dynamic, EvalAltResult, OutOfMemory, Text};
+use rhd_value::{Dynamic, EvalAltResult, OutOfMemory, ParseErrorType, Text};
 use std::alloc::Global;
 
 /// The type wanted and the type got.
@@ -22,38 +22,68 @@ fn push_types(wanted: &Text, got: &Text, out: &mut Vec<u8>) -> Result<(), OutOfM
     push_quoted(got.as_str(), out)
 }
 
+#[tactic(auto, unfolding(crate::specs::PrintedReplies::spelled_error))]
+fn push_error(error: &ParseErrorType, out: &mut Vec<u8>) -> Result<(), OutOfMemory>
+    ensures { OnOk result (out.new.items ≡ out.old.items ++ spelled_error error.now) }
+{
+    match error {
+        ParseErrorType::Reserved(name) => {
+            out.extend_from_slice(b"reserved ")?;
+            push_quoted(name.as_str(), out)
+        }
+        ParseErrorType::MalformedIndexExpr(text) => {
+            out.extend_from_slice(b"index ")?;
+            push_quoted(text.as_str(), out)
+        }
+    }
+}
+
+/// A fault of one text.
+fn push_fault_of(number: &[u8], text: &Text, out: &mut Vec<u8>) -> Result<(), OutOfMemory>
+    ensures { OnOk result (out.new.items ≡ out.old.items ++ (number.now ++ quoted text.now)) }
+{
+    out.extend_from_slice(number)?;
+    push_quoted(text.as_str(), out)
+}
+
+/// A fault of two types.
+fn push_fault_of_types(
+    number: &[u8],
+    wanted: &Text,
+    got: &Text,
+    out: &mut Vec<u8>,
+) -> Result<(), OutOfMemory>
+    ensures { OnOk result (out.new.items ≡ out.old.items ++ (number.now ++ quoted wanted.now ++ codes " " ++ quoted got.now)) }
+{
+    out.extend_from_slice(number)?;
+    push_types(wanted, got, out)
+}
+
 /// A fault by its number, without its position.
 #[tactic(auto, unfolding(crate::specs::PrintedReplies::spelled_fault))]
 fn push_fault(fault: &EvalAltResult, out: &mut Vec<u8>) -> Result<(), OutOfMemory>
     ensures { OnOk result (out.new.items ≡ out.old.items ++ spelled_fault fault.now) }
 {
     match fault {
-        EvalAltResult::ErrorFunctionNotFound(text, _) => {
-            out.extend_from_slice(b"1 ")?;
-            push_quoted(text.as_str(), out)
+        EvalAltResult::ErrorFunctionNotFound(text, _) => push_fault_of(b"1 ", text, out),
+        EvalAltResult::ErrorDotExpr(text, _) => push_fault_of(b"2 ", text, out),
+        EvalAltResult::ErrorIndexingType(text, _) => push_fault_of(b"3 ", text, out),
+        EvalAltResult::ErrorParsing(error, _) => {
+            out.extend_from_slice(b"4 ")?;
+            push_error(error, out)
         }
-        EvalAltResult::ErrorDataRace(text, _) => {
-            out.extend_from_slice(b"6 ")?;
-            push_quoted(text.as_str(), out)
-        }
+        EvalAltResult::ErrorNonPureMethodCallOnConstant(name, _) => push_fault_of(b"5 ", name, out),
+        EvalAltResult::ErrorDataRace(text, _) => push_fault_of(b"6 ", text, out),
         EvalAltResult::ErrorMismatchOutputType(wanted, got, _) => {
-            out.extend_from_slice(b"7 ")?;
-            push_types(wanted, got, out)
+            push_fault_of_types(b"7 ", wanted, got, out)
         }
         EvalAltResult::ErrorMismatchDataType(wanted, got, _) => {
-            out.extend_from_slice(b"8 ")?;
-            push_types(wanted, got, out)
+            push_fault_of_types(b"8 ", wanted, got, out)
         }
         EvalAltResult::ErrorTooManyOperations(_) => Ok(out.extend_from_slice(b"9")?),
         EvalAltResult::ErrorStackOverflow(_) => Ok(out.extend_from_slice(b"10")?),
-        EvalAltResult::ErrorDataTooLarge(text, _) => {
-            out.extend_from_slice(b"11 ")?;
-            push_quoted(text.as_str(), out)
-        }
-        EvalAltResult::ErrorRuntime(text, _) => {
-            out.extend_from_slice(b"15 ")?;
-            push_quoted(text.as_str(), out)
-        }
+        EvalAltResult::ErrorDataTooLarge(text, _) => push_fault_of(b"11 ", text, out),
+        EvalAltResult::ErrorRuntime(text, _) => push_fault_of(b"15 ", text, out),
     }
 }
 
@@ -78,6 +108,7 @@ fn push_layer(alloc: Global, layer: Layer, out: &mut Vec<u8>) -> Result<(), OutO
             out.extend_from_slice(b"global")?;
             push_number(alloc, number, out)
         }
+        Layer::Builtin => Ok(out.extend_from_slice(b"builtin")?),
     }
 }
 
@@ -119,6 +150,7 @@ fn push_whose(whose: Whose, out: &mut Vec<u8>) -> Result<(), OutOfMemory>
     match whose {
         Whose::Call => Ok(out.extend_from_slice(b"call")?),
         Whose::Called => Ok(out.extend_from_slice(b"called")?),
+        Whose::Host => Ok(out.extend_from_slice(b"host")?),
     }
 }
 
@@ -155,10 +187,23 @@ fn push_after(alloc: Global, after: &Option<Dynamic>, out: &mut Vec<u8>) -> Resu
     }
 }
 
+#[tactic(auto, unfolding(crate::specs::PrintedReplies::shown_text))]
+fn push_shown(shown: &Option<Text>, out: &mut Vec<u8>) -> Result<(), OutOfMemory>
+    ensures { OnOk result (out.new.items ≡ out.old.items ++ shown_text shown.now) }
+{
+    match shown {
+        None => Ok(()),
+        Some(text) => {
+            out.extend_from_slice(b" > ")?;
+            push_quoted(text.as_str(), out)
+        }
+    }
+}
+
 /// A call with its answer, without the end of the line.
 #[tactic(auto, unfolding(crate::specs::PrintedReplies::call_line))]
 fn push_call_line(alloc: Global, node: &CallNode, out: &mut Vec<u8>) -> Result<(), OutOfMemory>
-    ensures { OnOk result (out.new.items ≡ out.old.items ++ call_line (out-CallNode node.now).call (out-CallNode node.now).pick (out-CallNode node.now).whose (out-CallNode node.now).answer (out-CallNode node.now).first_after) }
+    ensures { OnOk result (out.new.items ≡ out.old.items ++ call_line (out-CallNode node.now).call (out-CallNode node.now).pick (out-CallNode node.now).whose (out-CallNode node.now).answer (out-CallNode node.now).first_after (out-CallNode node.now).printed) }
 {
     push_label(&node.call, out)?;
     out.extend_from_slice(b" ")?;
@@ -167,7 +212,8 @@ fn push_call_line(alloc: Global, node: &CallNode, out: &mut Vec<u8>) -> Result<(
     push_whose(node.whose, out)?;
     out.extend_from_slice(b" ")?;
     push_result(alloc, &node.answer, out)?;
-    push_after(alloc, &node.first_after, out)
+    push_after(alloc, &node.first_after, out)?;
+    push_shown(&node.printed, out)
 }
 
 /// Two spaces for each call above one of this level.

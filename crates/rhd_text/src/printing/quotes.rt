@@ -8,9 +8,13 @@ use rhd_value::OutOfMemory;
 use std::alloc::Global;
 
 /// Puts a number at the end, in decimal.
+#[tactic(auto, using(crate::proofs::PrintingDigits::one_digit))]
 pub fn push_number(alloc: Global, number: u64, out: &mut Vec<u8>) -> Result<(), OutOfMemory>
     ensures { OnOk result (out.new.items ≡ out.old.items ++ decimal number) }
 {
+    if number < 10 {
+        return Ok(out.push(b'0' + number as u8)?);
+    }
     let text = number.to_string(alloc)?;
     Ok(out.extend_from_slice(text.as_str().as_bytes())?)
 }

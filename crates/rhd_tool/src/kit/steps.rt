@@ -10,6 +10,7 @@ ghost use Rattle.rhd_tool.specs.Values.{argument_at, own_fault, values_in};
 use crate::kit::given::Given;
 use crate::values::{answer_unit, failed, first_of, int_of, own_fault, owned, text_of, values_in};
 use rhd_func::{CallRequest, CallShape, Carry, NativeCallContext, NativeStep};
+use rhd_names::lookup_symbol_from_syntax;
 use rhd_value::{Dynamic, EvalAltResult, OutOfMemory, Position, TypeTag, Value, Values};
 use std::alloc::Global;
 
@@ -159,7 +160,7 @@ fn position_of(ctx: Option<&NativeCallContext>) -> Position
     }
 }
 
-/// The call of a name without arguments, scripts allowed.
+/// The call of a name with its token, without arguments, scripts allowed.
 fn call_of(
     alloc: Global,
     ctx: Option<&NativeCallContext>,
@@ -169,6 +170,7 @@ fn call_of(
 {
     Ok(CallRequest::Named {
         name: owned(alloc, name)?,
+        token: lookup_symbol_from_syntax(name),
         native_only: false,
         shape: CallShape::Plain(Values::new(alloc)),
         want: None,
@@ -242,6 +244,7 @@ fn ask_often(
 }
 
 /// What the native of a number does with arguments of its types.
+#[tactic(auto, unfolding(crate::specs::Kit::kit_does))]
 pub fn act(
     number: u32,
     alloc: Global,

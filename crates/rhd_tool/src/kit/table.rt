@@ -54,6 +54,7 @@ fn row(types: &'static [TypeTag], is_method: bool, is_pure: bool, has_context: b
 }
 
 /// The row of a number in the kit's table.
+#[tactic(auto, unfolding(crate::specs::Kit::kit_info))]
 pub fn kit_row(number: u32) -> KitRow
     requires { number < 20 }
     ensures types { result.types.now ≡ (kit_info number).types }

@@ -5,7 +5,10 @@ use rhd_func::{CallRequest, CallShape, RhaiFunc};
 use rhd_module::DeclFault;
 use rhd_session::{CallNode, Carries, Layer, ModuleId, Nodes, Pick, Replies, Reply, Whose};
 use rhd_text::{print_replies, print_value};
-use rhd_value::{Dynamic, Entries, EvalAltResult, FnId, FnPtrType, Marks, Position, Value, Values};
+use rhd_value::{
+    Dynamic, Entries, EvalAltResult, FnId, FnPtrType, Marks, ParseErrorType, Position, Value,
+    Values,
+};
 use std::alloc::Global;
 use std::process::Abort;
 use std::test::Fail;
@@ -161,6 +164,7 @@ fn node(
 ) -> Result<CallNode, Fail> {
     let call = CallRequest::Named {
         name: text_of(alloc, "f")?,
+        token: None,
         native_only: false,
         shape: CallShape::Plain(Values::new(alloc)),
         want: None,
@@ -186,6 +190,7 @@ fn node(
         answer,
         whose,
         first_after,
+        printed: None,
         refused: None,
     })
 }
@@ -214,6 +219,7 @@ fn by_value(number: u32) -> RhaiFunc {
 fn failed(alloc: Global, level: u32, is_deep: bool) -> Result<CallNode, Fail> {
     let call = CallRequest::Named {
         name: text_of(alloc, "f")?,
+        token: None,
         native_only: false,
         shape: CallShape::Plain(Values::new(alloc)),
         want: None,
@@ -224,7 +230,7 @@ fn failed(alloc: Global, level: u32, is_deep: bool) -> Result<CallNode, Fail> {
     } else {
         EvalAltResult::ErrorTooManyOperations(Position::NONE)
     };
-    Ok(CallNode::failed(alloc, call, level, fault)?)
+    Ok(CallNode::failed(alloc, call, level, None, fault)?)
 }
 
 /// A call with one more child.
@@ -245,10 +251,38 @@ fn tree(alloc: Global) -> Result<CallNode, Fail> {
     with_child(root, failed(alloc, 2, true)?)
 }
 
-/// Puts calls last that end with faults of two texts, or of one.
+/// A call that the host answers.
+fn of_host(alloc: Global) -> Result<CallNode, Fail> {
+    let mut node = node(alloc, None, Ok(Dynamic::from(Value::Int(9))), None)?;
+    node.whose = Whose::Host;
+    Ok(node)
+}
+
+/// A call of a built-in function, which shows its first argument and what was printed.
+fn built_in(alloc: Global) -> Result<CallNode, Fail> {
+    let first = Dynamic::from(Value::Int(3));
+    let answer = Dynamic::from(Value::Unit);
+    let mut node = node(alloc, None, Ok(answer), Some(first))?;
+    node.whose = Whose::Called;
+    node.pick = Some(Pick {
+        layer: Layer::Builtin,
+        func: method(19),
+    });
+    node.printed = Some(text_of(alloc, "h\"i\" &\n")?);
+    Ok(node)
+}
+
+/// Puts calls last that end with faults of one text or of two.
 fn push_faults(alloc: Global, replies: &mut Replies) -> Result<(), Fail> {
     let place = Position::NONE;
+    let reserved = ParseErrorType::Reserved(text_of(alloc, "Fn")?);
+    let index = ParseErrorType::MalformedIndexExpr(text_of(alloc, "d")?);
     let faults = [
+        EvalAltResult::ErrorDotExpr(text_of(alloc, "e")?, place),
+        EvalAltResult::ErrorIndexingType(text_of(alloc, "i64 [i64]")?, place),
+        EvalAltResult::ErrorParsing(reserved, place),
+        EvalAltResult::ErrorParsing(index, place),
+        EvalAltResult::ErrorNonPureMethodCallOnConstant(text_of(alloc, "+=")?, place),
         EvalAltResult::ErrorDataRace(text_of(alloc, "argument #1 of function 'f'")?, place),
         EvalAltResult::ErrorMismatchOutputType(text_of(alloc, "a")?, text_of(alloc, "b")?, place),
         EvalAltResult::ErrorMismatchDataType(text_of(alloc, "c")?, text_of(alloc, "\"")?, place),
@@ -281,11 +315,13 @@ fn replies_are_printed(rt: HostRuntime) -> Result<(), Fail> {
     let called = node(alloc, Some(by_value(12)), Err(failed), None)?;
     replies.push(Reply::Called(called))?;
     push_faults(alloc, &mut replies)?;
+    replies.push(Reply::Called(of_host(alloc)?))?;
+    replies.push(Reply::Called(built_in(alloc)?))?;
     replies.push(Reply::Called(tree(alloc)?))?;
     let mut out = vec![in alloc; b'>']?;
     print_replies(alloc, replies.as_slice(), &mut out)?;
     let want =
-        ">ok\nmodule 3\nrefused 4 7 3\nf - call ! 1 \"f (i64)\"\nf global0#1 called = -5 & %[]\nf global0#12 called ! 15 \"no \\\"luck\\\"\"\nf - call ! 6 \"argument #1 of function 'f'\"\nf - call ! 7 \"a\" \"b\"\nf - call ! 8 \"c\" \"\\\"\"\nf - call ! 11 \"Size of array\"\nf - call ! 10\n  f - call ! 9\n    f - call ! 9\n  f - call ! 10\n";
+        ">ok\nmodule 3\nrefused 4 7 3\nf - call ! 1 \"f (i64)\"\nf global0#1 called = -5 & %[]\nf global0#12 called ! 15 \"no \\\"luck\\\"\"\nf - call ! 2 \"e\"\nf - call ! 3 \"i64 [i64]\"\nf - call ! 4 reserved \"Fn\"\nf - call ! 4 index \"d\"\nf - call ! 5 \"+=\"\nf - call ! 6 \"argument #1 of function 'f'\"\nf - call ! 7 \"a\" \"b\"\nf - call ! 8 \"c\" \"\\\"\"\nf - call ! 11 \"Size of array\"\nf - host = 9\nf builtin#19 called = () & 3 > \"h\\\"i\\\" &\\n\"\nf - call ! 10\n  f - call ! 9\n    f - call ! 9\n  f - call ! 10\n";
     same_bytes(&rt, &out, want.as_bytes(), "replies");
     Ok(())
 }

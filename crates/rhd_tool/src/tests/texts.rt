@@ -5,6 +5,7 @@ use crate::sink::PlainSink;
 use crate::source::PlainSource;
 use crate::tests::printing::check_value;
 use rhd_func::{CallRequest, CallShape};
+use rhd_names::OpToken;
 use rhd_text::read_call;
 use rhd_value::{Dynamic, Position, TypeTag, Value};
 use std::alloc::Global;
@@ -115,12 +116,12 @@ fn the_first_bad_line_is_named(rt: HostRuntime) -> Result<(), Fail> {
         "register f 1 2",
         "register f",
         "register",
-        "register F 1",
-        "register 1f 1",
-        "register f_ 1",
-        "register fg 1",
-        "register \"f\" 1",
         "register 1 f",
+        "register f$x 1",
+        "register $ 1",
+        "register \"get$x\" 1",
+        "register (f) 1",
+        "register \"f 1",
         "\"register\" f 1",
         "Register f 1",
         "registerf 1",
@@ -132,8 +133,9 @@ fn the_first_bad_line_is_named(rt: HostRuntime) -> Result<(), Fail> {
         "register f 18446744073709551616",
         "register f 0x1",
         "call",
-        "call 1",
-        "call F",
+        "call (f)",
+        "call \"f",
+        "call \"f\"1",
         "call f +1",
         "call f 9223372036854775808",
         "call f -9223372036854775809",
@@ -157,11 +159,13 @@ fn the_first_bad_line_is_named(rt: HostRuntime) -> Result<(), Fail> {
         "\u{feff}call f 1",
         "\u{c}",
         "call f \u{661}",
-        "call \u{e9}",
         "# x",
         "// x",
         "global 5",
         "limits 1 1 1 1 1",
+        "printer print",
+        "builtin + int int 7",
+        "host f 1",
         "body",
         "do call f",
         "ret 1",
@@ -173,7 +177,6 @@ fn the_first_bad_line_is_named(rt: HostRuntime) -> Result<(), Fail> {
         "call f (",
         "call f $this",
         "call-native",
-        "call-native 1",
         "module 0",
         "lib",
         "lib x",
@@ -264,6 +267,40 @@ fn the_first_bad_line_is_named(rt: HostRuntime) -> Result<(), Fail> {
         (b"limits 1 1 1 1 1 1\n".as_slice(), 1),
         (b"limits 1 1 1 1 1\nlimits 1 1 1 1 1\n".as_slice(), 2),
         (b"body\nmodule\nlimits 1 1 1 1 1\n".as_slice(), 3),
+        // Operators, kinds and numbers of natives.
+        (b"builtin f int int 7\n".as_slice(), 1),
+        (b"builtin = int int 7\n".as_slice(), 1),
+        (b"builtin ! int int 7\n".as_slice(), 1),
+        (b"builtin ++ int int 7\n".as_slice(), 1),
+        (b"builtin + dynamic int 7\n".as_slice(), 1),
+        (b"builtin + int str 7\n".as_slice(), 1),
+        (b"builtin + int string 7\n".as_slice(), 1),
+        (b"builtin + custom int 7\n".as_slice(), 1),
+        (b"builtin + custom 1 int 7\n".as_slice(), 1),
+        (b"builtin + int \"int\" 7\n".as_slice(), 1),
+        (
+            b"builtin + int int 19\nbuiltin + int int 20\n".as_slice(),
+            2,
+        ),
+        (b"builtin + int int\n".as_slice(), 1),
+        (b"builtin + int 7\n".as_slice(), 1),
+        (b"builtin + int int 7 8\n".as_slice(), 1),
+        // Answers of the host, and printers.
+        (b"host\n".as_slice(), 1),
+        (b"host f\n".as_slice(), 1),
+        (b"host f 1 2\n".as_slice(), 1),
+        (b"host f a\n".as_slice(), 1),
+        (b"host f $this\n".as_slice(), 1),
+        (b"host (f) 1\n".as_slice(), 1),
+        (b"printer\n".as_slice(), 1),
+        (b"printer log\n".as_slice(), 1),
+        (b"printer Print\n".as_slice(), 1),
+        (b"printer \"print\"\n".as_slice(), 1),
+        (b"printer print debug\n".as_slice(), 1),
+        (
+            b"printer print\nprinter debug\nprinter print\nprinters\n".as_slice(),
+            4,
+        ),
         (b"bogus".as_slice(), 1),
         (b"bogus\ncall f\n".as_slice(), 1),
         (b"\n;\n\nbogus".as_slice(), 4),
@@ -302,7 +339,8 @@ fn call_lines_are_read_alone(rt: HostRuntime) -> Result<(), Fail> {
         b"call".as_slice(),
         b"method f".as_slice(),
         b"call f $this".as_slice(),
-        b"call f\n".as_slice(),
+        b"call \"f".as_slice(),
+        b"call f$x $0".as_slice(),
         b"call f \xff".as_slice(),
     ];
     for line in none {
@@ -310,18 +348,20 @@ fn call_lines_are_read_alone(rt: HostRuntime) -> Result<(), Fail> {
     }
     let line = b" method-native\t:custom7 f (5 ) 2";
     holds(&rt, read_call(alloc, line, 3)?.is_none(), "no value");
-    let line = b" method-native\t:custom7 f () 2 ";
+    let line = b" method-native\t:custom7 += () 2 ";
     let Some(request) = read_call(alloc, line, 3)? else {
         panic!(&rt; "a call line");
     };
     let CallRequest::Named {
         name,
+        token,
         native_only,
         shape,
         want,
         pos,
     } = request;
-    holds(&rt, name.as_str() == "f" && native_only, "a native `f`");
+    holds(&rt, name.as_str() == "+=" && native_only, "a native `+=`");
+    holds(&rt, token == Some(OpToken::PlusAssign), "its token");
     holds(&rt, want == Some(TypeTag::Custom(7)), "a wanted kind");
     holds(&rt, pos == Position { line: 3, column: 1 }, "a place");
     let CallShape::Method(object, args) = shape else {

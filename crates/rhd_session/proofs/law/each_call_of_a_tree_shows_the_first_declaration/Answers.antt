@@ -1,4 +1,5 @@
 use Rattle.rhd_session.proofs.TreeFaults.{tree_picked, tree_alone, tree_unbegun}
+use Rattle.rhd_session.proofs.Owned.{tree_host, tree_unfound}
 use Rattle.rhd_session.proofs.law.each_call_of_a_tree_shows_the_first_declaration.Goals as goal
 
 pub returns-clause-shown : goal.returns-clause-shown
@@ -9,3 +10,9 @@ returns-clause-alone g c = λ f level call root node before after cut inside r b
 
 pub returns-clause-unbegun : goal.returns-clause-unbegun
 returns-clause-unbegun g c = λ f level call root node before after cut r inside h. tree_unbegun _ _ inside r h
+
+pub returns-clause-host : goal.returns-clause-host
+returns-clause-host g c = λ f level call root node before after cut inside r. tree_host _ _ inside r
+
+pub returns-clause-missing : goal.returns-clause-missing
+returns-clause-missing g c = λ f level call root node before after cut inside fault r begun small. tree_unfound _ _ inside fault r begun small

@@ -1,4 +1,4 @@
-use Rattle.rhd_session.proofs.TreeLaws.{runs_many, runs_requests, runs_alone}
+use Rattle.rhd_session.proofs.TreeLaws.{runs_many, runs_requests, runs_alone, runs_constant}
 use Rattle.rhd_session.proofs.law.the_children_of_a_node_are_its_requests.Goals as goal
 
 pub returns-clause-shown : goal.returns-clause-shown
@@ -9,3 +9,6 @@ returns-clause-alone g c = λ f level call node before after cut r h. runs_alone
 
 pub returns-clause-as_many : goal.returns-clause-as_many
 returns-clause-as_many g c = λ f level call node before after cut r. runs_many _ _ r
+
+pub returns-clause-constant : goal.returns-clause-constant
+returns-clause-constant g c = λ f level call node before after cut pick r h on. runs_constant _ _ pick r h on

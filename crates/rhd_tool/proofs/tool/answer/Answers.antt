@@ -5,20 +5,21 @@ use Rattle.rhd_tool.proofs.Sessions.{none_answered, all_answered, some_answered}
 use Rattle.rhd_tool.proofs.tool.answer.Goals as goal
 
 pub returns-in_default-clause-some : goal.returns-in_default-clause-some
-returns-in_default-clause-some g c = none_answered _ _ _ _ c.args.commands.now c.new-in_default.result c.new-in_default.ensures
+returns-in_default-clause-some g c = none_answered _ _ c.args.text c.args.text.commands c.new-in_default.result c.new-in_default.ensures
 
 pub returns-clause-all : goal.returns-clause-all
 returns-clause-all g c =
-    let run = simp (c.in-Ok.ensures.natives, c.in-Ok.ensures.world, c.in-Ok.ensures.frame, c.in-Ok.ensures.begun) at c.run.ensures.answered in
-    all_answered _ _ _ _ c.args.commands.now c.run.result _ _ _ run
+    let run = simp (c.in-Ok.ensures.natives, c.in-Ok.ensures.world, c.in-Ok.ensures.frame, c.in-Ok.ensures.begun, c.unwrap_or-limits.ensures, c.new-host.ensures, c.new-bodies.ensures, c.as_slice.ensures) at c.run.ensures.answered in
+    all_answered _ _ c.args.text c.args.text.commands c.run.result _ _ _ run
 
 pub returns-clause-some : goal.returns-clause-some
 returns-clause-some g c =
-    let run = simp (c.in-Ok.ensures.natives, c.in-Ok.ensures.world, c.in-Ok.ensures.frame, c.in-Ok.ensures.begun) at c.run.ensures.stopped in
-    some_answered _ _ _ _ c.args.commands.now c.run.result _ _ _ run
+    let run = simp (c.in-Ok.ensures.natives, c.in-Ok.ensures.world, c.in-Ok.ensures.frame, c.in-Ok.ensures.begun, c.unwrap_or-limits.ensures, c.new-host.ensures, c.new-bodies.ensures, c.as_slice.ensures) at c.run.ensures.stopped in
+    some_answered _ _ c.args.text c.args.text.commands c.run.result _ _ _ run
 
 pub run-requires : goal.run-requires
 unfolding world_of
 run-requires g c =
     let none : length c.in-Ok.session.modules.items ≡ 0 = ap (λ (w : World). length w.modules) c.in-Ok.ensures.world in
-    omega (arith, none, c.requires.1)
+    let told : length c.as_slice.result.now ≡ length c.args.text.commands = ap length c.as_slice.ensures in
+    omega (arith, none, told, c.requires.count)

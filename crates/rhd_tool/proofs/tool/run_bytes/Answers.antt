@@ -1,4 +1,4 @@
-use Rattle.std.proofs.Common.{◌<◌, length, inl, ap, ◌∙◌, arith}
+use Rattle.std.proofs.Common.{inl, ap, ◌∙◌, arith}
 use Rattle.rhd_tool.proofs.Sessions.{limits_allowed}
 use Rattle.rhd_tool.proofs.tool.run_bytes.Goals as goal
 
@@ -8,7 +8,8 @@ returns-in-Err-BadLine-clause-first g c = λ n first. inl (ap (λ end. end.statu
 pub returns-clause-first : goal.returns-clause-first
 returns-clause-first g c = λ n first. absurd (c.in-Ok.ensures.bad n first)
 
-pub answer_and_write-requires : goal.answer_and_write-requires
-answer_and_write-requires g c =
-    let few : length c.in-Ok.text.commands < 4294967296 = omega (arith, c.in-Ok.ensures.count, c.requires) in
-    (limits_allowed c.in-Ok.text.limits c.in-Ok.ensures.limits, few)
+pub answer_and_write-requires-clause-level : goal.answer_and_write-requires-clause-level
+answer_and_write-requires-clause-level g c = limits_allowed c.in-Ok.text.limits c.in-Ok.ensures.limits
+
+pub answer_and_write-requires-clause-count : goal.answer_and_write-requires-clause-count
+answer_and_write-requires-clause-count g c = omega (arith, c.in-Ok.ensures.count, c.requires)

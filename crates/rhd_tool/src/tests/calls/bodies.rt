@@ -3,7 +3,7 @@
 use crate::plan_bodies::PlanBodies;
 use crate::tests::calls::items::{Item, NONE, carry, done, listed, made};
 use crate::tests::printing::check_value;
-use crate::tests::{holds, text_of};
+use crate::tests::{holds, text_of, token_of};
 use rhd_func::{
     Bodies, BodyId, CallRequest, CallShape, FnAccess, NativeCallContext, NativeStep, ScriptFuncDef,
 };
@@ -33,6 +33,7 @@ fn call(alloc: Global, name: &str, shape: CallShape, places: &[GivenAt]) -> Resu
     Ok(CallPlan {
         request: CallRequest::Named {
             name: text_of(alloc, name)?,
+            token: token_of(name),
             native_only: false,
             shape,
             want: Some(TypeTag::Int),
@@ -51,7 +52,7 @@ const fn at(place: usize, given: Given) -> GivenAt {
 fn two_calls(alloc: Global) -> Result<BodyPlan, Fail> {
     let mut calls = CallPlans::new(alloc);
     let shape = CallShape::Plain(listed(alloc, &[Item::Int(7), Item::Unit])?);
-    calls.push(call(alloc, "f", shape, &[at(1, Given::Arg(0))])?)?;
+    calls.push(call(alloc, "+", shape, &[at(1, Given::Arg(0))])?)?;
     let given = [at(0, Given::This), at(1, Given::Last), at(2, Given::Arg(5))];
     let shape = CallShape::Plain(listed(alloc, &[Item::Unit, Item::Unit, Item::Unit])?);
     calls.push(call(alloc, "g", shape, &given)?)?;
@@ -128,12 +129,14 @@ fn check_request(
 ) -> Result<(), Fail> {
     let CallRequest::Named {
         name: found,
+        token,
         native_only: _,
         shape,
         want,
         pos,
     } = request;
     holds(rt, found.as_str() == name, "the name that is asked");
+    holds(rt, token == token_of(name), "its token");
     holds(rt, want == Some(TypeTag::Int), "the type that is wanted");
     holds(rt, pos == Position::NONE, "no place");
     let values = match shape {
@@ -190,7 +193,7 @@ const OBJECT: Option<Item> = Some(Item::Text("o"));
 fn check_first_steps(rt: &impl Abort, alloc: Global, bodies: &mut PlanBodies) -> Result<(), Fail> {
     use Wanted::{Answer, Asks, Fault};
     const CASES: &[(u32, Wanted)] = &[
-        (0, Asks("f", "[!7 !8]", "[1 !8 !9]")),
+        (0, Asks("+", "[!7 !8]", "[1 !8 !9]")),
         (1, Fault("no")),
         (2, Answer("()")),
         (3, Answer("!5")),

@@ -2,6 +2,7 @@
 
 use crate::kit::KitFn;
 use crate::plan_bodies::PlanBodies;
+use crate::table_host::TableHost;
 use crate::tests::{holds, same_bytes, text_of};
 use rhd_func::{
     BodyId, CallRequest, CallShape, FnAccess, FnNamespace, Natives, PluginFunc, RhaiFunc,
@@ -10,9 +11,12 @@ use rhd_func::{
 use rhd_module::{
     DeclFault, Declaration, Key, Module, SharedModule, native_declaration, native_key,
 };
-use rhd_session::{Command, Commands, Limits, Reply, Session};
+use rhd_names::OpToken;
+use rhd_session::{Builtins, Command, Commands, Limits, Printers, Reply, Session};
 use rhd_text::{BodyPlans, print_replies};
-use rhd_value::{Dynamic, FnId, OutOfMemory, Position, Texts, TypeTag, Types, Value, Values};
+use rhd_value::{
+    Dynamic, Entries, FnId, OutOfMemory, Position, Texts, TypeTag, Types, Value, Values,
+};
 use std::alloc::{AllocError, Global};
 use std::process::Abort;
 use std::test::Fail;
@@ -23,6 +27,7 @@ fn request(alloc: Global, line: u32) -> Result<CallRequest, OutOfMemory> {
     args.push(Dynamic::from(Value::Int(7)))?;
     Ok(CallRequest::Named {
         name: text_of(alloc, "f")?,
+        token: Some(OpToken::Plus),
         native_only: true,
         shape: CallShape::Plain(args).dup(alloc)?,
         want: Some(TypeTag::Int),
@@ -34,6 +39,7 @@ fn request(alloc: Global, line: u32) -> Result<CallRequest, OutOfMemory> {
 fn check_request(rt: &impl Abort, alloc: Global) -> Result<(), Fail> {
     let CallRequest::Named {
         name,
+        token,
         native_only,
         shape,
         want,
@@ -44,6 +50,7 @@ fn check_request(rt: &impl Abort, alloc: Global) -> Result<(), Fail> {
     };
     holds(rt, want == Some(TypeTag::Int), "the type that is wanted");
     holds(rt, name.as_str() == "f", "the name");
+    holds(rt, token == Some(OpToken::Plus), "the token");
     holds(rt, native_only, "only natives");
     holds(rt, pos == Position { line: 3, column: 1 }, "the place");
     let first = args.get(0).and_then(|value| value.as_int());
@@ -226,18 +233,37 @@ fn check_third(rt: &impl Abort, alloc: Global, natives: &Natives) -> Result<(), 
     check_declared(rt, alloc, native)
 }
 
+/// A table of built-in operators, of which one is set twice.
+fn builtins(rt: &impl Abort, alloc: Global) -> Result<Builtins, Fail> {
+    use TypeTag::{Char, Int};
+    let mut builtins = Builtins::new(alloc);
+    for number in [0, 2] {
+        builtins.set(alloc, OpToken::Plus, Int, Int, FnId(number))?;
+    }
+    let sum = builtins.get(OpToken::Plus, Int, Int);
+    holds(rt, sum == Some(FnId(2)), "the later function");
+    let other = builtins.get(OpToken::Plus, Int, Char);
+    holds(rt, other.is_none(), "other kinds");
+    let other = builtins.get(OpToken::PlusAssign, Int, Int);
+    holds(rt, other.is_none(), "another operator");
+    Ok(builtins)
+}
+
 /// Runs the same commands twice in one session.
 fn check_session(rt: &impl Abort, alloc: Global, natives: Natives) -> Result<(), Fail> {
-    let mut session = Session::new(alloc, natives, Limits::DEFAULT)?;
+    let builtins = builtins(rt, alloc)?;
+    assert!(rt; builtins.fits(&natives), "natives that are held");
+    let mut session = Session::new(alloc, natives, Limits::DEFAULT, builtins, Printers::NONE)?;
+    let mut host = TableHost::new(Entries::new(alloc));
     let mut bodies = PlanBodies::new(BodyPlans::new(alloc));
     let commands = commands(alloc)?;
     assert!(rt; commands.len() < 10, "a few commands");
-    let Ok(replies) = session.run(alloc, commands.as_slice(), &mut bodies) else {
+    let Ok(replies) = session.run(alloc, commands.as_slice(), &mut host, &mut bodies) else {
         return Err(AllocError.into());
     };
     let want = "f - call ! 1 \"f (i64)\"\nrefused 4 99 3\nok\nf global0#1 called = 1\n";
     check_replies(rt, alloc, replies.as_slice(), want)?;
-    let Ok(replies) = session.run(alloc, commands.as_slice(), &mut bodies) else {
+    let Ok(replies) = session.run(alloc, commands.as_slice(), &mut host, &mut bodies) else {
         return Err(AllocError.into());
     };
     let want = "f global0#1 called = 1\nrefused 4 99 3\nok\nf global0#1 called = 1\n";

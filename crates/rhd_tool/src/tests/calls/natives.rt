@@ -3,7 +3,7 @@
 use crate::kit::KitFn;
 use crate::tests::calls::items::{Item, NONE, carry, done, given, listed, made};
 use crate::tests::printing::check_value;
-use crate::tests::{holds, text_of};
+use crate::tests::{holds, text_of, token_of};
 use rhd_func::{CallRequest, CallShape, NativeCallContext, NativeStep, Natives, PluginFunc};
 use rhd_value::{Dynamic, EvalAltResult, FnId, Position, Value, Values};
 use std::alloc::{AllocError, Global};
@@ -51,6 +51,7 @@ const BAD: Wanted = Wanted::Fault("bad carry");
 fn check_request(rt: &impl Abort, request: CallRequest, wanted: &str, pos: Position) {
     let CallRequest::Named {
         name,
+        token,
         native_only,
         shape,
         want,
@@ -61,6 +62,7 @@ fn check_request(rt: &impl Abort, request: CallRequest, wanted: &str, pos: Posit
     };
     holds(rt, want.is_none(), "an answer of any type");
     holds(rt, name.as_str() == wanted, "the name that is asked");
+    holds(rt, token == token_of(wanted), "its token");
     holds(rt, !native_only, "scripts are allowed");
     holds(rt, args.len() == 0, "no arguments");
     holds(rt, found == pos, "the place");
@@ -166,6 +168,7 @@ fn check_first_steps(rt: &impl Abort, alloc: Global) -> Result<(), Fail> {
         First(11, Some(Text("no")), &[], Fault("no"), "!\"no\""),
         First(12, None, &[Text("f")], Asks("f", "()"), ""),
         First(12, Some(Text("f")), &[], Asks("f", "()"), "!\"f\""),
+        First(12, None, &[Text("+")], Asks("+", "()"), ""),
         First(12, None, &[Int(1)], Types("string", "i64"), ""),
         First(13, None, &[Text("f"), Int(3)], Asks("f", "[!\"f\" 2]"), ""),
         First(

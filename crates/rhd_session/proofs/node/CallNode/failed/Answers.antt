@@ -1,5 +1,5 @@
 use Rattle.std.proofs.Common.{ap, ◌∙◌, []}
-use Rattle.std.specs.Prelude.{None, Option}
+use Rattle.std.specs.Prelude.{Option}
 use Rattle.rhd_value.specs.Tree.{Tree}
 use Rattle.rhd_session.specs.declared.ends.End.{End}
 use Rattle.rhd_session.specs.Ends.{failed}
@@ -8,4 +8,4 @@ use Rattle.rhd_session.proofs.node.CallNode.failed.Goals as goal
 
 pub returns : goal.returns
 returns c =
-    c.alone.ensures ∙ ap (λ (end : End). begun_node c.args.call c.args.level None [] [] end) (c.failed.ensures ∙ ap (λ (first : Option Tree). failed first c.args.fault) c.in_ok-first.ensures)
+    c.ended.ensures ∙ ap (λ (end : End). begun_node c.args.call c.args.level c.args.pick [] [] end) (c.failed.ensures ∙ ap (λ (first : Option Tree). failed first c.args.fault) c.in_ok-first.ensures)

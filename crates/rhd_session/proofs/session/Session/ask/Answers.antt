@@ -9,4 +9,4 @@ pub returns-clause-going : goal.returns-clause-going
 returns-clause-going g c = λ call before begun within going.
     let e : c.len.result ≡ length c.args.stack.now.items = search rules in
     let k = rw e at c.in_ok-outcome.ensures in
-    IfOk-weaker c.put.result _ _ (λ hand p. asked_goes _ _ c.args.stack.now.items c.put.new.stack.items (frame_of c.args.self.now) call c.args.request before (moment begun c.args.bodies.now) (moment (begun + 1) c.begin.new.bodies) c.in_ok-outcome.outcome hand (λ n. k n begun within) p going) c.put.ensures.put
+    IfOk-weaker c.put.result _ _ (λ hand p. asked_goes _ _ c.args.stack.now.items c.put.new.stack.items (frame_of c.args.self.now) call c.args.request before (moment begun c.args.host.now c.args.bodies.now) (moment (begun + 1) c.begin.new.host c.begin.new.bodies) c.in_ok-outcome.outcome hand (λ n. k n begun within) p going) c.put.ensures.put

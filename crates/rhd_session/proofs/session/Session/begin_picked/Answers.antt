@@ -8,5 +8,5 @@ use Rattle.rhd_session.proofs.session.Session.begin_picked.Goals as goal
 
 pub returns : goal.returns
 unfolding world_of
-returns g c = λ n begun within decided.
-    IfOk-weaker c.settle.result _ _ (λ outcome s. settled _ _ (λ i. keeping c.args.call c.args.level c.args.pick (c.new.ensures i) (c.new-2.ensures i)) within decided (c.in_ok-step.ensures (begun + 1)) none_yet s) (c.settle.ensures _ refl)
+returns g c = λ n begun host within decided.
+    IfOk-weaker c.settle.result _ _ (λ outcome s. settled _ _ (λ i. keeping c.args.call c.args.level c.args.pick (c.new.ensures i) (c.new-2.ensures i)) within decided (c.in_ok-step.ensures (begun + 1) host) none_yet s) (c.settle.ensures _ refl refl)

@@ -8,18 +8,18 @@ use Rattle.rhd_session.proofs.session.Session.go_on.Goals as goal
 
 pub returns-in-Script : goal.returns-in-Script
 unfolding objects_of
-returns-in-Script g c = λ begun.
-    body_resumed _ c.resume.result c.args.func.now c.in-Script.fn_def c.def.result.now c.in-Script.env c.args.ctx.now c.args.carry c.args.done (moment begun c.args.bodies.now) c.resume.new.self
+returns-in-Script g c = λ begun host.
+    body_resumed _ c.resume.result c.args.func.now c.in-Script.fn_def c.def.result.now c.in-Script.env c.args.ctx.now c.args.carry c.args.done (moment begun host c.args.bodies.now) c.resume.new.self
     c.in-Script.is c.def.ensures c.resume.ensures
 
 pub returns-in-Pure : goal.returns-in-Pure
 unfolding objects_of
-returns-in-Pure g c = λ begun.
-    native_resumed _ c.resume-in-Pure.result c.args.func.now c.args.ctx.now c.args.carry c.args.done c.in-Pure.id _ (moment begun c.args.bodies.now)
+returns-in-Pure g c = λ begun host.
+    native_resumed _ c.resume-in-Pure.result c.args.func.now c.args.ctx.now c.args.carry c.args.done c.in-Pure.id _ (moment begun host c.args.bodies.now)
     (ap native_of c.in-Pure.is) (c.context_if-ctx.ensures ∙ ap (λ (b : Bool). context_if b c.args.ctx.now) c.has_context.ensures) c.resume-in-Pure.ensures
 
 pub returns-in-Method : goal.returns-in-Method
 unfolding objects_of
-returns-in-Method g c = λ begun.
-    native_resumed _ c.resume-in-Method.result c.args.func.now c.args.ctx.now c.args.carry c.args.done c.in-Method.id _ (moment begun c.args.bodies.now)
+returns-in-Method g c = λ begun host.
+    native_resumed _ c.resume-in-Method.result c.args.func.now c.args.ctx.now c.args.carry c.args.done c.in-Method.id _ (moment begun host c.args.bodies.now)
     (ap native_of c.in-Method.is) (c.context_if-ctx-in-Method.ensures ∙ ap (λ (b : Bool). context_if b c.args.ctx.now) c.has_context-in-Method.ensures) c.resume-in-Method.ensures

@@ -6,7 +6,7 @@ use Rattle.rhd_session.proofs.Stepped.{resumes_in}
 use Rattle.rhd_session.proofs.session.Session.next_step.Goals as goal
 
 pub returns : goal.returns
-returns g c = λ begun.
+returns g c = λ begun host.
     let plan = plan_of c.args.work.now.call in
     resumes_in _ c.go_on.result c.args.work.now.pick.func c.in_ok-ctx.ctx (context (frame_of c.args.self.now) c.args.work.now.level plan) c.args.carry c.args.done _ _
-    (c.in_ok-ctx.ensures plan (sym c.name_of.ensures) (sym c.position_of.ensures)) (c.go_on.ensures begun)
+    (c.in_ok-ctx.ensures plan (sym c.name_of.ensures) (sym c.position_of.ensures)) (c.go_on.ensures begun host)

@@ -12,15 +12,15 @@ returns-in-Some-clause-pick g c = script_is_pick (world_of (λ z. (goal.PluginFu
 pub returns-in-Some-clause-held : goal.returns-in-Some-clause-held
 unfolding world_of
 returns-in-Some-clause-held g c =
-    pick_held_if _ (world_of (λ z. (goal.PluginFunc-dyn g z).info z.1) c.args.self.now).engine (frame_of c.args.self.now) c.args.call.now (Some c.in-Some.pick) (both _ _ c.args.self.now.held refl) c.args.self.now.libraries_held
+    pick_held_if _ (world_of (λ z. (goal.PluginFunc-dyn g z).info z.1) c.args.self.now).engine (frame_of c.args.self.now) c.args.call.now (Some c.in-Some.pick) (both _ _ c.args.self.now.held refl) c.args.self.now.libraries_held c.args.self.now.builtins_held
     (script_is_pick (world_of (λ z. (goal.PluginFunc-dyn g z).info z.1) c.args.self.now).engine (frame_of c.args.self.now) c.args.call.now _ _ _ _ c.in-Some.pick c.native_only_of.ensures c.name_of-name.ensures c.shape_of-shape.ensures c.in_ok-pick.ensures c.in-Some.is)
 
 pub returns-in-None-clause-pick : goal.returns-in-None-clause-pick
 returns-in-None-clause-pick g c =
-    IfOk-weaker c.pick_native.result _ _ (λ last e. native_is_pick (world_of (λ z. (goal.PluginFunc-dyn g z).info z.1) c.args.self.now).engine (frame_of c.args.self.now) c.args.call.now _ _ _ _ last c.native_only_of.ensures c.name_of-name.ensures c.shape_of-shape.ensures c.in_ok-pick.ensures c.in-None.is e) c.pick_native.ensures
+    IfOk-weaker c.pick_native.result _ _ (λ last e. native_is_pick (world_of (λ z. (goal.PluginFunc-dyn g z).info z.1) c.args.self.now).engine (frame_of c.args.self.now) c.args.call.now _ _ _ _ _ last c.native_only_of.ensures c.token_of.ensures c.name_of-name.ensures c.shape_of-shape.ensures c.in_ok-pick.ensures c.in-None.is e) c.pick_native.ensures
 
 pub returns-in-None-clause-held : goal.returns-in-None-clause-held
 unfolding world_of
 returns-in-None-clause-held g c =
-    IfOk-weaker c.pick_native.result _ _ (λ last e. pick_held_if _ (world_of (λ z. (goal.PluginFunc-dyn g z).info z.1) c.args.self.now).engine (frame_of c.args.self.now) c.args.call.now last (both _ _ c.args.self.now.held refl) c.args.self.now.libraries_held
-    (native_is_pick (world_of (λ z. (goal.PluginFunc-dyn g z).info z.1) c.args.self.now).engine (frame_of c.args.self.now) c.args.call.now _ _ _ _ last c.native_only_of.ensures c.name_of-name.ensures c.shape_of-shape.ensures c.in_ok-pick.ensures c.in-None.is e)) c.pick_native.ensures
+    IfOk-weaker c.pick_native.result _ _ (λ last e. pick_held_if _ (world_of (λ z. (goal.PluginFunc-dyn g z).info z.1) c.args.self.now).engine (frame_of c.args.self.now) c.args.call.now last (both _ _ c.args.self.now.held refl) c.args.self.now.libraries_held c.args.self.now.builtins_held
+    (native_is_pick (world_of (λ z. (goal.PluginFunc-dyn g z).info z.1) c.args.self.now).engine (frame_of c.args.self.now) c.args.call.now _ _ _ _ _ last c.native_only_of.ensures c.token_of.ensures c.name_of-name.ensures c.shape_of-shape.ensures c.in_ok-pick.ensures c.in-None.is e)) c.pick_native.ensures

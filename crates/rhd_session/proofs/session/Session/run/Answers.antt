@@ -1,24 +1,24 @@
 use Rattle.std.proofs.Common.{arith, ◌≡◌, ◌≤◌, refl, ap, length, take, ◌∙◌}
 use Rattle.std.proofs.lemmas.List.{length-take}
 use Rattle.rhd_session.specs.Of.{moment_of}
-use Rattle.rhd_session.proofs.Lists.{answered_length, stopped_at, stopped_before, turn}
+use Rattle.rhd_session.proofs.Lists.{answered_length, stopped_at, stopped_before, stopped_begins, begins_none, turn}
 use Rattle.rhd_session.proofs.session.Session.run.Goals as goal
 
 pub returns-then-is_err-clause-stopped : goal.returns-then-is_err-clause-stopped
 returns-then-is_err-clause-stopped g c =
     let h : c.loop-command.command-index ≤ length c.args.commands.now = omega arith in (
-      moment_of c.loop-command.self c.loop-command.bodies,
+      moment_of c.loop-command.self c.loop-command.host c.loop-command.bodies,
       stopped_at _ _ _ _ c.args.commands.now c.loop-command.command-index c.loop-command.replies.items c.from_vec.result _ _ _ _ _ h (c.from_vec.ensures ∙ c.reserve.ensures.items) refl refl c.loop-command.invariant.answered,
-      omega arith,
+      λ other stands. stopped_begins _ _ _ _ c.args.commands.now c.loop-command.command-index c.command-item.result other c.loop-command.replies.items c.from_vec.result _ _ _ _ _ c.loop-command-test.true c.command-item.is (c.from_vec.ensures ∙ c.reserve.ensures.items) c.loop-command.invariant.answered stands (begins_none _ _),
       stopped_before _ _ _ _ c.args.commands.now c.loop-command.command-index c.loop-command.replies.items c.from_vec.result _ _ _ c.loop-command-test.true (c.from_vec.ensures ∙ c.reserve.ensures.items) c.loop-command.invariant.answered,
     )
 
 pub returns-in-Err-clause-stopped : goal.returns-in-Err-clause-stopped
 returns-in-Err-clause-stopped g c =
     let h : c.loop-command.command-index ≤ length c.args.commands.now = omega arith in (
-      moment_of c.loop-command.self c.loop-command.bodies,
+      moment_of c.loop-command.self c.loop-command.host c.loop-command.bodies,
       stopped_at _ _ _ _ c.args.commands.now c.loop-command.command-index c.loop-command.replies.items c.from_vec-in-Err.result _ _ _ _ _ h (c.from_vec-in-Err.ensures ∙ c.reserve.ensures.items) c.in-Err.ensures.failed.0 c.in-Err.ensures.failed.1 c.loop-command.invariant.answered,
-      c.in-Err.ensures.rises,
+      λ other stands. stopped_begins _ _ _ _ c.args.commands.now c.loop-command.command-index c.command-item.result other c.loop-command.replies.items c.from_vec-in-Err.result _ _ _ _ _ c.loop-command-test.true c.command-item.is (c.from_vec-in-Err.ensures ∙ c.reserve.ensures.items) c.loop-command.invariant.answered stands c.in-Err.ensures.begins,
       stopped_before _ _ _ _ c.args.commands.now c.loop-command.command-index c.loop-command.replies.items c.from_vec-in-Err.result _ _ _ c.loop-command-test.true (c.from_vec-in-Err.ensures ∙ c.reserve.ensures.items) c.loop-command.invariant.answered,
     )
 

@@ -8,5 +8,5 @@ abbrev pub invariant-loop-command : goal.invariant-loop-command
 invariant-loop-command g l = record {
   count : length (modules_of l.self) ≤ length (modules_of l.fn.self) + l.command-index;
   natives : natives_of l.self ≡ natives_of l.fn.self;
-  answered : Answered (objects_of (λ z. (goal.PluginFunc-dyn g z).allows_call z.1) (λ z. (goal.PluginFunc-dyn g z).allows_resume z.1) g.B.Bodies.allows_start g.B.Bodies.allows_next (natives_of l.fn.self)) (world_of (λ z. (goal.PluginFunc-dyn g z).info z.1) l.fn.self) (frame_of l.fn.self) (moment_of l.fn.self l.fn.bodies) (take l.command-index l.commands) l.replies.items (world_of (λ z. (goal.PluginFunc-dyn g z).info z.1) l.self) (frame_of l.self) (moment_of l.self l.bodies);
+  answered : Answered (objects_of (λ z. (goal.PluginFunc-dyn g z).allows_call z.1) (λ z. (goal.PluginFunc-dyn g z).allows_resume z.1) g.B.Bodies.allows_start g.B.Bodies.allows_next g.H.Host.allows_missing (natives_of l.fn.self)) (world_of (λ z. (goal.PluginFunc-dyn g z).info z.1) l.fn.self) (frame_of l.fn.self) (moment_of l.fn.self l.fn.host l.fn.bodies) (take l.command-index l.commands) l.replies.items (world_of (λ z. (goal.PluginFunc-dyn g z).info z.1) l.self) (frame_of l.self) (moment_of l.self l.host l.bodies);
 }

@@ -1,0 +1,18 @@
+use Rattle.std.proofs.Common.{◌≡◌, ap, subst, ◌∙◌}
+use Rattle.std.specs.List.{list_any}
+use Rattle.rhd_module.specs.Tree.{ModuleTree}
+use Rattle.rhd_module.specs.Matching.{may_match}
+use Rattle.rhd_module.specs.Natives.{matches_at}
+use Rattle.rhd_module.proofs.Places.{matches_at_places}
+use Rattle.rhd_module.proofs.module.Module.may_match.Goals as goal
+
+pub loop-place-init : goal.loop-place-init
+loop-place-init c =
+    let inside = c.self.inside in
+    let exact = c.args.exact in
+    let name = c.args.name.now in
+    let kinds = c.args.kinds.now in
+    let places = c.places-place-items.result.now in
+    let P : ModuleTree → Type 0 = λ m. list_any (matches_at m exact name kinds) places ≡ may_match m exact name kinds in
+    let seen : ModuleTree = record { own = record { eager = inside.declarations.entries } } in
+    subst P c.self.view_is (ap (list_any (matches_at seen exact name kinds)) c.places-place-items.ensures ∙ matches_at_places inside.natives inside.declarations.entries exact name kinds c.self.invariant)

@@ -1,0 +1,57 @@
+-- The fault of a call that isn't found, of each row once.
+use Rattle.std.proofs.Common.{◌≡◌, true, [], ◌∷◌, refl}
+use Rattle.std.specs.Prelude.{codes}
+use Rattle.std.specs.Fmt.{digits}
+use Rattle.rhd_value.specs.Tree.{Tree, unit, boolean, text}
+use Rattle.rhd_value.specs.Kinds.{plain}
+use Rattle.rhd_value.specs.declared.tag.Position.{Position}
+use Rattle.rhd_value.specs.declared.fault.EvalAltResult.TheVariants.{ErrorFunctionNotFound, ErrorDotExpr, ErrorIndexingType, ErrorParsing}
+use Rattle.rhd_value.specs.declared.fault.ParseErrorType.TheVariants.{MalformedIndexExpr}
+use Rattle.rhd_session.specs.NotFound.{not_found}
+
+-- values of three types
+abbrev nothing : Tree
+nothing = plain unit
+
+abbrev truth : Tree
+truth = plain (boolean true)
+
+abbrev word : Tree
+word = plain (text (codes "a"))
+
+index_is_got : (pos : Position) → not_found pos (codes "index$get$") (truth ∷ word ∷ []) ≡ ErrorIndexingType (codes "bool [string]") pos
+unfolding not_found
+index_is_got pos = refl
+
+index_is_got_of_one : (pos : Position) → not_found pos (codes "index$get$") (truth ∷ []) ≡ ErrorParsing (MalformedIndexExpr (codes "System error: 1 argument(s) found for indexer (should be 2)")) pos
+unfolding not_found digits
+index_is_got_of_one pos = refl
+
+index_is_set : (pos : Position) → not_found pos (codes "index$set$") (truth ∷ word ∷ nothing ∷ []) ≡ ErrorIndexingType (codes "bool [string] = ()") pos
+unfolding not_found
+index_is_set pos = refl
+
+index_is_set_of_none : (pos : Position) → not_found pos (codes "index$set$") [] ≡ ErrorParsing (MalformedIndexExpr (codes "System error: 0 argument(s) found for index setter (should be 3)")) pos
+unfolding not_found digits
+index_is_set_of_none pos = refl
+
+property_is_got : (pos : Position) → not_found pos (codes "get$x") (word ∷ []) ≡ ErrorDotExpr (codes "Unknown property 'x' - a getter is not registered for type 'string'") pos
+unfolding not_found
+property_is_got pos = refl
+
+property_is_got_of_two : (pos : Position) → not_found pos (codes "get$x") (word ∷ truth ∷ []) ≡ ErrorParsing (MalformedIndexExpr (codes "System error: 2 argument(s) found for property getter 'x' (should be 1)")) pos
+unfolding not_found digits
+property_is_got_of_two pos = refl
+
+-- the name of a property may be empty
+property_is_set : (pos : Position) → not_found pos (codes "set$") (truth ∷ word ∷ []) ≡ ErrorDotExpr (codes "No writable property '' - a setter is not registered for type 'bool' to handle 'string'") pos
+unfolding not_found
+property_is_set pos = refl
+
+property_is_set_of_one : (pos : Position) → not_found pos (codes "set$x") (truth ∷ []) ≡ ErrorParsing (MalformedIndexExpr (codes "System error: 1 argument(s) found for property setter 'x' (should be 2)")) pos
+unfolding not_found digits
+property_is_set_of_one pos = refl
+
+function_is_called : (pos : Position) → not_found pos (codes "get") (word ∷ nothing ∷ []) ≡ ErrorFunctionNotFound (codes "get (&str | ImmutableString | String, ())") pos
+unfolding not_found
+function_is_called pos = refl

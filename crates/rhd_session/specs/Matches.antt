@@ -1,0 +1,132 @@
+-- Which declarations match a call, and which of two goes first, said without a search.
+use Rattle.std.specs.Prelude.{◌≡◌, ◌≢◌, ◌<◌, ℕ, false, List, [], ◌∷◌, ◌++◌, length, map, take, slice_get, Some, None}
+use Rattle.std.specs.List.{AllByRecursion}
+use Rattle.std.specs.Option.{option_map_or}
+use Rattle.rhd_value.specs.Tree.{Bytes, Tree}
+use Rattle.rhd_value.specs.Kinds.{tag_of}
+use Rattle.rhd_value.specs.declared.tag.FnId.{FnId}
+use Rattle.rhd_value.specs.declared.tag.TypeTag.{TypeTag}
+use Rattle.rhd_value.specs.declared.tag.TypeTag.TheVariants.{Dynamic}
+use Rattle.rhd_names.specs.declared.token.OpToken.{OpToken}
+use Rattle.rhd_func.specs.declared.request.CallRequest.{CallRequest}
+use Rattle.rhd_func.specs.declared.request.CallShape.TheVariants.{Method}
+use Rattle.rhd_func.specs.Shapes.{all_args}
+use Rattle.rhd_module.specs.declared.key.Key.{Key}
+use Rattle.rhd_module.specs.declared.key.Key.TheVariants.{Script, Typed, Native}
+use Rattle.rhd_module.specs.declared.declaration.Declaration.{Declaration}
+use Rattle.rhd_module.specs.FirstDeclarations.{IsFirstWith}
+use Rattle.rhd_module.specs.Tree.{ModuleTree}
+use Rattle.rhd_session.specs.Asks.{params_of, builtin_pick}
+use Rattle.rhd_session.specs.Display.{display}
+use Rattle.rhd_session.specs.Engine.{Operator, EngineLists, Frame}
+use Rattle.rhd_session.specs.Plans.{plan_of, only_natives, token_in}
+use Rattle.rhd_session.specs.Received.{Received}
+use Rattle.rhd_session.specs.declared.pick.Layer.{Layer}
+use Rattle.rhd_session.specs.declared.pick.Layer.TheVariants.{Library, Global}
+use Rattle.rhd_session.specs.declared.pick.Pick.{Pick}
+
+-- A declared type takes the argument at a place: it is the argument's kind, or `Dynamic` at one of the first sixteen places.
+pub data Takes (place : ℕ) (declared kind : TypeTag) : Type 0 where
+  its_kind : declared ≡ kind → Takes place declared kind
+  any_kind : place < 16 → declared ≡ Dynamic → Takes place declared kind
+
+-- Declared types match the kinds of some arguments, place by place.
+pub record TypesMatch (types kinds : List TypeTag) : Type 0 where
+  pub as_many : length types ≡ length kinds
+  pub each : (place : ℕ) (declared kind : TypeTag) → slice_get types place ≡ Some declared → slice_get kinds place ≡ Some kind → Takes place declared kind
+
+-- At the first place where both differ, these types have the argument's kind, and the others don't.
+pub record IsMoreExact (kinds types others : List TypeTag) : Type 0 where
+  pub place : ℕ
+  pub alike : take place types ≡ take place others
+  pub exact : slice_get types place ≡ slice_get kinds place
+  pub apart : slice_get others place ≢ slice_get kinds place
+
+-- the kinds of the arguments of a call, an object included
+abbrev pub kinds_in : CallRequest → List TypeTag
+kinds_in call = map tag_of (all_args (plan_of call).shape)
+
+-- A declaration under this key matches a call: a script, where these are allowed, by name and number of parameters, or also by the type of the call's object; a native by name and types.
+pub data MatchesCall (call : CallRequest) (key : Key) : Type 0 where
+  by_type : (object : Tree) (args : List Tree) → only_natives (plan_of call).search ≡ false → (plan_of call).shape ≡ Method object args → key ≡ Typed None (plan_of call).name (length args) (display object) → MatchesCall call key
+  by_number : only_natives (plan_of call).search ≡ false → key ≡ Script None (plan_of call).name (params_of (plan_of call).shape) → MatchesCall call key
+  by_kinds : (types : List TypeTag) → key ≡ Native None (plan_of call).name types → TypesMatch types (kinds_in call) → MatchesCall call key
+
+-- a module at its place, where a frame finds it
+pub data IsModuleAt (e : EngineLists) (f : Frame) (layer : Layer) (m : ModuleTree) : Type 0 where
+  is_library : (n : ℕ) → layer ≡ Library n → slice_get f.libs n ≡ Some m → IsModuleAt e f layer m
+  is_global : (n : ℕ) → layer ≡ Global n → slice_get e.globals n ≡ Some m → IsModuleAt e f layer m
+
+-- the module at a place has this declaration as the first under the key
+pub record Declares (e : EngineLists) (f : Frame) (layer : Layer) (key : Key) (d : Declaration) : Type 0 where
+  pub tree : ModuleTree
+  pub stands : IsModuleAt e f layer tree
+  pub declared : IsFirstWith key d tree.own.eager
+
+-- One module goes before another: a later library, a library before a global module, an earlier global module.
+pub data IsEarlier (layer other : Layer) : Type 0 where
+  later_library : (n m : ℕ) → layer ≡ Library n → other ≡ Library m → m < n → IsEarlier layer other
+  any_library : (n m : ℕ) → layer ≡ Library n → other ≡ Global m → IsEarlier layer other
+  earlier_global : (n m : ℕ) → layer ≡ Global n → other ≡ Global m → n < m → IsEarlier layer other
+
+-- the pick is of a declaration under the key, and no module before its own declares the key
+pub record IsInFirstModule (e : EngineLists) (f : Frame) (key : Key) (pick : Pick) : Type 0 where
+  pub decl : Declaration
+  pub stands : Declares e f pick.layer key decl
+  pub func : pick.func ≡ decl.func
+  pub first : (layer : Layer) (other : Declaration) → Declares e f layer key other → IsEarlier layer pick.layer → ⊥
+
+-- no module of a frame declares the key
+abbrev pub NoneDeclares : EngineLists → Frame → Key → Type 0
+NoneDeclares e f key = (layer : Layer) (d : Declaration) → Declares e f layer key d → ⊥
+
+-- scripts of a type go first, then other scripts, then natives
+abbrev pub turn : Key → ℕ
+turn (Typed path name params this_type) = 0
+turn (Script path name params) = 1
+turn (Native path name types) = 2
+
+-- Of two declarations that match, under keys and in modules, the first goes before the other: its turn is earlier; or both are natives, and its types are more exact; or the keys are the same, and its module goes before.
+pub data GoesBefore (kinds : List TypeTag) (key : Key) (layer : Layer) (other : Key) (behind : Layer) : Type 0 where
+  earlier_turn : turn key < turn other → GoesBefore kinds key layer other behind
+  more_exact : (name : Bytes) (types others : List TypeTag) → key ≡ Native None name types → other ≡ Native None name others → IsMoreExact kinds types others → GoesBefore kinds key layer other behind
+  earlier_module : key ≡ other → IsEarlier layer behind → GoesBefore kinds key layer other behind
+
+-- no declaration matches the call
+abbrev pub NoneMatches : EngineLists → Frame → CallRequest → Type 0
+NoneMatches e f call = (key : Key) (layer : Layer) (d : Declaration) → MatchesCall call key → Declares e f layer key d → ⊥
+
+-- the pick is of a declaration under this key, which matches the call, and before which none goes that matches
+pub record IsFirstMatch (e : EngineLists) (f : Frame) (call : CallRequest) (key : Key) (pick : Pick) : Type 0 where
+  pub matches : MatchesCall call key
+  pub decl : Declaration
+  pub stands : Declares e f pick.layer key decl
+  pub func : pick.func ≡ decl.func
+  pub first : (other : Key) (layer : Layer) (d : Declaration) → MatchesCall call other → Declares e f layer other d → GoesBefore (kinds_in call) other layer key pick.layer → ⊥
+
+-- the table has this function for the operator, and none before it
+pub record IsFirstBuiltin (operator : Operator) (id : FnId) (table : List (Operator × FnId)) : Type 0 where
+  pub front : List (Operator × FnId)
+  pub others : List (Operator × FnId)
+  pub stands : table ≡ front ++ (operator, id) ∷ others
+  pub before : AllByRecursion (λ b. b.0 ≢ operator) front
+
+-- the table has this built-in for the call's token and the kinds of its two arguments
+pub record HasBuiltin (e : EngineLists) (call : CallRequest) (pick : Pick) : Type 0 where
+  pub token : OpToken
+  pub asked : token_in (plan_of call).search ≡ Some token
+  pub left : TypeTag
+  pub right : TypeTag
+  pub two : kinds_in call ≡ left ∷ right ∷ []
+  pub id : FnId
+  pub listed : IsFirstBuiltin (record { token = token; left = left; right = right }) id e.builtins
+  pub shown : pick ≡ builtin_pick e token id
+
+-- What answers a call: the first declaration that matches it, or where none matches a built-in.
+pub data IsAnsweredBy (e : EngineLists) (f : Frame) (call : CallRequest) (pick : Pick) : Type 0 where
+  by_declaration : (key : Key) → IsFirstMatch e f call key pick → IsAnsweredBy e f call pick
+  by_builtin : NoneMatches e f call → HasBuiltin e call pick → IsAnsweredBy e f call pick
+
+-- all that a function receives, in order
+abbrev pub all_received : Received → List Tree
+all_received r = option_map_or (λ first. first ∷ r.args) r.first r.args

@@ -1,0 +1,47 @@
+-- The natives `print` and `debug`: what is printed, and what their calls answer.
+use Rattle.std.specs.Prelude.{Bool, true, false, ◌||◌, if◌then◌else◌, Option, None, Some, codes}
+use Rattle.std.specs.Option.{is_none}
+use Rattle.rhd_value.specs.Tree.{Bytes, Tree, unit}
+use Rattle.rhd_value.specs.Kinds.{plain, text_in}
+use Rattle.rhd_value.specs.Same.{text_eq}
+use Rattle.rhd_value.specs.Firsts.{where_holds}
+use Rattle.rhd_value.specs.declared.tag.Position.{Position}
+use Rattle.rhd_value.specs.declared.fault.EvalAltResult.{EvalAltResult}
+use Rattle.rhd_value.specs.declared.fault.EvalAltResult.TheVariants.{ErrorMismatchOutputType}
+use Rattle.rhd_func.specs.Funcs.{is_script}
+use Rattle.rhd_session.specs.declared.limits.Printers.{Printers}
+use Rattle.rhd_session.specs.declared.pick.Layer.{Layer}
+use Rattle.rhd_session.specs.declared.pick.Layer.TheVariants.{Library, Global, Builtin}
+use Rattle.rhd_session.specs.declared.pick.Pick.{Pick}
+use Rattle.rhd_session.specs.Display.{display}
+use Rattle.rhd_session.specs.Plans.{Plan}
+
+-- whether the printer of a name is set; no other name has one
+abbrev pub printer_named : Printers → Bytes → Option Bool
+printer_named printers name = if text_eq name (codes "print") then Some printers.print else if text_eq name (codes "debug") then Some printers.debug else None
+
+abbrev pub is_builtin : Layer → Bool
+is_builtin (Library n) = false
+is_builtin (Global n) = false
+is_builtin Builtin = true
+
+-- the same of a call that found a native by that name: a script or a built-in has none
+abbrev pub printer : Printers → Plan → Pick → Option Bool
+printer printers plan pick = if is_script pick.func || is_builtin pick.layer then None else printer_named printers plan.name
+
+-- a printer that is set takes a text alone
+abbrev pub no_text : Option Bool → Position → Tree → Option EvalAltResult
+no_text (Some true) pos v = where_holds (is_none (text_in v.kind)) (ErrorMismatchOutputType (codes "string") (display v) pos)
+no_text (Some false) pos v = None
+no_text None pos v = None
+
+-- and prints it, without marks
+abbrev pub printed_text : Option Bool → Tree → Option Bytes
+printed_text (Some true) v = text_in v.kind
+printed_text (Some false) v = None
+printed_text None v = None
+
+-- with a printer, set or not, the call answers unit
+abbrev pub said : Option Bool → Tree → Tree
+said (Some set) v = plain unit
+said None v = v

@@ -1,0 +1,81 @@
+//! What the natives `print` and `debug` print, and what their calls answer.
+
+ghost use Rattle.std.specs.Prelude.{◌≡◌, IfOk};
+ghost use Rattle.rhd_session.specs.Plans.{plan_of};
+ghost use Rattle.rhd_session.specs.Printed.{printer, printer_named, no_text, printed_text, said};
+
+use crate::limits::Printers;
+use crate::pick::{Layer, Pick};
+use crate::plan::name_of;
+use rhd_func::CallRequest;
+use rhd_value::{Dynamic, EvalAltResult, OutOfMemory, Position, Text, TypeTag, Value};
+use std::alloc::Global;
+
+/// Whether the printer of a name is set; no other name has one.
+fn printer_named(printers: Printers, name: &Text) -> Option<bool>
+    ensures { result ≡ printer_named printers name.now }
+{
+    if name.as_str() == "print" {
+        return Some(printers.print);
+    }
+    if name.as_str() == "debug" {
+        return Some(printers.debug);
+    }
+    None
+}
+
+/// The same of a call that found a native by that name; a script or a built-in has none.
+pub fn printer(printers: Printers, call: &CallRequest, pick: &Pick) -> Option<bool>
+    ensures { result ≡ printer printers (plan_of call.now) pick.now }
+{
+    if pick.func.is_script() || pick.layer == Layer::Builtin {
+        return None;
+    }
+    printer_named(printers, name_of(call))
+}
+
+/// The fault of a value that is no text, where the printer is set.
+pub fn no_text(
+    alloc: Global,
+    printer: Option<bool>,
+    pos: Position,
+    value: &Dynamic,
+) -> Result<Option<EvalAltResult>, OutOfMemory>
+    ensures { IfOk result (λ fault. fault ≡ no_text printer pos value.now) }
+{
+    if printer != Some(true) || value.as_text().is_some() {
+        return Ok(None);
+    }
+    Ok(Some(EvalAltResult::ErrorMismatchOutputType(
+        TypeTag::Text.type_name(alloc)?,
+        value.type_name(alloc)?,
+        pos,
+    )))
+}
+
+/// The text that is printed, if one is.
+pub fn printed_text(
+    alloc: Global,
+    printer: Option<bool>,
+    value: &Dynamic,
+) -> Result<Option<Text>, OutOfMemory>
+    ensures { IfOk result (λ text. text ≡ printed_text printer value.now) }
+{
+    if printer != Some(true) {
+        return Ok(None);
+    }
+    match value.as_text() {
+        Some(text) => Ok(Some(text.dup(alloc)?)),
+        None => Ok(None),
+    }
+}
+
+/// What the call answers: unit in the place of a value that is to be printed.
+pub fn said(printer: Option<bool>, value: Dynamic) -> Dynamic
+    ensures { result ≡ said printer value }
+{
+    match printer {
+        Some(_) => Dynamic::from(Value::Unit),
+        None => value,
+    }
+}
