@@ -27,7 +27,6 @@ use Rattle.rhd_session.specs.Searched.{libraries, own_place, pick_at, found}
 use Rattle.std.specs.List.{enumerate_from}
 use Rattle.rhd_session.specs.Held.{func_held, all_held, builtins_held}
 use Rattle.rhd_session.specs.Asks.{Asked, typed, script, native, looked, params_of, typed_key, typed_asks, allowed_asks, native_ask, native_found, builtin, builtin_pick}
-use Rattle.rhd_session.specs.FirstAsks.{asks_of}
 use Rattle.rhd_session.specs.NotFound.{not_found}
 use Rattle.rhd_session.specs.Plans.{Search, by_name, token_in, only_natives, Plan, plan_of}
 use Rattle.rhd_session.specs.Patterns.{patterns}
@@ -37,7 +36,7 @@ use Rattle.rhd_session.proofs.Tables.{table_held}
 use Rattle.rhd_session.specs.Entered.{entered}
 use Rattle.rhd_session.specs.declared.ends.End.{End}
 use Rattle.rhd_session.specs.Ends.{failed}
-use Rattle.rhd_session.specs.Decisions.{ends, runs, pick_of, decided, locked_place, locked_text, refusal, unless_refused, decision, is_on_constant, constant_end, asks_host, unpicked}
+use Rattle.rhd_session.specs.Decisions.{ends, runs, asks_of, pick_of, decided, locked_place, locked_text, refusal, unless_refused, decision, is_on_constant, constant_end, asks_host, unpicked}
 use Rattle.rhd_session.proofs.HeldLaws.{found_is_held}
 
 -- the pick is the first ask's that is found

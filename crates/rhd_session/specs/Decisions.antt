@@ -11,7 +11,7 @@ use Rattle.rhd_func.specs.Funcs.{is_pure, is_script}
 use Rattle.rhd_func.specs.Shapes.{all_args, given, pos_of}
 use Rattle.rhd_session.specs.Engine.{EngineLists, Frame}
 use Rattle.rhd_session.specs.declared.pick.Pick.{Pick}
-use Rattle.rhd_session.specs.Asks.{pick_unqualified}
+use Rattle.rhd_session.specs.Asks.{Asked, asks, pick_unqualified}
 use Rattle.rhd_session.specs.NotFound.{not_found}
 use Rattle.rhd_session.specs.Plans.{Search, by_name, Plan, plan_of}
 use Rattle.rhd_session.specs.Received.{received, manner_of, first_received, is_read_only}
@@ -22,6 +22,13 @@ pub data Decision : Type 0 where
   ends : Option Pick → End → Decision  -- nothing runs
   asks_host : Plan → Decision
   runs : Plan → Pick → Decision
+
+abbrev pub asks_by : Plan → Search → List Asked
+asks_by plan (by_name token native_only) = asks plan.name token native_only plan.shape
+
+-- what a call asks for, in order
+abbrev pub asks_of : CallRequest → List Asked
+asks_of call = asks_by (plan_of call) (plan_of call).search
 
 abbrev pub pick_by : EngineLists → Frame → Plan → Search → Option Pick
 pick_by e f plan (by_name token native_only) = pick_unqualified e f plan.name token native_only plan.shape

@@ -1,0 +1,17 @@
+pub mod FirstAnswered
+pub mod TreeLaws
+pub mod TreeFaults
+pub mod TreePlants
+pub mod Locked
+pub mod PrintedEnds
+pub mod LastSteps
+pub mod HostEnds
+pub mod UnfoundRows
+pub mod NodeEnds
+pub mod Owned
+pub mod PrintedNodes
+pub mod PatternOrder
+pub mod PatternPlaces
+pub mod PickPlaces
+pub mod PickCalls
+pub mod PickAnswers

@@ -1,0 +1,9 @@
+pub mod FirstAsks
+pub mod Hosts
+pub mod Requests
+pub mod Prints
+pub mod Causes
+pub mod Unfound
+pub mod Owners
+pub mod PrintedTexts
+pub mod Matches

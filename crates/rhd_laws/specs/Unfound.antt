@@ -1,0 +1,55 @@
+-- Where a call gives a fault of a call that isn't found, and which.
+use Rattle.std.specs.Prelude.{◌≡◌, ◌⊎◌, ℕ, ◌++◌, true, None, codes}
+use Rattle.rhd_value.specs.Tree.{Bytes}
+use Rattle.rhd_value.specs.declared.fault.EvalAltResult.{EvalAltResult}
+use Rattle.rhd_value.specs.declared.fault.EvalAltResult.TheVariants.{ErrorFunctionNotFound, ErrorDotExpr, ErrorIndexingType, ErrorParsing, ErrorNonPureMethodCallOnConstant, ErrorDataRace, ErrorMismatchOutputType, ErrorMismatchDataType, ErrorTooManyOperations, ErrorStackOverflow, ErrorDataTooLarge, ErrorRuntime}
+use Rattle.rhd_func.specs.declared.request.CallRequest.{CallRequest}
+use Rattle.rhd_func.specs.declared.request.HostAnswer.TheVariants.{Nothing}
+use Rattle.rhd_func.specs.Shapes.{all_args}
+use Rattle.rhd_session.specs.Engine.{EngineLists, Frame}
+use Rattle.rhd_session.specs.World.{Objects}
+use Rattle.rhd_session.specs.declared.ends.End.{End}
+use Rattle.rhd_session.specs.Plans.{only_natives, plan_of}
+use Rattle.rhd_session.specs.NotFound.{not_found}
+use Rattle.rhd_session.specs.Decisions.{refusal}
+use Rattle.rhd_laws.specs.FirstAsks.{IsUnanswered, IsForHost}
+use Rattle.rhd_laws.specs.Hosts.{HostEnds}
+
+-- the number of a fault
+abbrev pub fault_number : EvalAltResult → ℕ
+fault_number (ErrorFunctionNotFound text pos) = 1
+fault_number (ErrorDotExpr text pos) = 2
+fault_number (ErrorIndexingType text pos) = 3
+fault_number (ErrorParsing error pos) = 4
+fault_number (ErrorNonPureMethodCallOnConstant name pos) = 5
+fault_number (ErrorDataRace text pos) = 6
+fault_number (ErrorMismatchOutputType wanted got pos) = 7
+fault_number (ErrorMismatchDataType wanted got pos) = 8
+fault_number (ErrorTooManyOperations pos) = 9
+fault_number (ErrorStackOverflow pos) = 10
+fault_number (ErrorDataTooLarge text pos) = 11
+fault_number (ErrorRuntime text pos) = 15
+
+-- The name is that of a getter or a setter, and n is the number of arguments that it takes.
+pub data IsProperty (name : Bytes) (n : ℕ) : Type 0 where
+  is_getter : (property : Bytes) → name ≡ codes "get$" ++ property → n ≡ 1 → IsProperty name n
+  is_setter : (property : Bytes) → name ≡ codes "set$" ++ property → n ≡ 2 → IsProperty name n
+
+-- The name is that of an indexer, and n is the number of arguments that it takes.
+pub data IsIndexer (name : Bytes) (n : ℕ) : Type 0 where
+  is_index_getter : name ≡ codes "index$get$" → n ≡ 2 → IsIndexer name n
+  is_index_setter : name ≡ codes "index$set$" → n ≡ 3 → IsIndexer name n
+
+-- one of both
+abbrev pub IsAccess : Bytes → ℕ → Type 0
+IsAccess name n = IsProperty name n ⊎ IsIndexer name n
+
+-- Nothing refuses the call, and neither a declaration nor a built-in answers it; and the host isn't asked, as natives alone are meant, or gave nothing between these states, and the call ends so.
+pub data AllFail {H B : Type 0} (o : Objects H B) (e : EngineLists) (f : Frame) (level : ℕ) (call : CallRequest) (from to : H) (end : End) : Type 0 where
+  without_host : refusal e level call ≡ None → only_natives (plan_of call).search ≡ true → IsUnanswered e f call → AllFail o e f level call from to end
+  and_host : IsForHost e f level call → HostEnds o call from Nothing to end → AllFail o e f level call from to end
+
+-- so it is, and the fault is that of its name and arguments
+pub record IsUnfound {H B : Type 0} (o : Objects H B) (e : EngineLists) (f : Frame) (level : ℕ) (call : CallRequest) (from to : H) (end : End) (fault : EvalAltResult) : Type 0 where
+  pub all_fail : AllFail o e f level call from to end
+  pub says : fault ≡ not_found (plan_of call).pos (plan_of call).name (all_args (plan_of call).shape)

@@ -1,8 +1,0 @@
-use Rattle.rhd_session.proofs.Owned.{host_exactly, called_exactly}
-use Rattle.rhd_session.proofs.law.a_call_says_whose_its_answer_is.Goals as goal
-
-pub returns-clause-host : goal.returns-clause-host
-returns-clause-host g c = λ f level call node before after cut r. host_exactly _ _ r
-
-pub returns-clause-function : goal.returns-clause-function
-returns-clause-function g c = λ f level call node before after cut r. called_exactly _ _ r

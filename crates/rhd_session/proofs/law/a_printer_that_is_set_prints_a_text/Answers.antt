@@ -1,5 +1,0 @@
-use Rattle.rhd_session.proofs.PrintedNodes.{tree_text}
-use Rattle.rhd_session.proofs.law.a_printer_that_is_set_prints_a_text.Goals as goal
-
-pub returns : goal.returns
-returns g c = λ f level call root node before after cut inside text r. tree_text _ _ inside text r
