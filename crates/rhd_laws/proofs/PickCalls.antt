@@ -16,7 +16,8 @@ use Rattle.rhd_module.specs.declared.key.Key.TheVariants.{Script, Typed, Native}
 use Rattle.rhd_module.specs.declared.declaration.Declaration.{Declaration}
 use Rattle.rhd_session.specs.declared.pick.Layer.{Layer}
 use Rattle.rhd_session.specs.declared.pick.Pick.{Pick}
-use Rattle.rhd_session.specs.Engine.{Operator, EngineLists, Frame}
+use Rattle.rhd_session.specs.Engine.{EngineLists, Frame}
+use Rattle.rhd_session.specs.declared.builtins.Operator.{Operator}
 use Rattle.rhd_session.specs.Display.{display}
 use Rattle.rhd_session.specs.Operators.{operator_eq, operator_eq-Decides}
 use Rattle.rhd_session.specs.Patterns.{patterns_to}

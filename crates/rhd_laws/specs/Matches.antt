@@ -18,7 +18,8 @@ use Rattle.rhd_module.specs.FirstDeclarations.{IsFirstWith}
 use Rattle.rhd_module.specs.Tree.{ModuleTree}
 use Rattle.rhd_session.specs.Asks.{params_of, builtin_pick}
 use Rattle.rhd_session.specs.Display.{display}
-use Rattle.rhd_session.specs.Engine.{Operator, EngineLists, Frame}
+use Rattle.rhd_session.specs.Engine.{EngineLists, Frame}
+use Rattle.rhd_session.specs.declared.builtins.Operator.{Operator}
 use Rattle.rhd_session.specs.Plans.{plan_of, only_natives, token_in}
 use Rattle.rhd_session.specs.Received.{Received}
 use Rattle.rhd_session.specs.declared.pick.Layer.{Layer}
