@@ -1,5 +1,5 @@
 -- How a call ends that the host answers.
-use Rattle.std.proofs.Common.{◌≡◌, refl, sym, ap, ◌∙◌}
+use Rattle.std.proofs.Common.{◌≡◌, refl, ap, ◌∙◌}
 use Rattle.std.specs.Prelude.{Option, None, Some, Ok, Err}
 use Rattle.rhd_value.specs.Tree.{Tree}
 use Rattle.rhd_value.specs.Kinds.{type_name}
@@ -8,13 +8,11 @@ use Rattle.rhd_value.specs.declared.fault.EvalAltResult.{EvalAltResult}
 use Rattle.rhd_value.specs.declared.fault.EvalAltResult.TheVariants.{ErrorMismatchOutputType}
 use Rattle.rhd_func.specs.declared.request.HostAnswer.{HostAnswer}
 use Rattle.rhd_func.specs.declared.request.HostAnswer.TheVariants.{Nothing, Value, Fault}
-use Rattle.rhd_func.specs.declared.request.CallRequest.{CallRequest}
-use Rattle.rhd_func.specs.declared.request.CallRequest.TheVariants.{Named}
-use Rattle.rhd_func.specs.Shapes.{all_args, given}
+use Rattle.rhd_func.specs.Shapes.{all_args}
 use Rattle.rhd_session.specs.declared.ends.End.{End}
 use Rattle.rhd_session.specs.declared.node.Whose.TheVariants.{Host}
 use Rattle.rhd_session.specs.Display.{display}
-use Rattle.rhd_session.specs.Plans.{Plan, plan_of}
+use Rattle.rhd_session.specs.Plans.{Plan}
 use Rattle.rhd_session.specs.NotFound.{not_found}
 use Rattle.rhd_session.specs.Ends.{failed, refusing, not_wanted, accepted, host_end}
 use Rattle.rhd_laws.specs.Causes.{IsOfOtherKind}
