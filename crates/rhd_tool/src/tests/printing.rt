@@ -3,8 +3,8 @@
 use super::{pointer, same_bytes, text_of};
 use rhd_func::{CallRequest, CallShape, RhaiFunc};
 use rhd_module::DeclFault;
-use rhd_session::{CallNode, Carries, Layer, ModuleId, Nodes, Pick, Replies, Reply, Whose};
-use rhd_text::{print_replies, print_value};
+use rhd_session::{CallNode, Carries, Layer, ModuleId, Nodes, Pick, Reply, Whose};
+use rhd_text::{print_replies, print_reply, print_value};
 use rhd_value::{
     Dynamic, Entries, EvalAltResult, FnId, FnPtrType, Marks, ParseErrorType, Position, Value,
     Values,
@@ -272,56 +272,109 @@ fn built_in(alloc: Global) -> Result<CallNode, Fail> {
     Ok(node)
 }
 
-/// Puts calls last that end with faults of one text or of two.
-fn push_faults(alloc: Global, replies: &mut Replies) -> Result<(), Fail> {
-    let place = Position::NONE;
-    let reserved = ParseErrorType::Reserved(text_of(alloc, "Fn")?);
-    let index = ParseErrorType::MalformedIndexExpr(text_of(alloc, "d")?);
-    let faults = [
-        EvalAltResult::ErrorDotExpr(text_of(alloc, "e")?, place),
-        EvalAltResult::ErrorIndexingType(text_of(alloc, "i64 [i64]")?, place),
-        EvalAltResult::ErrorParsing(reserved, place),
-        EvalAltResult::ErrorParsing(index, place),
-        EvalAltResult::ErrorNonPureMethodCallOnConstant(text_of(alloc, "+=")?, place),
-        EvalAltResult::ErrorDataRace(text_of(alloc, "argument #1 of function 'f'")?, place),
-        EvalAltResult::ErrorMismatchOutputType(text_of(alloc, "a")?, text_of(alloc, "b")?, place),
-        EvalAltResult::ErrorMismatchDataType(text_of(alloc, "c")?, text_of(alloc, "\"")?, place),
-        EvalAltResult::ErrorDataTooLarge(text_of(alloc, "Size of array")?, place),
+/// A call of a method that answers and shows its first argument.
+fn of_method(alloc: Global) -> Result<CallNode, Fail> {
+    let first = marked(Value::Array(Values::new(alloc)), false, true, false);
+    let answer = Dynamic::from(Value::Int(-5));
+    node(alloc, Some(method(1)), Ok(answer), Some(first))
+}
+
+/// A call of a native that fails.
+fn of_native(alloc: Global) -> Result<CallNode, Fail> {
+    let place = Position { line: 1, column: 2 };
+    let fault = EvalAltResult::ErrorRuntime(text_of(alloc, "no \"luck\"")?, place);
+    node(alloc, Some(by_value(12)), Err(fault), None)
+}
+
+/// Prints the reply to a call after a byte that stands there, and compares.
+fn check_called(rt: &impl Abort, alloc: Global, node: CallNode, want: &str) -> Result<(), Fail> {
+    let mut out = vec![in alloc; b'>']?;
+    print_reply(alloc, &Reply::Called(node), &mut out)?;
+    let wanted = format!(in alloc; ">{want}\n")?;
+    same_bytes(rt, &out, wanted.as_bytes(), want);
+    Ok(())
+}
+
+/// Compares faults of one text.
+fn check_faults(rt: &impl Abort, alloc: Global) -> Result<(), Fail> {
+    let table = [
+        (1, "f - call ! 1 \"t\""),
+        (2, "f - call ! 2 \"t\""),
+        (3, "f - call ! 3 \"t\""),
+        (4, "f - call ! 4 reserved \"t\""),
+        (5, "f - call ! 5 \"t\""),
+        (6, "f - call ! 6 \"t\""),
+        (7, "f - call ! 7 \"w\" \"t\""),
+        (8, "f - call ! 8 \"w\" \"t\""),
+        (11, "f - call ! 11 \"t\""),
+        (0, "f - call ! 4 index \"t\""),
     ];
-    for fault in faults {
-        replies.push(Reply::Called(node(alloc, None, Err(fault), None)?))?;
+    for (number, want) in table {
+        let fault = fault_of(alloc, number)?;
+        check_called(rt, alloc, node(alloc, None, Err(fault), None)?, want)?;
     }
+    Ok(())
+}
+
+/// The fault of a number with the text `t`, and the type `w` where one is wanted; for 0, that of
+/// another number of arguments.
+fn fault_of(alloc: Global, number: u32) -> Result<EvalAltResult, Fail> {
+    let place = Position::NONE;
+    let text = text_of(alloc, "t")?;
+    match number {
+        1 => Ok(EvalAltResult::ErrorFunctionNotFound(text, place)),
+        2 => Ok(EvalAltResult::ErrorDotExpr(text, place)),
+        3 => Ok(EvalAltResult::ErrorIndexingType(text, place)),
+        4 => Ok(EvalAltResult::ErrorParsing(ParseErrorType::Reserved(text), place)),
+        5 => Ok(EvalAltResult::ErrorNonPureMethodCallOnConstant(text, place)),
+        6 => Ok(EvalAltResult::ErrorDataRace(text, place)),
+        7 => Ok(EvalAltResult::ErrorMismatchOutputType(text_of(alloc, "w")?, text, place)),
+        8 => Ok(EvalAltResult::ErrorMismatchDataType(text_of(alloc, "w")?, text, place)),
+        11 => Ok(EvalAltResult::ErrorDataTooLarge(text, place)),
+        _ => Ok(EvalAltResult::ErrorParsing(ParseErrorType::MalformedIndexExpr(text), place)),
+    }
+}
+
+/// Compares the replies to commands that declare.
+fn check_declared(rt: &impl Abort, alloc: Global) -> Result<(), Fail> {
+    let replies = [
+        Reply::Done,
+        Reply::Made(ModuleId(3)),
+        Reply::Refused(DeclFault::UnknownNumber {
+            number: 7,
+            length: 3,
+        }),
+    ];
+    let mut out = vec![in alloc; b'>']?;
+    print_replies(alloc, &replies, &mut out)?;
+    same_bytes(rt, &out, b">ok\nmodule 3\nrefused 4 7 3\n", "replies");
     Ok(())
 }
 
 #[test]
 fn replies_are_printed(rt: HostRuntime) -> Result<(), Fail> {
     let alloc = rt.alloc();
-    let mut replies = Replies::new(alloc);
-    replies.push(Reply::Done)?;
-    replies.push(Reply::Made(ModuleId(3)))?;
-    replies.push(Reply::Refused(DeclFault::UnknownNumber {
-        number: 7,
-        length: 3,
-    }))?;
-    let missing = EvalAltResult::ErrorFunctionNotFound(text_of(alloc, "f (i64)")?, Position::NONE);
-    replies.push(Reply::Called(node(alloc, None, Err(missing), None)?))?;
-    let first = marked(Value::Array(Values::new(alloc)), false, true, false);
-    let answer = Dynamic::from(Value::Int(-5));
-    let called = node(alloc, Some(method(1)), Ok(answer), Some(first))?;
-    replies.push(Reply::Called(called))?;
-    let place = Position { line: 1, column: 2 };
-    let failed = EvalAltResult::ErrorRuntime(text_of(alloc, "no \"luck\"")?, place);
-    let called = node(alloc, Some(by_value(12)), Err(failed), None)?;
-    replies.push(Reply::Called(called))?;
-    push_faults(alloc, &mut replies)?;
-    replies.push(Reply::Called(of_host(alloc)?))?;
-    replies.push(Reply::Called(built_in(alloc)?))?;
-    replies.push(Reply::Called(tree(alloc)?))?;
-    let mut out = vec![in alloc; b'>']?;
-    print_replies(alloc, replies.as_slice(), &mut out)?;
-    let want =
-        ">ok\nmodule 3\nrefused 4 7 3\nf - call ! 1 \"f (i64)\"\nf global0#1 called = -5 & %[]\nf global0#12 called ! 15 \"no \\\"luck\\\"\"\nf - call ! 2 \"e\"\nf - call ! 3 \"i64 [i64]\"\nf - call ! 4 reserved \"Fn\"\nf - call ! 4 index \"d\"\nf - call ! 5 \"+=\"\nf - call ! 6 \"argument #1 of function 'f'\"\nf - call ! 7 \"a\" \"b\"\nf - call ! 8 \"c\" \"\\\"\"\nf - call ! 11 \"Size of array\"\nf - host = 9\nf builtin#19 called = () & 3 > \"h\\\"i\\\" &\\n\"\nf - call ! 10\n  f - call ! 9\n    f - call ! 9\n  f - call ! 10\n";
-    same_bytes(&rt, &out, want.as_bytes(), "replies");
-    Ok(())
+    check_declared(&rt, alloc)?;
+    check_faults(&rt, alloc)?;
+    check_called(
+        &rt,
+        alloc,
+        of_method(alloc)?,
+        "f global0#1 called = -5 & %[]",
+    )?;
+    check_called(
+        &rt,
+        alloc,
+        of_native(alloc)?,
+        "f global0#12 called ! 15 \"no \\\"luck\\\"\"",
+    )?;
+    check_called(&rt, alloc, of_host(alloc)?, "f - host = 9")?;
+    check_called(
+        &rt,
+        alloc,
+        built_in(alloc)?,
+        "f builtin#19 called = () & 3 > \"h\\\"i\\\" &\\n\"",
+    )?;
+    let shown = "f - call ! 10\n  f - call ! 9\n    f - call ! 9\n  f - call ! 10";
+    check_called(&rt, alloc, tree(alloc)?, shown)
 }

@@ -167,6 +167,38 @@ fn runs_end_as_their_streams_do(rt: HostRuntime) -> Result<(), Fail> {
     Ok(())
 }
 
+/// A text with every form of line.
+const EVERY_FORM: &str =
+    "; all forms\nlimits 9 9 99 9 99\nprinter print\nbuiltin += int int 19\nhost miss \"h\\n\u{e9}\"\nbody\ndo method :int f $this $0\ndo call-native g $last \"x\"\nret [1 {a 1 \"b c\" !%~true}]\nbody\nfail \"a b\"\nregister f 7\nmodule\nscript 0 m (x y) 0 this \"i64\" private\nscript 0 n () 1\nlib 0\nmethod m 5 3 4\ncall n\nref-native f -1 2\nmethod-native :text f 1 'c'\nref += 1 2\ncall miss fn*(\"g\" 2 [()]) custom(4 -5)\npop-lib\n";
+
+/// Runs the first bytes of a text of which each line is good: they are a text, or their last line is
+/// the first bad one.
+fn check_cut(rt: &impl Abort, alloc: Global, bytes: &[u8]) -> Result<(), Fail> {
+    let ended = bytes.iter().filter(|byte| **byte == b'\n').count();
+    let mut source = PlainSource::new(Vec::from_slice(alloc, bytes)?);
+    let mut sink = PlainSink::new(alloc);
+    let end = run_words(alloc, 1, "run", &mut source, &mut sink)?;
+    if end.status == 2 {
+        let is_last = end.line > 0 && (end.line - 1) as usize == ended;
+        holds(rt, is_last, "the line that is cut");
+        same_bytes(rt, sink.bytes(), b"", "a cut text");
+        return Ok(());
+    }
+    holds(rt, end.status == 0, "the status of a cut text");
+    holds(rt, end.line == 0, "no line of a cut text");
+    Ok(())
+}
+
+#[test]
+fn a_text_is_bad_where_it_is_cut(rt: HostRuntime) -> Result<(), Fail> {
+    let alloc = rt.alloc();
+    let bytes = EVERY_FORM.as_bytes();
+    for len in 0..=bytes.len() {
+        check_cut(&rt, alloc, &bytes[..len])?;
+    }
+    Ok(())
+}
+
 /// Takes under a second as it is built, and minutes where each step is checked.
 #[test]
 fn the_largest_text_is_run(rt: HostRuntime) -> Result<(), Fail> {
