@@ -11,6 +11,7 @@ use Rattle.rhd_value.specs.Firsts.{first_of}
 use Rattle.rhd_value.specs.Same.{tag_eq, tag_eq-Decides, text_eq}
 use Rattle.rhd_value.specs.declared.tag.TypeTag.{TypeTag}
 use Rattle.rhd_value.specs.declared.tag.TypeTag.TheVariants.{Dynamic}
+use Rattle.rhd_module.specs.declared.key.Key.{Key}
 use Rattle.rhd_module.specs.declared.key.Key.TheVariants.{Native}
 use Rattle.rhd_module.specs.declared.declaration.Declaration.{Declaration}
 use Rattle.rhd_module.specs.Keys.{key_eq, key_eq-Decides}
@@ -25,7 +26,7 @@ use Rattle.rhd_session.specs.Asks.{native, looked, native_found, builtin}
 use Rattle.rhd_names.specs.declared.token.OpToken.{OpToken}
 use Rattle.rhd_session.specs.Engine.{EngineLists, Frame}
 use Rattle.rhd_session.specs.Patterns.{patterns_to, patterns}
-use Rattle.rhd_session.specs.Searched.{own_place, pick_at}
+use Rattle.rhd_session.specs.Searched.{own_place, pick_at, found}
 use Rattle.rhd_session.specs.Walks.{first_match, matched, native_in}
 
 -- Lists of questions.
@@ -248,3 +249,10 @@ pub looked_built : (e : EngineLists) (f : Frame) (m : ModuleTree) (name : Bytes)
     → o ≡ first_match (native_in f.libs m name) [] 16 kinds → o ≡ None → last ≡ builtin e token kinds → last ≡ looked e f (native name same token)
 looked_built e f m name token kinds same o last one k is none built =
     built ∙ ap (builtin e token) k ∙ sym (ap (λ (x : Option Pick). option_or x (builtin e token same)) (sym (walked e f m name kinds same one k) ∙ sym is ∙ none))
+
+-- the exact kinds are the first pattern
+pub looked_exact : (e : EngineLists) (f : Frame) (name : Bytes) (token : Option OpToken) (kinds same : List TypeTag) (key : Key) (o : Option Pick) (pick : Pick) → key ≡ Native None name kinds → kinds ≡ same
+    → o ≡ found e f key → o ≡ Some pick → ◌≡◌ {A = Option Pick} (Some pick) (looked e f (native name same token))
+looked_exact e f name token kinds same key o pick by k is some =
+    let h : native_found e f name same ≡ Some pick = ap (native_found e f name) (sym k) ∙ ap (found e f) (sym by) ∙ sym is ∙ some in
+    sym (ap (λ (x : Option Pick). option_or x (builtin e token same)) (exact_found (native_found e f name) 16 same pick h))

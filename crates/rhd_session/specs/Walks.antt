@@ -4,7 +4,8 @@ use Rattle.std.specs.List.{list_any}
 use Rattle.rhd_value.specs.Tree.{Bytes}
 use Rattle.rhd_value.specs.Firsts.{first_of}
 use Rattle.rhd_value.specs.declared.tag.TypeTag.{TypeTag}
-use Rattle.rhd_module.specs.declared.key.Key.TheVariants.{Native}
+use Rattle.rhd_module.specs.declared.key.Key.{Key}
+use Rattle.rhd_module.specs.declared.key.Key.TheVariants.{Script, Typed, Native}
 use Rattle.rhd_module.specs.Matching.{may_match}
 use Rattle.rhd_module.specs.Tree.{ModuleTree}
 use Rattle.rhd_session.specs.Searched.{libraries, own_place, pick_at}
@@ -23,3 +24,9 @@ native_in libs global name types = first_of (pick_at (Native None name types)) (
 -- some module may have a native of this name, of whose types the first n are exact
 abbrev pub matched : List ModuleTree → List ModuleTree → ℕ → Bytes → List TypeTag → Bool
 matched libs globals n name kinds = list_any (λ m. may_match m n name kinds) globals || list_any (λ m. may_match m n name kinds) libs
+
+-- the types of the key of a native
+abbrev pub key_types : Key → List TypeTag
+key_types (Script path name params) = []
+key_types (Typed path name params this_type) = []
+key_types (Native path name types) = types

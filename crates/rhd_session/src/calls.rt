@@ -10,7 +10,8 @@ ghost use Rattle.rhd_session.specs.World.{Moment, moment};
 ghost use Rattle.rhd_session.specs.Objects.{objects_of};
 ghost use Rattle.rhd_value.specs.Firsts.{first_of};
 ghost use Rattle.rhd_session.specs.Held.{func_held};
-ghost use Rattle.rhd_session.specs.Asks.{looked, allowed_asks, typed_asks};
+ghost use Rattle.rhd_module.specs.declared.key.Key.TheVariants.{Script};
+ghost use Rattle.rhd_session.specs.Asks.{looked, allowed_asks, typed_asks, params_of};
 ghost use Rattle.rhd_session.specs.Searched.{found};
 ghost use Rattle.rhd_session.specs.Plans.{only_natives, plan_of};
 ghost use Rattle.rhd_session.specs.NotFound.{not_found};
@@ -32,7 +33,7 @@ use crate::received::{
     Received, all_args, context, context_if, is_method_shape, receive, receives_constant,
 };
 use crate::refusal::refusal;
-use crate::search::{find, script_key_of, typed_key_of};
+use crate::search::{find, key_parts, script_key_of, typed_key_of};
 use crate::session::Session;
 use rhd_func::{
     Bodies, CallDone, CallRequest, CallShape, Carry, Host, HostAnswer, NativeCallContext,
@@ -41,6 +42,7 @@ use rhd_func::{
 use rhd_module::Key;
 use rhd_value::{EvalAltResult, OutOfMemory, Text};
 use std::alloc::Global;
+use std::mem;
 
 impl Session {
     ghost use Rattle.rhd_session.specs.Of.{natives_of, world_of, frame_of};
@@ -207,34 +209,51 @@ impl Session {
         ensures pick { IfOk result (λ pick. pick ≡ pick_of (world_of info self.now).engine (frame_of self.now) (plan_of call.now)) }
         ensures held { IfOk result (λ pick. IfSome pick (λ p. func_held (length (natives_of self.now).items.items) p.func ≡ true)) }
     {
-        let name = name_of(call);
+        let mut name = name_of(call).dup(alloc)?;
         let shape = shape_of(call);
-        match self.pick_script(alloc, name, native_only_of(call), shape)? {
+        match self.pick_script(alloc, &mut name, native_only_of(call), shape)? {
             Some(pick) => Ok(Some(pick)),
             None => self.pick_native(alloc, name, token_of(call), shape),
         }
     }
 
-    /// The script that a call means, where scripts are allowed.
+    /// The script that a call means, where scripts are allowed. The name is lent to a key and comes
+    /// back.
     fn pick_script(
         &self,
         alloc: Global,
-        name: &Text,
+        name: &mut Text,
         native_only: bool,
         shape: &CallShape,
     ) -> Result<Option<Pick>, OutOfMemory>
-        ensures { IfOk result (λ pick. pick ≡ first_of (looked (world_of info self.now).engine (frame_of self.now)) (allowed_asks name.now native_only shape.now)) }
+        ensures pick { IfOk result (λ pick. pick ≡ first_of (looked (world_of info self.now).engine (frame_of self.now)) (allowed_asks name.old native_only shape.now)) }
+        ensures kept { IfOk result (λ pick. name.new ≡ name.old) }
     {
         if native_only {
             return Ok(None);
         }
         match self.pick_typed(alloc, name, shape)? {
             Some(pick) => Ok(Some(pick)),
-            None => {
-                let key = script_key_of(alloc, name, shape)?;
-                self.found(alloc, &key)
-            }
+            None => self.pick_untyped(alloc, name, shape),
         }
+    }
+
+    /// The script of no type that a call means.
+    fn pick_untyped(
+        &self,
+        alloc: Global,
+        name: &mut Text,
+        shape: &CallShape,
+    ) -> Result<Option<Pick>, OutOfMemory>
+        ensures pick { IfOk result (λ pick. pick ≡ found (world_of info self.now).engine (frame_of self.now) (Script None name.old (params_of shape.now))) }
+        ensures kept { IfOk result (λ pick. name.new ≡ name.old) }
+    {
+        let own = mem::replace(name, Text::new(alloc));
+        let key = script_key_of(own, shape);
+        let pick = self.found(alloc, &key)?;
+        let (own, _types) = key_parts(alloc, key);
+        *name = own;
+        Ok(pick)
     }
 
     /// The script of its object's type that a call means.

@@ -4,14 +4,14 @@ ghost use Rattle.std.specs.Prelude.{◌≡◌, ◌≤◌, ◌-◌, ◌∷◌, []
 ghost use Rattle.std.specs.List.{list_any};
 ghost use Rattle.rhd_module.specs.Matching.{may_match as may_have};
 ghost use Rattle.rhd_func.specs.Natives.{says};
-ghost use Rattle.rhd_session.specs.Asks.{looked, native_ask, builtin, builtin_pick};
+ghost use Rattle.rhd_session.specs.Asks.{looked, native, native_ask, builtin, builtin_pick};
 ghost use Rattle.rhd_session.specs.Walks.{first_match, matched, native_in};
 
 use crate::pick::{Layer, Pick};
-use crate::search::{find, kinds_of};
+use crate::search::{find, key_parts, kinds_of, native_key_of};
 use crate::session::Session;
 use rhd_func::{CallShape, PluginFunc, RhaiFunc};
-use rhd_module::{Key, Module, SharedModule};
+use rhd_module::{Module, SharedModule};
 use rhd_names::OpToken;
 use rhd_value::{FnId, OutOfMemory, Text, TypeTag, Types};
 use std::alloc::Global;
@@ -68,11 +68,7 @@ fn find_exact(
 ) -> Result<Option<Pick>, OutOfMemory>
     ensures { IfOk result (λ pick. pick ≡ native_in libs.now global.now name.now types.now) }
 {
-    let key = Key::Native {
-        path: None,
-        name: name.dup(alloc)?,
-        types: Types::from_slice(alloc, types)?,
-    };
+    let key = native_key_of(name.dup(alloc)?, Types::from_slice(alloc, types)?);
     find(alloc, libs, global, &key)
 }
 
@@ -110,40 +106,44 @@ fn find_from(
     Ok(found)
 }
 
-/// The native of the first pattern that is found. The exact kinds are the first pattern.
-fn find_pattern(
-    alloc: Global,
-    libs: &[SharedModule],
-    global: &Module,
-    name: &Text,
-    kinds: &mut Vec<TypeTag>,
-) -> Result<Option<Pick>, OutOfMemory>
-    ensures found { IfOk result (λ pick. pick ≡ first_match (native_in libs.now global.now name.now) [] 16 kinds.old.items) }
-    ensures kept { IfOk result (λ pick. kinds.new.items ≡ kinds.old.items) }
-{
-    match find_exact(alloc, libs, global, name, kinds)? {
-        Some(pick) => Ok(Some(pick)),
-        None => find_from(alloc, libs, global, name, kinds, 0),
-    }
-}
-
 impl Session {
     ghost use Rattle.rhd_session.specs.Of.{world_of, frame_of};
 
-    /// The native that a call means, or else the built-in.
+    /// The native that a call means, or else the built-in. The exact kinds are the first pattern.
     pub(crate) fn pick_native(
+        &self,
+        alloc: Global,
+        name: Text,
+        token: Option<OpToken>,
+        shape: &CallShape,
+    ) -> Result<Option<Pick>, OutOfMemory>
+        ensures { IfOk result (λ pick. pick ≡ looked (world_of info self.now).engine (frame_of self.now) (native_ask name token shape.now)) }
+    {
+        let types = kinds_of(alloc, shape)?;
+        let key = native_key_of(name, types);
+        match self.found(alloc, &key)? {
+            Some(pick) => Ok(Some(pick)),
+            None => {
+                let (name, types) = key_parts(alloc, key);
+                self.pick_pattern(alloc, &name, token, types.as_slice())
+            }
+        }
+    }
+
+    /// The native of the first pattern that is found for these kinds, or else the built-in.
+    fn pick_pattern(
         &self,
         alloc: Global,
         name: &Text,
         token: Option<OpToken>,
-        shape: &CallShape,
+        kinds: &[TypeTag],
     ) -> Result<Option<Pick>, OutOfMemory>
-        ensures { IfOk result (λ pick. pick ≡ looked (world_of info self.now).engine (frame_of self.now) (native_ask name.now token shape.now)) }
+        ensures { IfOk result (λ pick. pick ≡ looked (world_of info self.now).engine (frame_of self.now) (native name.now kinds.now token)) }
     {
-        let mut kinds = kinds_of(alloc, shape)?;
-        match find_pattern(alloc, &self.libraries, &self.global, name, &mut kinds)? {
+        let mut types = Vec::from_slice(alloc, kinds)?;
+        match find_from(alloc, &self.libraries, &self.global, name, &mut types, 0)? {
             Some(pick) => Ok(Some(pick)),
-            None => Ok(self.pick_builtin(token, &kinds)),
+            None => Ok(self.pick_builtin(token, kinds)),
         }
     }
 

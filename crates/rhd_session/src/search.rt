@@ -4,19 +4,21 @@ ghost use Rattle.std.specs.Prelude.{◌≡◌, ◌++◌, ◌∷◌, [], IfOk, On
 ghost use Rattle.rhd_value.specs.Kinds.{tag_of};
 ghost use Rattle.rhd_value.specs.Firsts.{first_of};
 ghost use Rattle.rhd_func.specs.Shapes.{all_args};
+ghost use Rattle.rhd_module.specs.Keys.{key_name};
 ghost use Rattle.rhd_module.specs.declared.key.Key.TheVariants as keys;
 ghost use Rattle.rhd_session.specs.Asks.{params_of, typed_key};
 ghost use Rattle.rhd_session.specs.Searched.{libraries as places, own_place, pick_at};
+ghost use Rattle.rhd_session.specs.Walks.{key_types};
 
 use crate::pick::{Layer, Pick};
 use rhd_func::CallShape;
 use rhd_module::{Key, Module, SharedModule};
-use rhd_value::{OutOfMemory, Text, TypeTag, Values};
+use rhd_value::{OutOfMemory, Text, Types, Values};
 use std::alloc::Global;
 
 /// Puts the kinds of values last.
-fn push_kinds(kinds: &mut Vec<TypeTag>, values: &Values) -> Result<(), OutOfMemory>
-    ensures { OnOk result (kinds.new.items ≡ kinds.old.items ++ map tag_of values.now) }
+fn push_kinds(kinds: &mut Types, values: &Values) -> Result<(), OutOfMemory>
+    ensures { OnOk result (kinds.new ≡ kinds.old ++ map tag_of values.now) }
 {
     for value in values.as_slice() {
         kinds.push(value.kind())?;
@@ -25,10 +27,10 @@ fn push_kinds(kinds: &mut Vec<TypeTag>, values: &Values) -> Result<(), OutOfMemo
 }
 
 /// The kinds of all arguments, in order.
-pub fn kinds_of(alloc: Global, shape: &CallShape) -> Result<Vec<TypeTag>, OutOfMemory>
-    ensures { IfOk result (λ kinds. kinds.items ≡ map tag_of (all_args shape.now)) }
+pub fn kinds_of(alloc: Global, shape: &CallShape) -> Result<Types, OutOfMemory>
+    ensures { IfOk result (λ kinds. kinds ≡ map tag_of (all_args shape.now)) }
 {
-    let mut kinds = Vec::new(alloc);
+    let mut kinds = Types::new(alloc);
     match shape {
         CallShape::Plain(args) => push_kinds(&mut kinds, args)?,
         CallShape::ByRef(first, args) => {
@@ -55,14 +57,37 @@ fn params_of(shape: &CallShape) -> u64
 }
 
 /// The key of a script that takes so many arguments.
-pub fn script_key_of(alloc: Global, name: &Text, shape: &CallShape) -> Result<Key, OutOfMemory>
-    ensures { IfOk result (λ key. key ≡ keys.Script None name.now (params_of shape.now)) }
+pub fn script_key_of(name: Text, shape: &CallShape) -> Key
+    ensures { result ≡ keys.Script None name (params_of shape.now) }
 {
-    Ok(Key::Script {
+    Key::Script {
         path: None,
-        name: name.dup(alloc)?,
+        name,
         params: params_of(shape),
-    })
+    }
+}
+
+/// The key of a native of exactly these types.
+pub fn native_key_of(name: Text, types: Types) -> Key
+    ensures { result ≡ keys.Native None name types }
+{
+    Key::Native {
+        path: None,
+        name,
+        types,
+    }
+}
+
+/// The name of a key, and the types of a native's.
+pub fn key_parts(alloc: Global, key: Key) -> (Text, Types)
+    ensures name { result.0 ≡ key_name key }
+    ensures types { result.1 ≡ key_types key }
+{
+    match key {
+        Key::Script { name, .. } => (name, Types::new(alloc)),
+        Key::Typed { name, .. } => (name, Types::new(alloc)),
+        Key::Native { name, types, .. } => (name, types),
+    }
 }
 
 /// The key of a script of an object's type; none where there is no object.
