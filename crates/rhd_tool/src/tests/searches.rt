@@ -35,6 +35,11 @@ const TEXTS: &[(&str, &str)] = &[
         "builtin == custom1 custom1 17\ncall == custom(1 4) custom(1 4)\ncall == custom(2 4) custom(1 4)",
         "== builtin#17 called = 17\n== - call ! 1 \"== (custom2, custom1)\"\n",
     ),
+    // A built-in operator is called by its kinds, whatever its native takes.
+    (
+        "builtin + int char 7\ncall + 1 'a'",
+        "+ builtin#7 called ! 8 \"i64\" \"char\"\n",
+    ),
     // Natives and bodies ask for operators.
     (
         "builtin + int int 7\nbody\ndo call + $0 $1\nret $last\nmodule\nscript 0 f (x y) 0\nlib 0\ncall f 3 4",
