@@ -29,6 +29,7 @@ pub mod Utf8Laws
 pub mod BodyLaws
 pub mod PrintingWeights
 pub mod PrintingDigits
+pub mod PlainRuns
 pub mod PrintingEntries
 pub mod PrintingTrees
 pub mod TextLimits
