@@ -30,6 +30,7 @@ pub mod BodyLaws
 pub mod PrintingWeights
 pub mod PrintingDigits
 pub mod PlainRuns
+pub mod LetterRuns
 pub mod PrintingEntries
 pub mod PrintingTrees
 pub mod TextLimits
