@@ -29,6 +29,8 @@ pub mod Utf8Laws
 pub mod BodyLaws
 pub mod PrintingWeights
 pub mod PrintingDigits
+pub mod PlainRuns
+pub mod LetterRuns
 pub mod PrintingEntries
 pub mod PrintingTrees
 pub mod TextLimits

@@ -1,13 +1,8 @@
 -- Reading one after the other, as a loop does.
-use Rattle.std.proofs.Common.{◌≡◌, ℕ, zero, suc, ◌-◌, ◌<◌, Bool, false, List, [], ◌∷◌, ◌++◌, Option, Some, refl, arith}
-use Rattle.std.specs.Option.{option_map}
+use Rattle.std.proofs.Common.{◌≡◌, ℕ, zero, suc, ◌-◌, ◌<◌, Bool, false, List, [], ◌∷◌, ◌++◌, Some, refl, arith}
 use Rattle.rhd_value.specs.Tree.{Bytes, Tree}
 use Rattle.rhd_text.specs.Maps.{put_new}
 use Rattle.rhd_text.specs.Reading.{Parse, many, comes, wording_at, entries_at}
-
--- what was read before, and what is still read
-abbrev pub with_text : List ℕ → Option (List ℕ × List ℕ) → Option (List ℕ × List ℕ)
-with_text front read = option_map (λ t. (front ++ t.0, t.1)) read
 
 pub turn : {A : Type 0} (stop : List ℕ → Bool) (one : Parse A) (found : List A) (most : ℕ) (bytes : List ℕ) (x : A) (after : List ℕ) → 0 < most → stop bytes ≡ false → one bytes ≡ Some (x, after) → many stop one found most bytes ≡ many stop one (found ++ x ∷ []) (most - 1) after
 unfolding many

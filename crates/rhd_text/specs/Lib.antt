@@ -11,6 +11,7 @@ pub mod ReadRows
 pub mod ReadSession
 pub mod Answers
 pub mod PrintedTexts
+pub mod Runs
 pub mod PrintedValues
 pub mod PrintedReplies
 pub mod TreeLines

@@ -107,6 +107,10 @@ fn keyword_in(keywords: &[Keyword], word: &[u8]) -> Option<Keyword>
 fn keyword_of(word: &[u8]) -> Option<Keyword>
     ensures { result ≡ keyword_of word.now }
 {
+    // Most lines are calls, so that word is tried first.
+    if word == b"call".as_slice() {
+        return Some(Keyword::Call(CallWord::Call));
+    }
     keyword_in(
         &[
             Keyword::Limits,

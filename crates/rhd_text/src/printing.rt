@@ -31,41 +31,55 @@ pub fn print_value(alloc: Global, value: &Dynamic, out: &mut Vec<u8>) -> Result<
 
 /// Puts the number of a refusal and its parts at the end.
 #[tactic(auto, unfolding(crate::specs::PrintedReplies::spelled_refusal))]
-fn push_refusal(alloc: Global, fault: &DeclFault, out: &mut Vec<u8>) -> Result<(), OutOfMemory>
+fn push_refusal(fault: &DeclFault, out: &mut Vec<u8>) -> Result<(), OutOfMemory>
     ensures { OnOk result (out.new.items ≡ out.old.items ++ spelled_refusal fault.now) }
 {
     match fault {
         DeclFault::UnknownNumber { number, length } => {
             out.extend_from_slice(b"4 ")?;
-            push_number(alloc, *number, out)?;
-            out.extend_from_slice(b" ")?;
-            push_number(alloc, *length, out)
+            push_number(*number, out)?;
+            out.push(b' ')?;
+            push_number(*length, out)
         }
         DeclFault::OutOfMemory => Ok(out.extend_from_slice(b"5")?),
     }
 }
 
-/// The lines of a reply, by themselves.
+/// Puts the lines of a reply at the end, or a part of them where memory runs out.
 #[tactic(auto, unfolding(crate::specs::PrintedReplies::printed))]
-fn lines_of(alloc: Global, reply: &Reply) -> Result<Vec<u8>, OutOfMemory>
-    ensures { IfOk result (λ lines. lines.items ≡ printed reply.now) }
+fn push_lines(alloc: Global, reply: &Reply, lines: &mut Vec<u8>) -> Result<(), OutOfMemory>
+    ensures { OnOk result (lines.new.items ≡ lines.old.items ++ printed reply.now) }
 {
-    let mut lines = Vec::with_capacity(alloc, MOST_LINES)?;
     match reply {
         Reply::Done => lines.extend_from_slice(b"ok\n")?,
         Reply::Made(module) => {
             lines.extend_from_slice(b"module ")?;
-            push_number(alloc, u64::from(module.0), &mut lines)?;
+            push_number(u64::from(module.0), lines)?;
             lines.push(b'\n')?;
         }
         Reply::Refused(fault) => {
             lines.extend_from_slice(b"refused ")?;
-            push_refusal(alloc, fault, &mut lines)?;
+            push_refusal(fault, lines)?;
             lines.push(b'\n')?;
         }
-        Reply::Called(node) => push_tree(alloc, node, &mut lines)?,
+        Reply::Called(node) => push_tree(alloc, node, lines)?,
     }
-    Ok(lines)
+    Ok(())
+}
+
+/// Puts the lines of a reply at the end, all or none, by way of a vector that they are made in.
+fn print_by(
+    alloc: Global,
+    reply: &Reply,
+    lines: &mut Vec<u8>,
+    out: &mut Vec<u8>,
+) -> Result<(), OutOfMemory>
+    ensures ok { OnOk result (out.new.items ≡ out.old.items ++ printed reply.now) }
+    ensures err { OnErr result (out.new.items ≡ out.old.items) }
+{
+    lines.clear();
+    push_lines(alloc, reply, lines)?;
+    Ok(out.extend_from_slice(lines)?)
 }
 
 /// Puts the lines of a reply at the end. Each ends with a line feed.
@@ -75,8 +89,8 @@ pub fn print_reply(alloc: Global, reply: &Reply, out: &mut Vec<u8>) -> Result<()
     ensures ok { OnOk result (out.new.items ≡ out.old.items ++ printed reply.now) }
     ensures err { OnErr result (out.new.items ≡ out.old.items) }
 {
-    let lines = lines_of(alloc, reply)?;
-    Ok(out.extend_from_slice(&lines)?)
+    let mut lines = Vec::with_capacity(alloc, MOST_LINES)?;
+    print_by(alloc, reply, &mut lines, out)
 }
 
 /// Puts the lines of replies at the end, in order.
@@ -86,8 +100,9 @@ pub fn print_replies(alloc: Global, replies: &[Reply], out: &mut Vec<u8>) -> Res
     ensures ok { OnOk result (out.new.items ≡ out.old.items ++ all_printed replies.now) }
     ensures err { OnErr result ((n : ℕ) × (n ≤ length replies.now) × (out.new.items ≡ out.old.items ++ all_printed (take n replies.now))) }
 {
+    let mut lines = Vec::with_capacity(alloc, MOST_LINES)?;
     for reply in replies {
-        print_reply(alloc, reply, out)?;
+        print_by(alloc, reply, &mut lines, out)?;
     }
     Ok(())
 }

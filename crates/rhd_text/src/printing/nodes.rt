@@ -18,7 +18,7 @@ fn push_types(wanted: &Text, got: &Text, out: &mut Vec<u8>) -> Result<(), OutOfM
     ensures { OnOk result (out.new.items ≡ out.old.items ++ (quoted wanted.now ++ codes " " ++ quoted got.now)) }
 {
     push_quoted(wanted.as_str(), out)?;
-    out.extend_from_slice(b" ")?;
+    out.push(b' ')?;
     push_quoted(got.as_str(), out)
 }
 
@@ -96,61 +96,62 @@ fn push_label(call: &CallRequest, out: &mut Vec<u8>) -> Result<(), OutOfMemory>
 }
 
 #[tactic(auto, unfolding(crate::specs::PrintedReplies::layer_text))]
-fn push_layer(alloc: Global, layer: Layer, out: &mut Vec<u8>) -> Result<(), OutOfMemory>
+fn push_layer(layer: Layer, out: &mut Vec<u8>) -> Result<(), OutOfMemory>
     ensures { OnOk result (out.new.items ≡ out.old.items ++ layer_text layer) }
 {
     match layer {
         Layer::Library(number) => {
             out.extend_from_slice(b"lib")?;
-            push_number(alloc, number, out)
+            push_number(number, out)
         }
         Layer::Global(number) => {
             out.extend_from_slice(b"global")?;
-            push_number(alloc, number, out)
+            push_number(number, out)
         }
         Layer::Builtin => Ok(out.extend_from_slice(b"builtin")?),
     }
 }
 
-fn push_marked(alloc: Global, mark: u8, number: u32, out: &mut Vec<u8>) -> Result<(), OutOfMemory>
+fn push_marked(mark: u8, number: u32, out: &mut Vec<u8>) -> Result<(), OutOfMemory>
     ensures { OnOk result (out.new.items ≡ out.old.items ++ (mark ∷ []) ++ decimal number) }
 {
     out.push(mark)?;
-    push_number(alloc, u64::from(number), out)
+    push_number(u64::from(number), out)
 }
 
 /// A native by its number, a script by that of its body.
 #[tactic(auto, unfolding(crate::specs::PrintedReplies::func_text))]
-fn push_func(alloc: Global, func: &RhaiFunc, out: &mut Vec<u8>) -> Result<(), OutOfMemory>
+fn push_func(func: &RhaiFunc, out: &mut Vec<u8>) -> Result<(), OutOfMemory>
     ensures { OnOk result (out.new.items ≡ out.old.items ++ func_text func.now) }
 {
     match func {
-        RhaiFunc::Pure { func, .. } => push_marked(alloc, b'#', func.0, out),
-        RhaiFunc::Method { func, .. } => push_marked(alloc, b'#', func.0, out),
-        RhaiFunc::Script { fn_def, .. } => push_marked(alloc, b'@', fn_def.def().body.0, out),
+        RhaiFunc::Pure { func, .. } => push_marked(b'#', func.0, out),
+        RhaiFunc::Method { func, .. } => push_marked(b'#', func.0, out),
+        RhaiFunc::Script { fn_def, .. } => push_marked(b'@', fn_def.def().body.0, out),
     }
 }
 
 #[tactic(auto, unfolding(crate::specs::PrintedReplies::pick_text))]
-fn push_pick(alloc: Global, pick: &Option<Pick>, out: &mut Vec<u8>) -> Result<(), OutOfMemory>
+fn push_pick(pick: &Option<Pick>, out: &mut Vec<u8>) -> Result<(), OutOfMemory>
     ensures { OnOk result (out.new.items ≡ out.old.items ++ pick_text pick.now) }
 {
     match pick {
         None => Ok(out.extend_from_slice(b"-")?),
         Some(pick) => {
-            push_layer(alloc, pick.layer, out)?;
-            push_func(alloc, &pick.func, out)
+            push_layer(pick.layer, out)?;
+            push_func(&pick.func, out)
         }
     }
 }
 
+/// Whose answer it is, between two spaces.
 fn push_whose(whose: Whose, out: &mut Vec<u8>) -> Result<(), OutOfMemory>
-    ensures { OnOk result (out.new.items ≡ out.old.items ++ whose_text whose) }
+    ensures { OnOk result (out.new.items ≡ out.old.items ++ codes " " ++ whose_text whose ++ codes " ") }
 {
     match whose {
-        Whose::Call => Ok(out.extend_from_slice(b"call")?),
-        Whose::Called => Ok(out.extend_from_slice(b"called")?),
-        Whose::Host => Ok(out.extend_from_slice(b"host")?),
+        Whose::Call => Ok(out.extend_from_slice(b" call ")?),
+        Whose::Called => Ok(out.extend_from_slice(b" called ")?),
+        Whose::Host => Ok(out.extend_from_slice(b" host ")?),
     }
 }
 
@@ -206,11 +207,9 @@ fn push_call_line(alloc: Global, node: &CallNode, out: &mut Vec<u8>) -> Result<(
     ensures { OnOk result (out.new.items ≡ out.old.items ++ call_line (out-CallNode node.now).call (out-CallNode node.now).pick (out-CallNode node.now).whose (out-CallNode node.now).answer (out-CallNode node.now).first_after (out-CallNode node.now).printed) }
 {
     push_label(&node.call, out)?;
-    out.extend_from_slice(b" ")?;
-    push_pick(alloc, &node.pick, out)?;
-    out.extend_from_slice(b" ")?;
+    out.push(b' ')?;
+    push_pick(&node.pick, out)?;
     push_whose(node.whose, out)?;
-    out.extend_from_slice(b" ")?;
     push_result(alloc, &node.answer, out)?;
     push_after(alloc, &node.first_after, out)?;
     push_shown(&node.printed, out)

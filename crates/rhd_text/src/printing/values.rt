@@ -48,34 +48,29 @@ fn push_pointer_head(typ: FnPtrType, out: &mut Vec<u8>) -> Result<(), OutOfMemor
     }
 }
 
-fn push_pointer_number(alloc: Global, typ: FnPtrType, out: &mut Vec<u8>) -> Result<(), OutOfMemory>
+fn push_pointer_number(typ: FnPtrType, out: &mut Vec<u8>) -> Result<(), OutOfMemory>
     ensures { OnOk result (out.new.items ≡ out.old.items ++ pointer_number typ) }
 {
     match typ {
         FnPtrType::Normal => Ok(()),
         FnPtrType::Script { num_params } => {
             out.push(b' ')?;
-            push_number(alloc, num_params, out)
+            push_number(num_params, out)
         }
         FnPtrType::Native(id) => {
             out.push(b' ')?;
-            push_number(alloc, u64::from(id.0), out)
+            push_number(u64::from(id.0), out)
         }
     }
 }
 
-fn push_custom(
-    alloc: Global,
-    number: u32,
-    payload: i64,
-    out: &mut Vec<u8>,
-) -> Result<(), OutOfMemory>
+fn push_custom(number: u32, payload: i64, out: &mut Vec<u8>) -> Result<(), OutOfMemory>
     ensures { OnOk result (out.new.items ≡ out.old.items ++ spelled_kind (custom number payload)) }
 {
     out.extend_from_slice(b"custom(")?;
-    push_number(alloc, u64::from(number), out)?;
+    push_number(u64::from(number), out)?;
     out.push(b' ')?;
-    push_int(alloc, payload, out)?;
+    push_int(payload, out)?;
     Ok(out.push(b')')?)
 }
 
@@ -96,7 +91,7 @@ fn push_kind(alloc: Global, value: &Value, out: &mut Vec<u8>) -> Result<(), OutO
     match value {
         Value::Unit => Ok(out.extend_from_slice(b"()")?),
         Value::Bool(value) => push_bool(*value, out),
-        Value::Int(value) => push_int(alloc, *value, out),
+        Value::Int(value) => push_int(*value, out),
         Value::Char(value) => push_char(alloc, *value, out),
         Value::Text(text) => push_quoted(text.as_str(), out),
         Value::Array(values) => {
@@ -110,7 +105,7 @@ fn push_kind(alloc: Global, value: &Value, out: &mut Vec<u8>) -> Result<(), OutO
             Ok(out.push(b'}')?)
         }
         Value::FnPtr(ptr) => push_pointer(alloc, ptr, out),
-        Value::Custom(number, payload) => push_custom(alloc, *number, *payload, out),
+        Value::Custom(number, payload) => push_custom(*number, *payload, out),
     }
 }
 
@@ -120,7 +115,7 @@ fn push_pointer(alloc: Global, ptr: &FnPtr, out: &mut Vec<u8>) -> Result<(), Out
 {
     push_pointer_head(ptr.typ, out)?;
     push_quoted(ptr.name.as_str(), out)?;
-    push_pointer_number(alloc, ptr.typ, out)?;
+    push_pointer_number(ptr.typ, out)?;
     push_spaced(alloc, ptr.curry.as_slice(), out)?;
     Ok(out.push(b')')?)
 }

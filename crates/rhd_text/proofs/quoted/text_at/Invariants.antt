@@ -1,6 +1,6 @@
 use Rattle.std.proofs.Common.{◌≡◌, false, length}
 use Rattle.rhd_text.specs.Reading.{text_at}
-use Rattle.rhd_text.proofs.Loops.{with_text}
+use Rattle.rhd_text.specs.Runs.{with_text}
 use Rattle.rhd_text.proofs.quoted.text_at.Given as goal
 
 abbrev pub invariant-loop-rest : goal.invariant-loop-rest
