@@ -36,8 +36,7 @@ use crate::refusal::refusal;
 use crate::search::{find, key_parts, script_key_of, typed_key_of};
 use crate::session::Session;
 use rhd_func::{
-    Bodies, CallDone, CallRequest, CallShape, Carry, Host, HostAnswer, NativeCallContext,
-    NativeStep, RhaiFunc,
+    Bodies, CallDone, CallRequest, CallShape, Carry, Host, HostAnswer, NativeStep, RhaiFunc,
 };
 use rhd_module::Key;
 use rhd_value::{EvalAltResult, OutOfMemory, Text};
@@ -335,7 +334,16 @@ impl Session {
     {
         let done = child.done(alloc)?;
         let carry = frame.carry.dup(alloc)?;
-        self.next_step::<H, B>(alloc, &frame.work, carry, done, bodies)
+        let work = &frame.work;
+        self.go_on::<H, B>(
+            alloc,
+            &work.pick.func,
+            &work.call,
+            work.level,
+            carry,
+            done,
+            bodies,
+        )
     }
 
     /// The first step of a function on the arguments of its call.
@@ -351,81 +359,67 @@ impl Session {
         ensures { (begun : ℕ) (host : H) → IfOk result (λ step. Starts (objects_of allows_call allows_resume B.allows_start B.allows_next H.allows_missing (natives_of self.now)) (context (frame_of self.now) level (plan_of call.now)) pick.now.func (received_by (plan_of call.now) pick.now) (moment begun host bodies.old) step (moment begun host bodies.new)) }
     {
         let received = receive(alloc, &pick.func, shape_of(call))?;
-        let ctx = context(alloc, name_of(call), position_of(call), level)?;
-        self.start::<H, B>(alloc, &pick.func, &ctx, received, bodies)
+        self.start::<H, B>(alloc, &pick.func, call, level, received, bodies)
     }
 
-    /// The next step of a function, after the answer to its request.
-    fn next_step<H: Host, B: Bodies>(
-        &self,
-        alloc: Global,
-        work: &Work,
-        carry: Carry,
-        done: CallDone,
-        bodies: &mut B,
-    ) -> Result<NativeStep, OutOfMemory>
-        requires { func_held (length (natives_of self.now).items.items) work.now.pick.func ≡ true }
-        ensures { (begun : ℕ) (host : H) → IfOk result (λ step. Resumes (objects_of allows_call allows_resume B.allows_start B.allows_next H.allows_missing (natives_of self.now)) (context (frame_of self.now) work.now.level (plan_of work.now.call)) work.now.pick.func carry done (moment begun host bodies.old) step (moment begun host bodies.new)) }
-    {
-        let ctx = context(
-            alloc,
-            name_of(&work.call),
-            position_of(&work.call),
-            work.level,
-        )?;
-        self.go_on::<H, B>(alloc, &work.pick.func, &ctx, carry, done, bodies)
-    }
-
-    /// The first step of a function on what it received.
+    /// The first step of a function on what it received. A native that isn't handed the context
+    /// needs none.
     fn start<H: Host, B: Bodies>(
         &self,
         alloc: Global,
         func: &RhaiFunc,
-        ctx: &NativeCallContext,
+        call: &CallRequest,
+        level: u32,
         received: Received,
         bodies: &mut B,
     ) -> Result<NativeStep, OutOfMemory>
         requires { func_held (length (natives_of self.now).items.items) func.now ≡ true }
-        ensures { (begun : ℕ) (host : H) → IfOk result (λ step. Starts (objects_of allows_call allows_resume B.allows_start B.allows_next H.allows_missing (natives_of self.now)) ctx.now func.now (record { first = received.first; args = received.args }) (moment begun host bodies.old) step (moment begun host bodies.new)) }
+        ensures { (begun : ℕ) (host : H) → IfOk result (λ step. Starts (objects_of allows_call allows_resume B.allows_start B.allows_next H.allows_missing (natives_of self.now)) (context (frame_of self.now) level (plan_of call.now)) func.now (record { first = received.first; args = received.args }) (moment begun host bodies.old) step (moment begun host bodies.new)) }
     {
         let Received { first, args } = received;
         match func {
-            RhaiFunc::Script { fn_def, .. } => bodies.start(alloc, fn_def.def(), ctx, first, args),
+            RhaiFunc::Script { fn_def, .. } => {
+                let ctx = context(alloc, call, level)?;
+                bodies.start(alloc, fn_def.def(), &ctx, first, args)
+            }
             RhaiFunc::Pure { func: id, .. } => {
-                let ctx = context_if(func.has_context(), ctx);
-                self.natives.start(alloc, *id, ctx, first, args)
+                let ctx = context_if(alloc, func.has_context(), call, level)?;
+                self.natives.start(alloc, *id, ctx.as_ref(), first, args)
             }
             RhaiFunc::Method { func: id, .. } => {
-                let ctx = context_if(func.has_context(), ctx);
-                self.natives.start(alloc, *id, ctx, first, args)
+                let ctx = context_if(alloc, func.has_context(), call, level)?;
+                self.natives.start(alloc, *id, ctx.as_ref(), first, args)
             }
         }
     }
 
-    /// The next step of a function in a context.
+    /// The next step of a function, after the answer to its request. A native that isn't handed the
+    /// context needs none.
     fn go_on<H: Host, B: Bodies>(
         &self,
         alloc: Global,
         func: &RhaiFunc,
-        ctx: &NativeCallContext,
+        call: &CallRequest,
+        level: u32,
         carry: Carry,
         done: CallDone,
         bodies: &mut B,
     ) -> Result<NativeStep, OutOfMemory>
         requires { func_held (length (natives_of self.now).items.items) func.now ≡ true }
-        ensures { (begun : ℕ) (host : H) → IfOk result (λ step. Resumes (objects_of allows_call allows_resume B.allows_start B.allows_next H.allows_missing (natives_of self.now)) ctx.now func.now carry done (moment begun host bodies.old) step (moment begun host bodies.new)) }
+        ensures { (begun : ℕ) (host : H) → IfOk result (λ step. Resumes (objects_of allows_call allows_resume B.allows_start B.allows_next H.allows_missing (natives_of self.now)) (context (frame_of self.now) level (plan_of call.now)) func.now carry done (moment begun host bodies.old) step (moment begun host bodies.new)) }
     {
         match func {
             RhaiFunc::Script { fn_def, .. } => {
-                bodies.resume(alloc, fn_def.def(), ctx, carry, done)
+                let ctx = context(alloc, call, level)?;
+                bodies.resume(alloc, fn_def.def(), &ctx, carry, done)
             }
             RhaiFunc::Pure { func: id, .. } => {
-                let ctx = context_if(func.has_context(), ctx);
-                self.natives.resume(alloc, *id, ctx, carry, done)
+                let ctx = context_if(alloc, func.has_context(), call, level)?;
+                self.natives.resume(alloc, *id, ctx.as_ref(), carry, done)
             }
             RhaiFunc::Method { func: id, .. } => {
-                let ctx = context_if(func.has_context(), ctx);
-                self.natives.resume(alloc, *id, ctx, carry, done)
+                let ctx = context_if(alloc, func.has_context(), call, level)?;
+                self.natives.resume(alloc, *id, ctx.as_ref(), carry, done)
             }
         }
     }

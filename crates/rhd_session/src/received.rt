@@ -1,17 +1,17 @@
 //! What the function that is picked receives, and what a call shows of its first argument.
 
 ghost use Rattle.std.specs.Prelude.{◌≡◌, ◌∷◌, if◌then◌else◌, IfOk, None, Some};
-ghost use Rattle.std.specs.Option.{option_copied};
 ghost use Rattle.rhd_value.specs.Tree.{copied};
 ghost use Rattle.rhd_value.specs.Firsts.{first_and_rest};
 ghost use Rattle.rhd_func.specs.Shapes.{first_given, given, all_args, is_method_shape};
 ghost use Rattle.rhd_session.specs.Received.{received, manner_of, has_the_given, first_after, first_received, is_read_only};
 ghost use Rattle.rhd_session.specs.Entered.{context, context_if};
-ghost use Rattle.rhd_session.specs.Plans.{Plan};
+ghost use Rattle.rhd_session.specs.Plans.{plan_of};
 ghost use Rattle.rhd_session.specs.Start.{start_frame};
 
+use crate::plan::{name_of, position_of};
 use rhd_func::{CallRequest, CallShape, NativeCallContext, RhaiFunc};
-use rhd_value::{Dynamic, OutOfMemory, Position, Text, Value, Values};
+use rhd_value::{Dynamic, OutOfMemory, Value, Values};
 use std::alloc::Global;
 
 /// The arguments of a function: one by reference, and the others.
@@ -164,25 +164,32 @@ pub fn first_after(
 /// What a function may know of a call that a command makes.
 pub fn context(
     alloc: Global,
-    name: &Text,
-    pos: Position,
+    call: &CallRequest,
     level: u32,
 ) -> Result<NativeCallContext, OutOfMemory>
-    ensures { (plan : Plan) → plan.name ≡ name.now → plan.pos ≡ pos → IfOk result (λ ctx. ctx ≡ context start_frame level plan) }
+    ensures { IfOk result (λ ctx. ctx ≡ context start_frame level (plan_of call.now)) }
 {
     Ok(NativeCallContext {
-        name: name.dup(alloc)?,
+        name: name_of(call).dup(alloc)?,
         source: None,
         call_source: None,
-        pos,
+        pos: position_of(call),
         level,
         tag: Dynamic::from(Value::Unit),
     })
 }
 
-/// The context, for a function that is handed it.
-pub fn context_if(has_context: bool, ctx: &NativeCallContext) -> Option<&NativeCallContext>
-    ensures { option_copied result ≡ context_if has_context ctx.now }
+/// The context, for a native that is handed it.
+pub fn context_if(
+    alloc: Global,
+    has_context: bool,
+    call: &CallRequest,
+    level: u32,
+) -> Result<Option<NativeCallContext>, OutOfMemory>
+    ensures { IfOk result (λ ctx. ctx ≡ context_if has_context (context start_frame level (plan_of call.now))) }
 {
-    if has_context { Some(ctx) } else { None }
+    if !has_context {
+        return Ok(None);
+    }
+    Ok(Some(context(alloc, call, level)?))
 }

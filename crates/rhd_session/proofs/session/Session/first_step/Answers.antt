@@ -1,4 +1,4 @@
-use Rattle.std.proofs.Common.{sym, ◌∙◌}
+use Rattle.std.proofs.Common.{refl, ◌∙◌}
 use Rattle.rhd_session.specs.Of.{frame_of}
 use Rattle.rhd_session.specs.Entered.{context}
 use Rattle.rhd_session.specs.Plans.{plan_of}
@@ -12,5 +12,5 @@ returns g c = λ begun host.
     let plan = plan_of c.args.call.now in
     let first = c.in_ok-received.ensures.first ∙ (λ i. (received (manner_of c.args.pick.now.func) (c.shape_of.ensures i)).first) in
     let args = c.in_ok-received.ensures.args ∙ (λ i. (received (manner_of c.args.pick.now.func) (c.shape_of.ensures i)).args) in
-    starts_on _ c.start.result c.args.pick.now.func c.in_ok-ctx.ctx (context (frame_of c.args.self.now) c.args.level plan) (record { first = c.in_ok-received.received.first; args = c.in_ok-received.received.args }) (received_by plan c.args.pick.now) _ _
-    (c.in_ok-ctx.ensures plan (sym c.name_of.ensures) (sym c.position_of.ensures)) first args (c.start.ensures begun host)
+    starts_on _ c.start.result c.args.pick.now.func (context (frame_of c.args.self.now) c.args.level plan) (context (frame_of c.args.self.now) c.args.level plan) (record { first = c.in_ok-received.received.first; args = c.in_ok-received.received.args }) (received_by plan c.args.pick.now) _ _
+    refl first args (c.start.ensures begun host)

@@ -1,25 +1,31 @@
 use Rattle.std.proofs.Common.{ap, ◌∙◌, Bool}
 use Rattle.rhd_func.specs.Funcs.{native_of}
-use Rattle.rhd_session.specs.Entered.{context_if}
+use Rattle.rhd_session.specs.Entered.{context, context_if}
 use Rattle.rhd_session.specs.Objects.{objects_of}
+use Rattle.rhd_session.specs.Of.{frame_of}
+use Rattle.rhd_session.specs.Plans.{plan_of}
 use Rattle.rhd_session.specs.World.{moment}
-use Rattle.rhd_session.proofs.Stepped.{native_resumed, body_resumed}
+use Rattle.rhd_session.proofs.Stepped.{native_resumed, body_resumed, resumes_in}
 use Rattle.rhd_session.proofs.session.Session.go_on.Goals as goal
 
-pub returns-in-Script : goal.returns-in-Script
+pub returns-in_ok-ctx-in-Script : goal.returns-in_ok-ctx-in-Script
 unfolding objects_of
-returns-in-Script g c = λ begun host.
-    body_resumed _ c.resume.result c.args.func.now c.in-Script.fn_def c.def.result.now c.in-Script.env c.args.ctx.now c.args.carry c.args.done (moment begun host c.args.bodies.now) c.resume.new.self
-    c.in-Script.is c.def.ensures c.resume.ensures
+returns-in_ok-ctx-in-Script g c = λ begun host.
+    resumes_in _ c.resume.result c.args.func.now c.in_ok-ctx-in-Script.ctx (context (frame_of c.args.self.now) c.args.level (plan_of c.args.call.now)) c.args.carry c.args.done _ _
+    c.in_ok-ctx-in-Script.ensures
+    (body_resumed _ c.resume.result c.args.func.now c.in-Script.fn_def c.def.result.now c.in-Script.env c.in_ok-ctx-in-Script.ctx c.args.carry c.args.done (moment begun host c.args.bodies.now) c.resume.new.self
+    c.in-Script.is c.def.ensures c.resume.ensures)
 
-pub returns-in-Pure : goal.returns-in-Pure
+pub returns-in_ok-ctx-in-Pure : goal.returns-in_ok-ctx-in-Pure
 unfolding objects_of
-returns-in-Pure g c = λ begun host.
-    native_resumed _ c.resume-in-Pure.result c.args.func.now c.args.ctx.now c.args.carry c.args.done c.in-Pure.id _ (moment begun host c.args.bodies.now)
-    (ap native_of c.in-Pure.is) (c.context_if-ctx.ensures ∙ ap (λ (b : Bool). context_if b c.args.ctx.now) c.has_context.ensures) c.resume-in-Pure.ensures
+returns-in_ok-ctx-in-Pure g c = λ begun host.
+    let ctx = context (frame_of c.args.self.now) c.args.level (plan_of c.args.call.now) in
+    native_resumed _ c.resume-in-Pure.result c.args.func.now ctx c.args.carry c.args.done c.in-Pure.id _ (moment begun host c.args.bodies.now)
+    (ap native_of c.in-Pure.is) (c.as_ref.ensures.value ∙ c.in_ok-ctx-in-Pure.ensures ∙ ap (λ (b : Bool). context_if b ctx) c.has_context.ensures) c.resume-in-Pure.ensures
 
-pub returns-in-Method : goal.returns-in-Method
+pub returns-in_ok-ctx-in-Method : goal.returns-in_ok-ctx-in-Method
 unfolding objects_of
-returns-in-Method g c = λ begun host.
-    native_resumed _ c.resume-in-Method.result c.args.func.now c.args.ctx.now c.args.carry c.args.done c.in-Method.id _ (moment begun host c.args.bodies.now)
-    (ap native_of c.in-Method.is) (c.context_if-ctx-in-Method.ensures ∙ ap (λ (b : Bool). context_if b c.args.ctx.now) c.has_context-in-Method.ensures) c.resume-in-Method.ensures
+returns-in_ok-ctx-in-Method g c = λ begun host.
+    let ctx = context (frame_of c.args.self.now) c.args.level (plan_of c.args.call.now) in
+    native_resumed _ c.resume-in-Method.result c.args.func.now ctx c.args.carry c.args.done c.in-Method.id _ (moment begun host c.args.bodies.now)
+    (ap native_of c.in-Method.is) (c.as_ref-in-Method.ensures.value ∙ c.in_ok-ctx-in-Method.ensures ∙ ap (λ (b : Bool). context_if b ctx) c.has_context-in-Method.ensures) c.resume-in-Method.ensures
