@@ -1,6 +1,8 @@
 -- What each step of the machine makes of a call, and of the stack.
 use Rattle.std.proofs.Common.{◌≡◌, ℕ, ◌+◌, ◌<◌, ◌≤◌, Bool, true, false, List, [], ◌∷◌, ◌++◌, refl, sym, subst, ap, ◌∙◌, arith, length}
-use Rattle.std.specs.Prelude.{Option, Some}
+use Rattle.std.specs.Prelude.{Option, Some, Result, IfOk}
+use Rattle.std.specs.Global.{Box}
+use Rattle.std.proofs.lemmas.Result.{IfOk-weaker}
 use Rattle.rhd_value.specs.Tree.{Tree}
 use Rattle.rhd_value.specs.declared.fault.EvalAltResult.{EvalAltResult}
 use Rattle.std.proofs.lemmas.List.{same_from_push, length_push}
@@ -12,43 +14,48 @@ use Rattle.rhd_session.specs.Engine.{EngineLists, Frame}
 use Rattle.rhd_session.specs.World.{World, Objects, Moment, one_begun}
 use Rattle.rhd_session.specs.declared.pick.Pick.{Pick}
 use Rattle.rhd_session.specs.declared.node.CallNode.{CallNode}
-use Rattle.rhd_session.specs.declared.machine.Work.{Work}
 use Rattle.rhd_session.specs.declared.machine.Suspended.{Suspended}
+use Rattle.rhd_session.specs.declared.machine.Asking.{Asking}
 use Rattle.rhd_session.specs.declared.machine.Outcome.{Outcome}
 use Rattle.rhd_session.specs.declared.machine.Outcome.TheVariants.{Waiting, Finished}
 use Rattle.rhd_session.specs.declared.machine.Hand.{Hand}
 use Rattle.rhd_session.specs.declared.machine.Hand.TheVariants.{Asked, Answered}
 use Rattle.rhd_session.specs.Held.{func_held, all_held, builtins_held}
-use Rattle.rhd_session.specs.Nodes.{nodes_in}
 use Rattle.rhd_session.specs.Plans.{Plan, plan_of}
 use Rattle.rhd_session.specs.declared.ends.End.{End}
 use Rattle.rhd_session.specs.declared.limits.Limits.{Limits}
 use Rattle.rhd_session.specs.declared.limits.Printers.{Printers}
 use Rattle.rhd_session.specs.Ends.{done, handed_on, end_of}
-use Rattle.rhd_session.specs.Seen.{seen, begun_node, unbegun_node, cut_end, done_of}
+use Rattle.rhd_session.specs.Seen.{Seen, seen, begun_node, begun_call, is_begun, unbegun_node, ended_as, joined, closed, done_of}
 use Rattle.rhd_session.specs.Decisions.{runs, decision}
 use Rattle.rhd_session.specs.Entered.{context, entered}
 use Rattle.rhd_session.specs.Steps.{Starts, Resumes}
 use Rattle.rhd_session.specs.Runs.{Runs, Steps, received_by, not_begun, finished, cut_short, one_more}
-use Rattle.rhd_session.specs.Waits.{Kept, kept, keeping, Open, function_waits, Settled, asks, ends_with, Comes_to, it_waits, it_is_answered, Waits, lowest, above, Holds, holds_request, holds_answer, Going, Cutting, Put, put_frame, put_node}
+use Rattle.rhd_session.specs.Waits.{Kept, keeping, under_way, outcome_of, Open, function_waits, Settled, asks, ends_with, Comes_to, it_waits, it_is_answered, Waits, lowest, above, Holds, holds_request, holds_answer, Going, Cutting, Put, put_frame, put_node}
 use Rattle.rhd_session.proofs.Found.{runs_within, runs_plan, runs_is_held}
 
 -- what each step makes of a call under way
-pub settled_done : (e : EngineLists) (limits : Limits) (printers : Printers) (work : Work) (step : NativeStep) (answer : Tree) (back : Option Tree) (end : End) (node : CallNode) → e.limits ≡ limits → e.printers ≡ printers → step ≡ Done answer back →
-    end ≡ done limits printers (plan_of work.call) work.pick back answer →
-    seen node ≡ begun_node work.call work.level (Some work.pick) work.carries (nodes_in work.children) end → Settled e work step (Finished node)
+pub settled_done : (e : EngineLists) (k : Kept) (limits : Limits) (printers : Printers) (old new : CallNode) (pick : Pick) (step : NativeStep) (answer : Tree) (back : Option Tree) (end : End) → e.limits ≡ limits → e.printers ≡ printers → seen old ≡ under_way k → pick ≡ k.pick → step ≡ Done answer back →
+    end ≡ done limits printers (plan_of (seen old).call) pick back answer →
+    seen new ≡ ended_as (seen old) (Some pick) end → Settled e k step (Finished new)
 unfolding end_of
-settled_done e limits printers work step answer back end node l p is h s =
-    ends_with (ap (end_of e (plan_of work.call) work.pick) is ∙ ap Some ((λ i. done (l i) (p i) (plan_of work.call) work.pick back answer) ∙ sym h)) s
+settled_done e k limits printers old new pick step answer back end l p o q is h s =
+    ends_with (ap (end_of e (plan_of k.call) k.pick) is ∙ ap Some ((λ i. done (l i) (p i) (plan_of k.call) k.pick back answer) ∙ sym (h ∙ (λ i. done limits printers (plan_of (o i).call) (q i) back answer))))
+    (s ∙ (λ i. ended_as (o i) (Some (q i)) end))
 
-pub settled_failed : (e : EngineLists) (work : Work) (step : NativeStep) (fault : EvalAltResult) (back : Option Tree) (end : End) (node : CallNode) → step ≡ Failed fault back →
-    end ≡ handed_on (plan_of work.call) work.pick back fault →
-    seen node ≡ begun_node work.call work.level (Some work.pick) work.carries (nodes_in work.children) end → Settled e work step (Finished node)
+pub settled_failed : (e : EngineLists) (k : Kept) (old new : CallNode) (pick : Pick) (step : NativeStep) (fault : EvalAltResult) (back : Option Tree) (end : End) → seen old ≡ under_way k → pick ≡ k.pick → step ≡ Failed fault back →
+    end ≡ handed_on (plan_of (seen old).call) pick back fault →
+    seen new ≡ ended_as (seen old) (Some pick) end → Settled e k step (Finished new)
 unfolding end_of
-settled_failed e work step fault back end node is h s = ends_with (ap (end_of e (plan_of work.call) work.pick) is ∙ ap Some (sym h)) s
+settled_failed e k old new pick step fault back end o q is h s =
+    ends_with (ap (end_of e (plan_of k.call) k.pick) is ∙ ap Some (sym (h ∙ (λ i. handed_on (plan_of (o i).call) (q i) back fault))))
+    (s ∙ (λ i. ended_as (o i) (Some (q i)) end))
 
-pub settled_ask : (e : EngineLists) (work : Work) (step : NativeStep) (request : CallRequest) (carry : Carry) (frame : Suspended) → step ≡ Ask request carry → frame.work ≡ work → frame.carry ≡ carry → Settled e work step (Waiting frame request)
-settled_ask e work step request carry frame is w k = subst (λ (x : NativeStep). Settled e work x (Waiting frame request)) (sym is) (asks w k)
+pub settled_ask : (e : EngineLists) (k : Kept) (node : CallNode) (pick : Pick) (step : NativeStep) (request : CallRequest) (carry : Carry) (asking : Box Asking) → seen node ≡ under_way k → pick ≡ k.pick → step ≡ Ask request carry →
+    asking.value ≡ record { pick = pick; request = request; carry = carry } → Settled e k step (outcome_of node (Some asking))
+settled_ask e k node pick step request carry asking o q is h =
+    subst (λ (x : NativeStep). Settled e k x (outcome_of node (Some asking))) (sym (is ∙ ap (λ (a : Asking). Ask a.request carry) (sym h)))
+    (asks o (ap (λ (a : Asking). a.pick) h ∙ q) (ap (λ (a : Asking). a.carry) h))
 
 -- a step ends equal plans with equal picks in the same way
 ends_same : (e : EngineLists) (plan same : Plan) (pick equal : Pick) (step : NativeStep) → plan ≡ same → pick ≡ equal → end_of e plan pick step ≡ end_of e same equal step
@@ -63,47 +70,51 @@ puts_node old outcome node is = subst (λ (x : Outcome). Put old x (Answered nod
 
 module _ {H B : Type 0} (o : Objects H B) (w : World) where
   -- a step of a call that is under way
-  pub settled : {f : Frame} {level : ℕ} {call : CallRequest} {before started after : Moment H B} {plan : Plan} {pick : Pick} {first step : NativeStep} {carries : List Carry} {children : List CallNode} {work : Work} {outcome : Outcome} →
-      kept work ≡ keeping call level pick carries children →
+  pub settled : {f : Frame} {level : ℕ} {call : CallRequest} {before started after : Moment H B} {plan : Plan} {pick : Pick} {first step : NativeStep} {carries : List Carry} {children : List CallNode} {outcome : Outcome} →
       before.begun < w.engine.limits.budget →
       decision w.engine f level call ≡ runs plan pick →
       Starts o (context f level plan) pick.func (received_by plan pick) (one_begun before) first started →
       Steps o w f level plan pick first carries children step started after →
-      Settled w.engine work step outcome →
+      Settled w.engine (keeping call level pick carries children) step outcome →
       Comes_to o w f level call outcome before after
-  settled {f} {level} {call} {before} {started} {after} {plan} {pick} {first} {step} {carries} {children} k b d s steps (asks {request = request} {carry = carry} {frame = frame} is carry_is) =
-      it_waits (function_waits {frame = frame} (ap kept is ∙ k) b d s (subst (λ (c : Carry). Steps o w f level plan pick first carries children (Ask request c) started after) (sym carry_is) steps))
-  settled {f} {level} {call} {plan = plan} {pick = pick} {step = step} {work = work} k b d s steps (ends_with {end = end} e h) =
-      it_is_answered (finished b d s steps
-      (ends_same w.engine plan (plan_of work.call) pick work.pick step (runs_plan w.engine f level call plan pick d ∙ ap plan_of (sym (ap (λ (x : Kept). x.call) k))) (sym (ap (λ (x : Kept). x.pick) k)) ∙ e)
-      (h ∙ ap (λ (x : Kept). begun_node x.call x.level (Some x.pick) x.carries x.children end) k))
+  settled {f} {level} {call} {before} {started} {after} {plan} {pick} {first} {step} {carries} {children} b d s steps (asks {request = request} {carry = carry} {frame = frame} is pick_is carry_is) =
+      it_waits (function_waits {frame = frame} is pick_is b d s (subst (λ (c : Carry). Steps o w f level plan pick first carries children (Ask request c) started after) (sym carry_is) steps))
+  settled {f} {level} {call} {plan = plan} {pick = pick} {step = step} b d s steps (ends_with {end = end} e h) =
+      it_is_answered (finished b d s steps (ends_same w.engine plan (plan_of call) pick pick step (runs_plan w.engine f level call plan pick d) refl ∙ e) h)
+
+  -- what becomes of a call that was just begun
+  pub begins_as : (f : Frame) (level : ℕ) (call : CallRequest) (node : CallNode) (outcome same : Outcome) (before after : Moment H B) → seen node ≡ begun_call call level → outcome ≡ same →
+      (is_begun (seen node) → Comes_to o w f (seen node).level (seen node).call outcome before after) → Comes_to o w f level call same before after
+  begins_as f level call node outcome same before after is e comes =
+      subst (λ (x : Outcome). Comes_to o w f level call x before after) e
+      (subst (λ (s : Seen). Comes_to o w f s.level s.call outcome before after) is (comes (is ∙ sym (ap (λ (s : Seen). begun_call s.call s.level) is))))
 
   -- the next step of a call, after the answer to its request
-  pub resumes_with : (base inner : Frame) (n level : ℕ) (call waited : CallRequest) (before mid answered after : Moment H B) (frame : Suspended) (child : CallNode) (work : Work) (step : NativeStep) (outcome : Outcome) →
+  pub resumes_with : {E : Type 0} (base inner : Frame) (n level : ℕ) (call waited : CallRequest) (before mid answered after : Moment H B) (frame : Suspended) (child : CallNode) (step : NativeStep) (r : Result Outcome E) →
       Open o w (entered base n) level call frame inner waited before mid →
       Runs o w inner (level + 1) waited child mid answered false →
-      Resumes o (context base frame.work.level (plan_of frame.work.call)) frame.work.pick.func frame.carry (done_of child) answered step after →
-      kept work ≡ keeping frame.work.call frame.work.level frame.work.pick (frame.work.carries ++ frame.carry ∷ []) (nodes_in frame.work.children ++ child ∷ []) →
-      Settled w.engine work step outcome →
-      Comes_to o w (entered base n) level call outcome before after
-  resumes_with base inner n level call waited before mid answered after frame child work step outcome opened r next works q = goes_on base (entered base n) refl opened r next works q
+      Resumes o (context base (seen frame.node).level (plan_of (seen frame.node).call)) frame.pick.func frame.carry (done_of child) answered step after →
+      ((k : Kept) → joined (seen frame.node) frame.carry child ≡ under_way k → frame.pick ≡ k.pick → IfOk r (λ outcome. Settled w.engine k step outcome)) →
+      IfOk r (λ outcome. Comes_to o w (entered base n) level call outcome before after)
+  resumes_with base inner n level call waited before mid answered after frame child step r opened ran next settles = goes_on base (entered base n) refl r opened ran next settles
     where
-      goes_on : (base f : Frame) → f ≡ entered base f.level → {inner : Frame} {level : ℕ} {call waited : CallRequest} {before mid answered after : Moment H B} {frame : Suspended} {child : CallNode} {work : Work} {step : NativeStep} {outcome : Outcome} →
+      goes_on : (base f : Frame) → f ≡ entered base f.level → {E : Type 0} {inner : Frame} {level : ℕ} {call waited : CallRequest} {before mid answered after : Moment H B} {frame : Suspended} {child : CallNode} {step : NativeStep} (r : Result Outcome E) →
           Open o w f level call frame inner waited before mid →
           Runs o w inner (level + 1) waited child mid answered false →
-          Resumes o (context base frame.work.level (plan_of frame.work.call)) frame.work.pick.func frame.carry (done_of child) answered step after →
-          kept work ≡ keeping frame.work.call frame.work.level frame.work.pick (frame.work.carries ++ frame.carry ∷ []) (nodes_in frame.work.children ++ child ∷ []) →
-          Settled w.engine work step outcome →
-          Comes_to o w f level call outcome before after
-      goes_on base f is {level = level} {call = call} {answered = answered} {after = after} {frame = frame} {child = child} {step = step} (function_waits {plan = plan} {pick = pick} {carries = carries} {children = children} k b d s steps) r next works q =
-          let same : keeping frame.work.call frame.work.level frame.work.pick (frame.work.carries ++ frame.carry ∷ []) (nodes_in frame.work.children ++ child ∷ []) ≡ keeping call level pick (carries ++ frame.carry ∷ []) (children ++ child ∷ []) =
-          ap (λ (x : Kept). keeping x.call x.level x.pick (x.carries ++ frame.carry ∷ []) (x.children ++ child ∷ [])) k in
-          let p : plan_of frame.work.call ≡ plan = ap (λ (x : Kept). plan_of x.call) k ∙ sym (runs_plan w.engine f level call plan pick d) in
+          Resumes o (context base (seen frame.node).level (plan_of (seen frame.node).call)) frame.pick.func frame.carry (done_of child) answered step after →
+          ((k : Kept) → joined (seen frame.node) frame.carry child ≡ under_way k → frame.pick ≡ k.pick → IfOk r (λ outcome. Settled w.engine k step outcome)) →
+          IfOk r (λ outcome. Comes_to o w f level call outcome before after)
+      goes_on base f is {level = level} {call = call} {before = before} {answered = answered} {after = after} {frame = frame} {child = child} {step = step} r (function_waits {plan = plan} {pick = pick} {carries = carries} {children = children} under pick_is b d s steps) ran next settles =
+          let k : Kept = keeping call level pick (carries ++ frame.carry ∷ []) (children ++ child ∷ []) in
+          let p : plan_of (seen frame.node).call ≡ plan = ap (λ (x : Seen). plan_of x.call) under ∙ sym (runs_plan w.engine f level call plan pick d) in
           let resumed : Resumes o (context f level plan) pick.func frame.carry (done_of child) answered step after =
           subst (λ (x : Frame). Resumes o (context x level plan) pick.func frame.carry (done_of child) answered step after) (sym is)
           (subst (λ (x : Plan). Resumes o (context base level x) pick.func frame.carry (done_of child) answered step after) p
-          (subst (λ (x : Kept). Resumes o (context base x.level (plan_of frame.work.call)) x.pick.func frame.carry (done_of child) answered step after) k next)) in
-          settled (works ∙ same) b d s (one_more steps r resumed refl refl) q
+          (subst (λ (x : Pick). Resumes o (context base level (plan_of (seen frame.node).call)) x.func frame.carry (done_of child) answered step after) pick_is
+          (subst (λ (x : Seen). Resumes o (context base x.level (plan_of (seen frame.node).call)) frame.pick.func frame.carry (done_of child) answered step after) under next))) in
+          IfOk-weaker r (λ outcome. Settled w.engine k step outcome) (λ outcome. Comes_to o w f level call outcome before after)
+          (λ outcome q. settled b d s (one_more steps ran resumed refl refl) q)
+          (settles k (ap (λ (x : Seen). joined x frame.carry child) under) pick_is)
 
   -- the stack, seen from its top
   pub record Top (stack : List Suspended) (frame : Suspended) (base : Frame) (call : CallRequest) (before : Moment H B) (inner : Frame) (level : ℕ) (asked : CallRequest) (after : Moment H B) : Type 0 where
@@ -138,13 +149,13 @@ module _ {H B : Type 0} (o : Objects H B) (w : World) where
   -- every call of a stack is made with the source and the tag of the first
   pub steady : {all : List Suspended} {base f : Frame} {call asked : CallRequest} {before after : Moment H B} {level : ℕ} → Waits o w all base call before f level asked after → (n : ℕ) × (f ≡ entered base n)
   steady (lowest {f = f}) = (f.level, refl)
-  steady (above below (function_waits {level = level} k b d s steps) e) =
+  steady (above below (function_waits {level = level} k q b d s steps) e) =
       let r = steady below in (level, ap (λ (x : Frame). entered x level) r.1)
 
   -- each level is at most one above the limit
   pub level_limited : {all : List Suspended} {base f : Frame} {call asked : CallRequest} {before after : Moment H B} {level : ℕ} → Waits o w all base call before f level asked after → level ≤ w.engine.limits.level + 1
   level_limited lowest = omega arith
-  level_limited (above below (function_waits {f = f} {level = level} {call = call} {plan = plan} {pick = pick} k b d s steps) e) = let h = runs_within w.engine f level call plan pick d in omega (arith, h)
+  level_limited (above below (function_waits {f = f} {level = level} {call = call} {plan = plan} {pick = pick} k q b d s steps) e) = let h = runs_within w.engine f level call plan pick d in omega (arith, h)
 
   pub stack_limited : (stack : List Suspended) (base : Frame) (call : CallRequest) (before : Moment H B) (hand : Hand) (after : Moment H B) → Going o w stack base call before hand after → length stack ≤ w.engine.limits.level
   stack_limited stack base call before hand after g = let h = level_limited g.waits in omega (arith, h)
@@ -220,26 +231,26 @@ module _ {H B : Type 0} (o : Objects H B) (w : World) where
 
   -- the function of the top is held
   pub top_held : (stack : List Suspended) (frame : Suspended) (base : Frame) (call : CallRequest) (before after : Moment H B) (hand : Hand) (n : ℕ) →
-      all_held n w.engine.globals ≡ true → all_held n base.libs ≡ true → builtins_held n w.engine.builtins ≡ true → Going o w (stack ++ frame ∷ []) base call before hand after → func_held n frame.work.pick.func ≡ true
+      all_held n w.engine.globals ≡ true → all_held n base.libs ≡ true → builtins_held n w.engine.builtins ≡ true → Going o w (stack ++ frame ∷ []) base call before hand after → func_held n frame.pick.func ≡ true
   top_held stack frame base call before after hand n globals libs bs g =
       let q = opened_at stack frame base g.f call g.waited before g.mid g.waits in
       open_held q.opened libs
     where
-      open_held : {f inner : Frame} {level : ℕ} {own waited : CallRequest} {begun mid : Moment H B} → Open o w f level own frame inner waited begun mid → all_held n f.libs ≡ true → func_held n frame.work.pick.func ≡ true
-      open_held (function_waits {f = f} {level = level} {call = own} {plan = plan} {pick = pick} k b d s steps) libs' =
-          ap (λ (x : Kept). func_held n x.pick.func) k ∙ runs_is_held w.engine f level own plan pick n globals libs' bs d
+      open_held : {f inner : Frame} {level : ℕ} {own waited : CallRequest} {begun mid : Moment H B} → Open o w f level own frame inner waited begun mid → all_held n f.libs ≡ true → func_held n frame.pick.func ≡ true
+      open_held (function_waits {f = f} {level = level} {call = own} {plan = plan} {pick = pick} k q b d s steps) libs' =
+          ap (λ (x : Pick). func_held n x.func) q ∙ runs_is_held w.engine f level own plan pick n globals libs' bs d
 
   -- a call that waits is closed
   cut_opened : {f inner : Frame} {level : ℕ} {own waited : CallRequest} {frame : Suspended} {child node : CallNode} {begun mid after : Moment H B} →
-      seen node ≡ begun_node frame.work.call frame.work.level (Some frame.work.pick) (frame.work.carries ++ frame.carry ∷ []) (nodes_in frame.work.children ++ child ∷ []) (cut_end frame.work.call) →
+      seen node ≡ closed (seen frame.node) frame.pick frame.carry child →
       Open o w f level own frame inner waited begun mid →
       Runs o w inner (level + 1) waited child mid after true →
       Runs o w f level own node begun after true
-  cut_opened {frame = frame} {child = child} h (function_waits k b d s steps) r =
-      cut_short b d s steps r (h ∙ ap (λ (x : Kept). begun_node x.call x.level (Some x.pick) (x.carries ++ frame.carry ∷ []) (x.children ++ child ∷ []) (cut_end x.call)) k)
+  cut_opened {frame = frame} {child = child} h (function_waits k q b d s steps) r =
+      cut_short b d s steps r (h ∙ (λ i. closed (k i) (q i) frame.carry child))
 
   pub cut_goes : (stack : List Suspended) (frame : Suspended) (base : Frame) (call : CallRequest) (before after : Moment H B) (child node : CallNode) →
-      seen node ≡ begun_node frame.work.call frame.work.level (Some frame.work.pick) (frame.work.carries ++ frame.carry ∷ []) (nodes_in frame.work.children ++ child ∷ []) (cut_end frame.work.call) →
+      seen node ≡ closed (seen frame.node) frame.pick frame.carry child →
       Cutting o w (stack ++ frame ∷ []) base call before child after →
       Cutting o w stack base call before node after
   cut_goes stack frame base call before after child node h g =

@@ -8,15 +8,14 @@ use Rattle.rhd_func.specs.declared.request.CallShape.{CallShape}
 use Rattle.rhd_func.specs.declared.request.CallShape.TheVariants.{Plain, ByRef, Method}
 use Rattle.rhd_func.specs.declared.request.CallRequest.{CallRequest}
 use Rattle.rhd_func.specs.Funcs.{is_pure, is_script}
-use Rattle.rhd_func.specs.Shapes.{all_args, given, pos_of}
+use Rattle.rhd_func.specs.Shapes.{given, pos_of}
 use Rattle.rhd_session.specs.Engine.{EngineLists, Frame}
 use Rattle.rhd_session.specs.declared.pick.Pick.{Pick}
 use Rattle.rhd_session.specs.Asks.{Asked, asks, pick_unqualified}
-use Rattle.rhd_session.specs.NotFound.{not_found}
 use Rattle.rhd_session.specs.Plans.{Search, by_name, Plan, plan_of}
 use Rattle.rhd_session.specs.Received.{received, manner_of, first_received, is_read_only}
 use Rattle.rhd_session.specs.declared.ends.End.{End}
-use Rattle.rhd_session.specs.Ends.{failed}
+use Rattle.rhd_session.specs.Ends.{failed, missing_end}
 
 pub data Decision : Type 0 where
   ends : Option Pick → End → Decision  -- nothing runs
@@ -52,7 +51,7 @@ picked plan pick = if is_on_constant plan pick then ends (Some pick) (constant_e
 -- without a pick: the host is asked where scripts are allowed
 abbrev pub unpicked : Plan → Search → Decision
 unpicked plan (by_name token false) = asks_host plan
-unpicked plan (by_name token true) = ends None (failed plan.given (not_found plan.pos plan.name (all_args plan.shape)))
+unpicked plan (by_name token true) = ends None (missing_end plan)
 
 abbrev pub decided : Plan → Option Pick → Decision
 decided plan None = unpicked plan plan.search

@@ -105,8 +105,12 @@ end_of e plan pick (Done v back) = Some (done e.limits e.printers plan pick back
 end_of e plan pick (Failed fault back) = Some (handed_on plan pick back fault)
 end_of e plan pick (Ask request carry) = None
 
+-- a call whose function isn't found
+abbrev pub missing_end : Plan → End
+missing_end plan = failed plan.given (not_found plan.pos plan.name (all_args plan.shape))
+
 -- how a call ends with what the host answered
 unfoldable pub host_end : Plan → HostAnswer → End
-host_end plan host.Nothing = failed plan.given (not_found plan.pos plan.name (all_args plan.shape))
+host_end plan host.Nothing = missing_end plan
 host_end plan (host.Value v) = accepted plan Host plan.given v
 host_end plan (host.Fault fault) = record { answer = Err fault; whose = Host; first_after = plan.given; printed = None; refused = None }

@@ -1,5 +1,6 @@
 -- What a node shows.
-use Rattle.std.specs.Prelude.{ℕ, Bool, true, false, List, [], Option, None}
+use Rattle.std.specs.Prelude.{◌≡◌, ℕ, Bool, true, false, List, [], ◌∷◌, ◌++◌, Option, Some, None}
+use Rattle.rhd_value.specs.Tree.{Tree}
 use Rattle.rhd_value.specs.declared.fault.EvalAltResult.TheVariants.{ErrorTooManyOperations}
 use Rattle.rhd_func.specs.declared.request.CallRequest.{CallRequest}
 use Rattle.rhd_func.specs.declared.request.Carry.{Carry}
@@ -45,6 +46,29 @@ unbegun_node call level = record { call = call; level = level; begun = false; pi
 -- how a call ends within which the budget was spent
 abbrev pub cut_end : CallRequest → End
 cut_end call = failed None (ErrorTooManyOperations (pos_of call))
+
+-- a call that is begun and not yet ended: its node shows what it shows where the budget is spent within the call
+abbrev pub begun_call : CallRequest → ℕ → Seen
+begun_call call level = begun_node call level None [] [] (cut_end call)
+
+abbrev pub is_begun : Seen → Type 0
+is_begun s = s ≡ begun_call s.call s.level
+
+-- the same call, not begun
+abbrev pub unbegun_as : Seen → Option Tree → Seen
+unbegun_as s first = record s { begun = false; end = record s.end { first_after = first } }
+
+-- the same call, ended
+abbrev pub ended_as : Seen → Option Pick → End → Seen
+ended_as s pick end = record s { pick = pick; end = end }
+
+-- the same call, with the answer to one more request
+abbrev pub joined : Seen → Carry → CallNode → Seen
+joined s carry child = record s { carries = s.carries ++ carry ∷ []; children = s.children ++ child ∷ [] }
+
+-- the same call, closed where the budget was spent within the child that it waits for
+abbrev pub closed : Seen → Pick → Carry → CallNode → Seen
+closed s pick carry child = record (joined s carry child) { pick = Some pick }
 
 -- what a child hands to the function that asked for it
 abbrev pub done_of : CallNode → CallDone

@@ -1,5 +1,6 @@
 -- Calls that wait for the answer to a request.
-use Rattle.std.specs.Prelude.{◌≡◌, ℕ, ◌+◌, ◌<◌, true, false, List, [], ◌∷◌, ◌++◌, length, Some}
+use Rattle.std.specs.Prelude.{◌≡◌, ℕ, ◌+◌, ◌<◌, true, false, List, [], ◌∷◌, ◌++◌, length, Option, None, Some}
+use Rattle.std.specs.Global.{Box}
 use Rattle.rhd_func.specs.declared.request.CallRequest.{CallRequest}
 use Rattle.rhd_func.specs.declared.request.Carry.{Carry}
 use Rattle.rhd_func.specs.declared.request.NativeStep.{NativeStep}
@@ -8,17 +9,16 @@ use Rattle.rhd_session.specs.Engine.{EngineLists, Frame}
 use Rattle.rhd_session.specs.World.{World, Objects, Moment, one_begun}
 use Rattle.rhd_session.specs.declared.pick.Pick.{Pick}
 use Rattle.rhd_session.specs.declared.node.CallNode.{CallNode}
-use Rattle.rhd_session.specs.declared.machine.Work.{Work}
 use Rattle.rhd_session.specs.declared.machine.Suspended.{Suspended}
+use Rattle.rhd_session.specs.declared.machine.Asking.{Asking}
 use Rattle.rhd_session.specs.declared.machine.Outcome.{Outcome}
 use Rattle.rhd_session.specs.declared.machine.Outcome.TheVariants.{Waiting, Finished}
 use Rattle.rhd_session.specs.declared.machine.Hand.{Hand}
 use Rattle.rhd_session.specs.declared.machine.Hand.TheVariants.{Asked, Answered}
-use Rattle.rhd_session.specs.Nodes.{nodes_in}
 use Rattle.rhd_session.specs.Plans.{Plan, plan_of}
 use Rattle.rhd_session.specs.declared.ends.End.{End}
 use Rattle.rhd_session.specs.Ends.{end_of}
-use Rattle.rhd_session.specs.Seen.{seen, begun_node}
+use Rattle.rhd_session.specs.Seen.{Seen, seen, begun_node, cut_end}
 use Rattle.rhd_session.specs.Decisions.{runs, decision}
 use Rattle.rhd_session.specs.Entered.{context, entered}
 use Rattle.rhd_session.specs.Steps.{Starts}
@@ -32,16 +32,23 @@ pub record Kept : Type 0 where
   pub carries : List Carry
   pub children : List CallNode
 
-abbrev pub kept : Work → Kept
-kept work = record { call = work.call; level = work.level; pick = work.pick; carries = work.carries; children = nodes_in work.children }
-
 abbrev pub keeping : CallRequest → ℕ → Pick → List Carry → List CallNode → Kept
 keeping call level pick carries children = record { call = call; level = level; pick = pick; carries = carries; children = children }
+
+-- its node: what it shows where the budget is spent within the call, and no pick
+abbrev pub under_way : Kept → Seen
+under_way k = begun_node k.call k.level None k.carries k.children (cut_end k.call)
+
+-- what a step made of a call: it waits where its function asks for another, else it is finished
+abbrev pub outcome_of : CallNode → Option (Box Asking) → Outcome
+outcome_of node None = Finished node
+outcome_of node (Some asking) = Waiting (record { node = node; pick = asking.value.pick; carry = asking.value.carry }) asking.value.request
 
 -- The call at this level, begun after `before`, waits for the answer to a request, which is asked in the second frame.
 pub data Open {H B : Type 0} (o : Objects H B) (w : World) : Frame → ℕ → CallRequest → Suspended → Frame → CallRequest → Moment H B → Moment H B → Type 0 where
   function_waits : {f : Frame} {level : ℕ} {call waited : CallRequest} {frame : Suspended} {before started mid : Moment H B} {plan : Plan} {pick : Pick} {first : NativeStep} {carries : List Carry} {children : List CallNode} →
-      kept frame.work ≡ keeping call level pick carries children →
+      seen frame.node ≡ under_way (keeping call level pick carries children) →
+      frame.pick ≡ pick →
       before.begun < w.engine.limits.budget →
       decision w.engine f level call ≡ runs plan pick →
       Starts o (context f level plan) pick.func (received_by plan pick) (one_begun before) first started →
@@ -49,14 +56,14 @@ pub data Open {H B : Type 0} (o : Objects H B) (w : World) : Frame → ℕ → C
       Open o w f level call frame (entered f level) waited before mid
 
 -- what a step of its function makes of a call under way
-pub data Settled (e : EngineLists) (work : Work) : NativeStep → Outcome → Type 0 where
+pub data Settled (e : EngineLists) (k : Kept) : NativeStep → Outcome → Type 0 where
   asks : {request : CallRequest} {carry : Carry} {frame : Suspended} →
-      frame.work ≡ work → frame.carry ≡ carry →
-      Settled e work (Ask request carry) (Waiting frame request)
+      seen frame.node ≡ under_way k → frame.pick ≡ k.pick → frame.carry ≡ carry →
+      Settled e k (Ask request carry) (Waiting frame request)
   ends_with : {step : NativeStep} {end : End} {node : CallNode} →
-      end_of e (plan_of work.call) work.pick step ≡ Some end →
-      seen node ≡ begun_node work.call work.level (Some work.pick) work.carries (nodes_in work.children) end →
-      Settled e work step (Finished node)
+      end_of e (plan_of k.call) k.pick step ≡ Some end →
+      seen node ≡ begun_node k.call k.level (Some k.pick) k.carries k.children end →
+      Settled e k step (Finished node)
 
 -- what a step of the machine makes of a call
 pub data Comes_to {H B : Type 0} (o : Objects H B) (w : World) : Frame → ℕ → CallRequest → Outcome → Moment H B → Moment H B → Type 0 where

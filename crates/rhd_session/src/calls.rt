@@ -1,6 +1,6 @@
 //! How a session makes a call: each step of a function, and the stack of the calls that wait.
 
-ghost use Rattle.std.specs.Prelude.{◌≡◌, ◌≤◌, ◌<◌, ◌+◌, ◌++◌, ◌∷◌, [], ℕ, Bool, true, false, IfOk, IfSome, length, Some, None};
+ghost use Rattle.std.specs.Prelude.{◌≡◌, ◌≤◌, ◌<◌, ◌+◌, ◌++◌, ◌∷◌, [], ℕ, Bool, true, false, IfOk, OnOk, IfSome, length, Some, None};
 ghost use Rattle.rhd_func.specs.declared.request.CallRequest.{CallRequest};
 ghost use Rattle.rhd_func.specs.declared.request.HostAnswer.{HostAnswer};
 ghost use Rattle.rhd_func.specs.Shapes.{all_args, is_method_shape};
@@ -14,19 +14,18 @@ ghost use Rattle.rhd_module.specs.declared.key.Key.TheVariants.{Script};
 ghost use Rattle.rhd_session.specs.Asks.{looked, allowed_asks, typed_asks, params_of};
 ghost use Rattle.rhd_session.specs.Searched.{found};
 ghost use Rattle.rhd_session.specs.Plans.{only_natives, plan_of};
-ghost use Rattle.rhd_session.specs.NotFound.{not_found};
-ghost use Rattle.rhd_session.specs.Ends.{failed, host_end};
+ghost use Rattle.rhd_session.specs.Ends.{missing_end, host_end};
 ghost use Rattle.rhd_session.specs.Decisions.{refusal, decision, runs, pick_of, is_on_constant, constant_end};
-ghost use Rattle.rhd_session.specs.Seen.{seen, begun_node, done_of};
+ghost use Rattle.rhd_session.specs.Seen.{seen, is_begun, ended_as, done_of};
 ghost use Rattle.rhd_session.specs.Entered.{context, entered};
 ghost use Rattle.rhd_session.specs.Steps.{Starts, Resumes};
 ghost use Rattle.rhd_session.specs.Runs.{Runs, received_by};
-ghost use Rattle.rhd_session.specs.Waits.{Open, Comes_to, Going, Cutting, weight};
+ghost use Rattle.rhd_session.specs.Waits.{Open, outcome_of, Comes_to, Going, Cutting, weight};
 
 use crate::ends::host_end;
-use crate::machine::{Hand, Outcome, Suspended, Work, cut, joined, put, settle};
+use crate::machine::{Asking, Hand, Outcome, Suspended, cut, outcome_of, put, settle, settle_waiting};
 use crate::missing::not_found;
-use crate::node::{CallNode, Carries, Nodes};
+use crate::node::CallNode;
 use crate::pick::Pick;
 use crate::plan::{name_of, native_only_of, position_of, shape_of, token_of};
 use crate::received::{
@@ -65,11 +64,14 @@ impl Session {
             return CallNode::unbegun(alloc, call, 1);
         }
         *begun += 1;
-        let outcome = self.begin(alloc, call, 1, host, bodies)?;
-        if let Outcome::Finished(node) = outcome {
-            return Ok(node);
+        let mut node = CallNode::begun(alloc, call, 1);
+        match self.begin(alloc, &mut node, host, bodies)? {
+            None => Ok(node),
+            Some(asking) => {
+                let outcome = outcome_of(node, Some(asking));
+                self.run_on::<H, B>(alloc, outcome, begun, host, bodies)
+            }
         }
-        self.run_on::<H, B>(alloc, outcome, begun, host, bodies)
     }
 
     /// Goes on with a call that is begun, with all the calls that it leads to.
@@ -124,8 +126,9 @@ impl Session {
         ensures grows { IfOk result (λ hand. length stack.new.items + weight hand ≡ length stack.old.items + 1) }
     {
         let level = stack.len() as u32 + 1;
-        let outcome = self.begin(alloc, request, level, host, bodies)?;
-        put(stack, outcome)
+        let mut node = CallNode::begun(alloc, request, level);
+        let asking = self.begin(alloc, &mut node, host, bodies)?;
+        put(stack, outcome_of(node, asking))
     }
 
     /// Hands a node to the call that waits for it.
@@ -137,7 +140,7 @@ impl Session {
         node: CallNode,
         bodies: &mut B,
     ) -> Result<Hand, OutOfMemory>
-        requires { func_held (length (natives_of self.now).items.items) frame.work.pick.func ≡ true }
+        requires { func_held (length (natives_of self.now).items.items) frame.pick.func ≡ true }
         ensures going { (call : CallRequest) (before : Moment H B) (begun : ℕ) (host : H) → Going (objects_of allows_call allows_resume B.allows_start B.allows_next H.allows_missing (natives_of self.now)) (world_of info self.now) (stack.old.items ++ frame ∷ []) (frame_of self.now) call before (Answered node) (moment begun host bodies.old) → IfOk result (λ hand. Going (objects_of allows_call allows_resume B.allows_start B.allows_next H.allows_missing (natives_of self.now)) (world_of info self.now) stack.new.items (frame_of self.now) call before hand (moment begun host bodies.new)) }
         ensures grows { IfOk result (λ hand. length stack.new.items + weight hand ≡ length stack.old.items + 1) }
     {
@@ -160,23 +163,22 @@ impl Session {
     }
 
     /// Begins a call: it is refused, or no function is found for it, or its function takes its first
-    /// step.
+    /// step. Where that asks for a call, the node stays as it is.
     fn begin<H: Host, B: Bodies>(
         &self,
         alloc: Global,
-        call: CallRequest,
-        level: u32,
+        node: &mut CallNode,
         host: &mut H,
         bodies: &mut B,
-    ) -> Result<Outcome, OutOfMemory>
-        ensures { (n begun : ℕ) → begun < self.now.limits.budget → IfOk result (λ outcome. Comes_to (objects_of allows_call allows_resume B.allows_start B.allows_next H.allows_missing (natives_of self.now)) (world_of info self.now) (entered (frame_of self.now) n) level call outcome (moment begun host.old bodies.old) (moment (begun + 1) host.new bodies.new)) }
+    ) -> Result<Option<Box<Asking>>, OutOfMemory>
+        ensures { (n begun : ℕ) → is_begun (seen node.old) → begun < self.now.limits.budget → IfOk result (λ asking. Comes_to (objects_of allows_call allows_resume B.allows_start B.allows_next H.allows_missing (natives_of self.now)) (world_of info self.now) (entered (frame_of self.now) n) (seen node.old).level (seen node.old).call (outcome_of node.new asking) (moment begun host.old bodies.old) (moment (begun + 1) host.new bodies.new)) }
     {
-        match refusal(alloc, self.limits, level, &call)? {
+        match refusal(alloc, self.limits, node.level, &node.call)? {
             Some(fault) => {
-                let node = CallNode::failed(alloc, call, level, None, fault)?;
-                Ok(Outcome::Finished(node))
+                node.fail(alloc, None, fault)?;
+                Ok(None)
             }
-            None => self.begin_unrefused(alloc, call, level, host, bodies),
+            None => self.begin_unrefused(alloc, node, host, bodies),
         }
     }
 
@@ -185,21 +187,24 @@ impl Session {
     fn begin_unrefused<H: Host, B: Bodies>(
         &self,
         alloc: Global,
-        call: CallRequest,
-        level: u32,
+        node: &mut CallNode,
         host: &mut H,
         bodies: &mut B,
-    ) -> Result<Outcome, OutOfMemory>
-        ensures { (n begun : ℕ) → begun < self.now.limits.budget → refusal (world_of info self.now).engine level call ≡ None → IfOk result (λ outcome. Comes_to (objects_of allows_call allows_resume B.allows_start B.allows_next H.allows_missing (natives_of self.now)) (world_of info self.now) (entered (frame_of self.now) n) level call outcome (moment begun host.old bodies.old) (moment (begun + 1) host.new bodies.new)) }
+    ) -> Result<Option<Box<Asking>>, OutOfMemory>
+        ensures { (n begun : ℕ) → is_begun (seen node.old) → begun < self.now.limits.budget → refusal (world_of info self.now).engine (seen node.old).level (seen node.old).call ≡ None → IfOk result (λ asking. Comes_to (objects_of allows_call allows_resume B.allows_start B.allows_next H.allows_missing (natives_of self.now)) (world_of info self.now) (entered (frame_of self.now) n) (seen node.old).level (seen node.old).call (outcome_of node.new asking) (moment begun host.old bodies.old) (moment (begun + 1) host.new bodies.new)) }
     {
-        match self.pick(alloc, &call)? {
+        match self.pick(alloc, &node.call)? {
             Some(pick) => {
-                if on_constant(&call, &pick) {
-                    return Ok(Outcome::Finished(constant(alloc, call, level, pick)?));
+                if on_constant(&node.call, &pick) {
+                    refuse_constant(alloc, node, pick)?;
+                    return Ok(None);
                 }
-                self.begin_picked::<H, B>(alloc, call, level, pick, bodies)
+                self.begin_picked::<H, B>(alloc, node, pick, bodies)
             }
-            None => Ok(Outcome::Finished(unpicked(alloc, call, level, host)?)),
+            None => {
+                unpicked(alloc, node, host)?;
+                Ok(None)
+            }
         }
     }
 
@@ -282,23 +287,15 @@ impl Session {
     fn begin_picked<H: Host, B: Bodies>(
         &self,
         alloc: Global,
-        call: CallRequest,
-        level: u32,
+        node: &mut CallNode,
         pick: Pick,
         bodies: &mut B,
-    ) -> Result<Outcome, OutOfMemory>
+    ) -> Result<Option<Box<Asking>>, OutOfMemory>
         requires { func_held (length (natives_of self.now).items.items) pick.func ≡ true }
-        ensures { (n begun : ℕ) (host : H) → begun < self.now.limits.budget → decision (world_of info self.now).engine (entered (frame_of self.now) n) level call ≡ runs (plan_of call) pick → IfOk result (λ outcome. Comes_to (objects_of allows_call allows_resume B.allows_start B.allows_next H.allows_missing (natives_of self.now)) (world_of info self.now) (entered (frame_of self.now) n) level call outcome (moment begun host bodies.old) (moment (begun + 1) host bodies.new)) }
+        ensures { (n begun : ℕ) (host : H) → is_begun (seen node.old) → begun < self.now.limits.budget → decision (world_of info self.now).engine (entered (frame_of self.now) n) (seen node.old).level (seen node.old).call ≡ runs (plan_of (seen node.old).call) pick → IfOk result (λ asking. Comes_to (objects_of allows_call allows_resume B.allows_start B.allows_next H.allows_missing (natives_of self.now)) (world_of info self.now) (entered (frame_of self.now) n) (seen node.old).level (seen node.old).call (outcome_of node.new asking) (moment begun host bodies.old) (moment (begun + 1) host bodies.new)) }
     {
-        let step = self.first_step::<H, B>(alloc, &call, level, &pick, bodies)?;
-        let work = Work {
-            call,
-            level,
-            pick,
-            carries: Carries::new(alloc),
-            children: Nodes::new(alloc),
-        };
-        settle(alloc, self.limits, self.printers, work, step)
+        let step = self.first_step::<H, B>(alloc, node, &pick, bodies)?;
+        settle(alloc, self.limits, self.printers, node, pick, step)
     }
 
     /// The next step of a function that waits, after the answer to its request.
@@ -309,17 +306,11 @@ impl Session {
         child: CallNode,
         bodies: &mut B,
     ) -> Result<Outcome, OutOfMemory>
-        requires { func_held (length (natives_of self.now).items.items) frame.work.pick.func ≡ true }
+        requires { func_held (length (natives_of self.now).items.items) frame.pick.func ≡ true }
         ensures { (n level begun : ℕ) (host : H) (inner : Frame) (call waited : CallRequest) (before mid : Moment H B) → Open (objects_of allows_call allows_resume B.allows_start B.allows_next H.allows_missing (natives_of self.now)) (world_of info self.now) (entered (frame_of self.now) n) level call frame inner waited before mid → Runs (objects_of allows_call allows_resume B.allows_start B.allows_next H.allows_missing (natives_of self.now)) (world_of info self.now) inner (level + 1) waited child mid (moment begun host bodies.old) false → IfOk result (λ outcome. Comes_to (objects_of allows_call allows_resume B.allows_start B.allows_next H.allows_missing (natives_of self.now)) (world_of info self.now) (entered (frame_of self.now) n) level call outcome before (moment begun host bodies.new)) }
     {
         let step = self.answered_step::<H, B>(alloc, &frame, &child, bodies)?;
-        settle(
-            alloc,
-            self.limits,
-            self.printers,
-            joined(frame, child)?,
-            step,
-        )
+        settle_waiting(alloc, self.limits, self.printers, frame, child, step)
     }
 
     /// The next step of a function that waits, after the answer of a child.
@@ -330,28 +321,28 @@ impl Session {
         child: &CallNode,
         bodies: &mut B,
     ) -> Result<NativeStep, OutOfMemory>
-        requires { func_held (length (natives_of self.now).items.items) frame.now.work.pick.func ≡ true }
-        ensures { (begun : ℕ) (host : H) → IfOk result (λ step. Resumes (objects_of allows_call allows_resume B.allows_start B.allows_next H.allows_missing (natives_of self.now)) (context (frame_of self.now) frame.now.work.level (plan_of frame.now.work.call)) frame.now.work.pick.func frame.now.carry (done_of child.now) (moment begun host bodies.old) step (moment begun host bodies.new)) }
+        requires { func_held (length (natives_of self.now).items.items) frame.now.pick.func ≡ true }
+        ensures { (begun : ℕ) (host : H) → IfOk result (λ step. Resumes (objects_of allows_call allows_resume B.allows_start B.allows_next H.allows_missing (natives_of self.now)) (context (frame_of self.now) (seen frame.now.node).level (plan_of (seen frame.now.node).call)) frame.now.pick.func frame.now.carry (done_of child.now) (moment begun host bodies.old) step (moment begun host bodies.new)) }
     {
         let done = child.done(alloc)?;
         let carry = frame.carry.dup(alloc)?;
-        self.next_step::<H, B>(alloc, &frame.work, carry, done, bodies)
+        self.next_step::<H, B>(alloc, frame, carry, done, bodies)
     }
 
     /// The first step of a function on the arguments of its call.
     fn first_step<H: Host, B: Bodies>(
         &self,
         alloc: Global,
-        call: &CallRequest,
-        level: u32,
+        node: &CallNode,
         pick: &Pick,
         bodies: &mut B,
     ) -> Result<NativeStep, OutOfMemory>
         requires { func_held (length (natives_of self.now).items.items) pick.now.func ≡ true }
-        ensures { (begun : ℕ) (host : H) → IfOk result (λ step. Starts (objects_of allows_call allows_resume B.allows_start B.allows_next H.allows_missing (natives_of self.now)) (context (frame_of self.now) level (plan_of call.now)) pick.now.func (received_by (plan_of call.now) pick.now) (moment begun host bodies.old) step (moment begun host bodies.new)) }
+        ensures { (begun : ℕ) (host : H) → IfOk result (λ step. Starts (objects_of allows_call allows_resume B.allows_start B.allows_next H.allows_missing (natives_of self.now)) (context (frame_of self.now) (seen node.now).level (plan_of (seen node.now).call)) pick.now.func (received_by (plan_of (seen node.now).call) pick.now) (moment begun host bodies.old) step (moment begun host bodies.new)) }
     {
+        let call = &node.call;
         let received = receive(alloc, &pick.func, shape_of(call))?;
-        let ctx = context(alloc, name_of(call), position_of(call), level)?;
+        let ctx = context(alloc, name_of(call), position_of(call), node.level)?;
         self.start::<H, B>(alloc, &pick.func, &ctx, received, bodies)
     }
 
@@ -359,21 +350,17 @@ impl Session {
     fn next_step<H: Host, B: Bodies>(
         &self,
         alloc: Global,
-        work: &Work,
+        frame: &Suspended,
         carry: Carry,
         done: CallDone,
         bodies: &mut B,
     ) -> Result<NativeStep, OutOfMemory>
-        requires { func_held (length (natives_of self.now).items.items) work.now.pick.func ≡ true }
-        ensures { (begun : ℕ) (host : H) → IfOk result (λ step. Resumes (objects_of allows_call allows_resume B.allows_start B.allows_next H.allows_missing (natives_of self.now)) (context (frame_of self.now) work.now.level (plan_of work.now.call)) work.now.pick.func carry done (moment begun host bodies.old) step (moment begun host bodies.new)) }
+        requires { func_held (length (natives_of self.now).items.items) frame.now.pick.func ≡ true }
+        ensures { (begun : ℕ) (host : H) → IfOk result (λ step. Resumes (objects_of allows_call allows_resume B.allows_start B.allows_next H.allows_missing (natives_of self.now)) (context (frame_of self.now) (seen frame.now.node).level (plan_of (seen frame.now.node).call)) frame.now.pick.func carry done (moment begun host bodies.old) step (moment begun host bodies.new)) }
     {
-        let ctx = context(
-            alloc,
-            name_of(&work.call),
-            position_of(&work.call),
-            work.level,
-        )?;
-        self.go_on::<H, B>(alloc, &work.pick.func, &ctx, carry, done, bodies)
+        let call = &frame.node.call;
+        let ctx = context(alloc, name_of(call), position_of(call), frame.node.level)?;
+        self.go_on::<H, B>(alloc, &frame.pick.func, &ctx, carry, done, bodies)
     }
 
     /// The first step of a function on what it received.
@@ -431,22 +418,23 @@ impl Session {
     }
 }
 
-/// The node of a call for which no function is found. The host is asked where scripts are allowed.
+/// Ends a call for which no function is found. The host is asked where scripts are allowed.
 fn unpicked<H: Host>(
     alloc: Global,
-    call: CallRequest,
-    level: u32,
+    node: &mut CallNode,
     host: &mut H,
-) -> Result<CallNode, OutOfMemory>
-    ensures alone { IfOk result (λ node. only_natives (plan_of call).search ≡ true → (host.new ≡ host.old) × (seen node ≡ begun_node call level None [] [] (failed (plan_of call).given (not_found (plan_of call).pos (plan_of call).name (all_args (plan_of call).shape))))) }
-    ensures asked { IfOk result (λ node. only_natives (plan_of call).search ≡ false → (answer : HostAnswer) × H.allows_missing host.old (plan_of call).name (all_args (plan_of call).shape) (is_method_shape (plan_of call).shape) answer host.new × (seen node ≡ begun_node call level None [] [] (host_end (plan_of call) answer))) }
+) -> Result<(), OutOfMemory>
+    ensures alone { OnOk result (only_natives (plan_of (seen node.old).call).search ≡ true → (host.new ≡ host.old) × (seen node.new ≡ ended_as (seen node.old) None (missing_end (plan_of (seen node.old).call)))) }
+    ensures asked { OnOk result (only_natives (plan_of (seen node.old).call).search ≡ false → (answer : HostAnswer) × H.allows_missing host.old (plan_of (seen node.old).call).name (all_args (plan_of (seen node.old).call).shape) (is_method_shape (plan_of (seen node.old).call).shape) answer host.new × (seen node.new ≡ ended_as (seen node.old) None (host_end (plan_of (seen node.old).call) answer))) }
 {
-    if native_only_of(&call) {
-        return missing(alloc, call, level);
+    if native_only_of(&node.call) {
+        let fault = not_found(alloc, &node.call)?;
+        return node.fail(alloc, None, fault);
     }
-    let answer = ask_host(alloc, &call, host)?;
-    let end = host_end(alloc, &call, answer)?;
-    Ok(CallNode::ended(alloc, call, level, None, end))
+    let answer = ask_host(alloc, &node.call, host)?;
+    let end = host_end(alloc, &node.call, answer)?;
+    node.end_with(None, end);
+    Ok(())
 }
 
 /// What the host answers for a call.
@@ -461,14 +449,6 @@ fn ask_host<H: Host>(
     host.missing(alloc, name_of(call), &args, is_method_shape(shape_of(call)))
 }
 
-/// The node of a call whose function isn't found.
-fn missing(alloc: Global, call: CallRequest, level: u32) -> Result<CallNode, OutOfMemory>
-    ensures { IfOk result (λ node. seen node ≡ begun_node call level None [] [] (failed (plan_of call).given (not_found (plan_of call).pos (plan_of call).name (all_args (plan_of call).shape)))) }
-{
-    let fault = not_found(alloc, &call)?;
-    CallNode::failed(alloc, call, level, None, fault)
-}
-
 /// Whether a native or built-in that isn't pure receives a read-only first argument.
 fn on_constant(call: &CallRequest, pick: &Pick) -> bool
     ensures { result ≡ is_on_constant (plan_of call.now) pick.now }
@@ -477,16 +457,11 @@ fn on_constant(call: &CallRequest, pick: &Pick) -> bool
         && (!pick.func.is_pure() && receives_constant(&pick.func, shape_of(call)))
 }
 
-/// The node of a call whose function isn't for a constant.
-fn constant(
-    alloc: Global,
-    call: CallRequest,
-    level: u32,
-    pick: Pick,
-) -> Result<CallNode, OutOfMemory>
-    ensures { IfOk result (λ node. seen node ≡ begun_node call level (Some pick) [] [] (constant_end (plan_of call))) }
+/// Ends a call whose function isn't for a constant.
+fn refuse_constant(alloc: Global, node: &mut CallNode, pick: Pick) -> Result<(), OutOfMemory>
+    ensures { OnOk result (seen node.new ≡ ended_as (seen node.old) (Some pick) (constant_end (plan_of (seen node.old).call))) }
 {
-    let name = name_of(&call).dup(alloc)?;
-    let fault = EvalAltResult::ErrorNonPureMethodCallOnConstant(name, position_of(&call));
-    CallNode::failed(alloc, call, level, Some(pick), fault)
+    let name = name_of(&node.call).dup(alloc)?;
+    let fault = EvalAltResult::ErrorNonPureMethodCallOnConstant(name, position_of(&node.call));
+    node.fail(alloc, Some(pick), fault)
 }

@@ -1,34 +1,32 @@
 //! Calls that are under way, and the stack of those that wait.
 
-ghost use Rattle.std.specs.Prelude.{◌≡◌, ◌+◌, ◌++◌, ◌∷◌, [], IfOk, length, Some};
-ghost use Rattle.rhd_session.specs.Nodes.{nodes_in};
-ghost use Rattle.rhd_session.specs.Seen.{seen, begun_node, cut_end};
+ghost use Rattle.std.specs.Prelude.{◌≡◌, ◌+◌, IfOk, length};
+ghost use Rattle.rhd_session.specs.Seen.{seen, joined, closed};
 ghost use Rattle.rhd_session.specs.Engine.{EngineLists};
-ghost use Rattle.rhd_session.specs.Waits.{Settled, Put, weight, kept, keeping};
+ghost use Rattle.rhd_session.specs.Waits.{Kept, under_way, outcome_of, Settled, Put, weight};
 
-use crate::ends::{End, done, handed_on};
+use crate::ends::{done, handed_on};
 use crate::limits::{Limits, Printers};
-use crate::node::{CallNode, Carries, Nodes, Whose};
+use crate::node::CallNode;
 use crate::pick::Pick;
-use crate::plan::position_of;
 use rhd_func::{CallRequest, Carry, NativeStep};
-use rhd_value::{EvalAltResult, OutOfMemory};
+use rhd_value::OutOfMemory;
 use std::alloc::Global;
-
-/// A call under way: what was asked of it, and what its function asked for so far.
-#[derive(Drop)]
-pub struct Work {
-    pub call: CallRequest,
-    pub level: u32,
-    pub pick: Pick,
-    pub carries: Carries,
-    pub children: Nodes,
-}
 
 /// A call that waits for the answer to a request.
 #[derive(Drop)]
 pub struct Suspended {
-    pub work: Work,
+    pub node: CallNode,
+    /// The function that was picked. Its node has it once it ends.
+    pub pick: Pick,
+    pub carry: Carry,
+}
+
+/// A function asks for a call. It stands in a box, since few steps do.
+#[derive(Drop)]
+pub struct Asking {
+    pub pick: Pick,
+    pub request: CallRequest,
     pub carry: Carry,
 }
 
@@ -53,45 +51,72 @@ pub fn settle(
     alloc: Global,
     limits: Limits,
     printers: Printers,
-    work: Work,
+    node: &mut CallNode,
+    pick: Pick,
     step: NativeStep,
-) -> Result<Outcome, OutOfMemory>
-    ensures { (e : EngineLists) → e.limits ≡ limits → e.printers ≡ printers → IfOk result (λ outcome. Settled e work step outcome) }
+) -> Result<Option<Box<Asking>>, OutOfMemory>
+    ensures { (e : EngineLists) (k : Kept) → e.limits ≡ limits → e.printers ≡ printers → seen node.old ≡ under_way k → pick ≡ k.pick → IfOk result (λ asking. Settled e k step (outcome_of node.new asking)) }
 {
     match step {
         NativeStep::Done { answer, first } => {
             let end = done(
-                alloc, limits, printers, &work.call, &work.pick, answer, first,
+                alloc, limits, printers, &node.call, &pick, answer, first,
             )?;
-            Ok(Outcome::Finished(end_call(work, end)))
+            node.end_with(Some(pick), end);
+            Ok(None)
         }
         NativeStep::Failed { fault, first } => {
-            let end = handed_on(alloc, &work.call, &work.pick, fault, first)?;
-            Ok(Outcome::Finished(end_call(work, end)))
+            let end = handed_on(alloc, &node.call, &pick, fault, first)?;
+            node.end_with(Some(pick), end);
+            Ok(None)
         }
         NativeStep::Ask { request, carry } => {
-            Ok(Outcome::Waiting(Suspended { work, carry }, request))
+            let asking = Asking {
+                pick,
+                request,
+                carry,
+            };
+            Ok(Some(Box::new(alloc, asking)?))
         }
     }
 }
 
-/// The node of a call whose function took its last step.
-fn end_call(work: Work, end: End) -> CallNode
-    ensures { seen result ≡ begun_node work.call work.level (Some work.pick) work.carries (nodes_in work.children) end }
+/// What a step made of a call: it waits where its function asks for another, else it is finished.
+pub fn outcome_of(node: CallNode, asking: Option<Box<Asking>>) -> Outcome
+    ensures { result ≡ outcome_of node asking }
 {
-    CallNode {
-        call: work.call,
-        level: work.level,
-        begun: true,
-        pick: Some(work.pick),
-        carries: work.carries,
-        children: work.children,
-        answer: end.answer,
-        whose: end.whose,
-        first_after: end.first_after,
-        printed: end.printed,
-        refused: end.refused,
+    match asking {
+        Some(asking) => {
+            let Asking {
+                pick,
+                request,
+                carry,
+            } = Box::into_inner(asking);
+            Outcome::Waiting(Suspended { node, pick, carry }, request)
+        }
+        None => Outcome::Finished(node),
     }
+}
+
+/// Takes the next step of a call's function, after the answer to its request.
+pub fn settle_waiting(
+    alloc: Global,
+    limits: Limits,
+    printers: Printers,
+    frame: Suspended,
+    child: CallNode,
+    step: NativeStep,
+) -> Result<Outcome, OutOfMemory>
+    ensures { (e : EngineLists) (k : Kept) → e.limits ≡ limits → e.printers ≡ printers → joined (seen frame.node) frame.carry child ≡ under_way k → frame.pick ≡ k.pick → IfOk result (λ outcome. Settled e k step outcome) }
+{
+    let Suspended {
+        mut node,
+        pick,
+        carry,
+    } = frame;
+    node.join(carry, child)?;
+    let asking = settle(alloc, limits, printers, &mut node, pick, step)?;
+    Ok(outcome_of(node, asking))
 }
 
 /// Puts a call that waits onto the stack.
@@ -108,39 +133,12 @@ pub fn put(stack: &mut Vec<Suspended>, outcome: Outcome) -> Result<Hand, OutOfMe
     }
 }
 
-/// A call that waited, with the carry and the answer of its latest request.
-pub fn joined(frame: Suspended, child: CallNode) -> Result<Work, OutOfMemory>
-    ensures { IfOk result (λ work. kept work ≡ keeping frame.work.call frame.work.level frame.work.pick (frame.work.carries ++ frame.carry ∷ []) (nodes_in frame.work.children ++ child ∷ [])) }
-{
-    let Suspended { mut work, carry } = frame;
-    work.carries.push(carry)?;
-    work.children.push(child)?;
-    Ok(work)
-}
-
 /// Closes a call that waits, where the budget was spent within the child that it waits for.
 pub fn cut(frame: Suspended, child: CallNode) -> Result<CallNode, OutOfMemory>
-    ensures { IfOk result (λ node. seen node ≡ begun_node frame.work.call frame.work.level (Some frame.work.pick) (frame.work.carries ++ frame.carry ∷ []) (nodes_in frame.work.children ++ child ∷ []) (cut_end frame.work.call)) }
+    ensures { IfOk result (λ node. seen node ≡ closed (seen frame.node) frame.pick frame.carry child) }
 {
-    Ok(closed(joined(frame, child)?))
-}
-
-/// The node of a call within which the budget was spent.
-fn closed(work: Work) -> CallNode
-    ensures { seen result ≡ begun_node work.call work.level (Some work.pick) work.carries (nodes_in work.children) (cut_end work.call) }
-{
-    let pos = position_of(&work.call);
-    CallNode {
-        call: work.call,
-        level: work.level,
-        begun: true,
-        pick: Some(work.pick),
-        carries: work.carries,
-        children: work.children,
-        answer: Err(EvalAltResult::ErrorTooManyOperations(pos)),
-        whose: Whose::Call,
-        first_after: None,
-        printed: None,
-        refused: None,
-    }
+    let Suspended { mut node, pick, carry } = frame;
+    node.join(carry, child)?;
+    node.pick = Some(pick);
+    Ok(node)
 }

@@ -1,10 +1,10 @@
 //! The tree of a call.
 
-ghost use Rattle.std.specs.Prelude.{◌≡◌, ◌++◌, ◌∷◌, [], if◌then◌else◌, is_ok, None, Some, IfOk};
+ghost use Rattle.std.specs.Prelude.{◌≡◌, ◌++◌, ◌∷◌, [], if◌then◌else◌, is_ok, IfOk, OnOk};
 ghost use Rattle.rhd_session.specs.Ends.{failed};
 ghost use Rattle.rhd_func.specs.Shapes.{given};
 ghost use Rattle.rhd_session.specs.Nodes.{nodes_in};
-ghost use Rattle.rhd_session.specs.Seen.{seen, begun_node, unbegun_node, done_of};
+ghost use Rattle.rhd_session.specs.Seen.{seen, begun_call, unbegun_node, unbegun_as, ended_as, joined, done_of};
 
 use crate::ends::{End, failed};
 use crate::pick::Pick;
@@ -119,29 +119,24 @@ impl Nodes {
 }
 
 impl CallNode {
-    /// A call for which nothing runs.
-    fn alone(
-        alloc: Global,
-        call: CallRequest,
-        level: u32,
-        begun: bool,
-        pick: Option<Pick>,
-        end: End,
-    ) -> CallNode
-        ensures { seen result ≡ record { call = call; level = level; begun = begun; pick = pick; carries = []; children = []; end = end } }
+    /// A call that is begun. Until it ends, its node shows what it shows where the budget is spent
+    /// within the call.
+    pub fn begun(alloc: Global, call: CallRequest, level: u32) -> CallNode
+        ensures { seen result ≡ begun_call call level }
     {
+        let fault = EvalAltResult::ErrorTooManyOperations(position_of(&call));
         CallNode {
             call,
             level,
-            begun,
-            pick,
+            begun: true,
+            pick: None,
             carries: Carries::new(alloc),
             children: Nodes::new(alloc),
-            answer: end.answer,
-            whose: end.whose,
-            first_after: end.first_after,
-            printed: end.printed,
-            refused: end.refused,
+            answer: Err(fault),
+            whose: Whose::Call,
+            first_after: None,
+            printed: None,
+            refused: None,
         }
     }
 
@@ -150,36 +145,51 @@ impl CallNode {
         ensures { IfOk result (λ node. seen node ≡ unbegun_node call level) }
     {
         let first = given(alloc, &call)?;
-        let fault = EvalAltResult::ErrorTooManyOperations(position_of(&call));
-        let end = failed(first, fault);
-        Ok(CallNode::alone(alloc, call, level, false, None, end))
+        let mut node = CallNode::begun(alloc, call, level);
+        node.unbegin(first);
+        Ok(node)
     }
 
-    /// A call that is begun, for which nothing runs.
-    pub fn ended(
-        alloc: Global,
-        call: CallRequest,
-        level: u32,
-        pick: Option<Pick>,
-        end: End,
-    ) -> CallNode
-        ensures { seen result ≡ begun_node call level pick [] [] end }
+    /// The same call, not begun. It shows its first argument by reference, or its object.
+    fn unbegin(&mut self, first: Option<Dynamic>)
+        ensures { seen self.new ≡ unbegun_as (seen self.old) first }
     {
-        CallNode::alone(alloc, call, level, true, pick, end)
+        self.begun = false;
+        self.first_after = first;
     }
 
-    /// A call that ends with a fault of its own, and for which nothing runs.
-    pub fn failed(
+    /// Ends a call.
+    pub fn end_with(&mut self, pick: Option<Pick>, end: End)
+        ensures { seen self.new ≡ ended_as (seen self.old) pick end }
+    {
+        self.pick = pick;
+        self.answer = end.answer;
+        self.whose = end.whose;
+        self.first_after = end.first_after;
+        self.printed = end.printed;
+        self.refused = end.refused;
+    }
+
+    /// Ends a call with a fault of its own, for which nothing runs.
+    pub fn fail(
+        &mut self,
         alloc: Global,
-        call: CallRequest,
-        level: u32,
         pick: Option<Pick>,
         fault: EvalAltResult,
-    ) -> Result<CallNode, OutOfMemory>
-        ensures { IfOk result (λ node. seen node ≡ begun_node call level pick [] [] (failed (given call) fault)) }
+    ) -> Result<(), OutOfMemory>
+        ensures { OnOk result (seen self.new ≡ ended_as (seen self.old) pick (failed (given (seen self.old).call) fault)) }
     {
-        let first = given(alloc, &call)?;
-        Ok(CallNode::ended(alloc, call, level, pick, failed(first, fault)))
+        let first = given(alloc, &self.call)?;
+        self.end_with(pick, failed(first, fault));
+        Ok(())
+    }
+
+    /// Puts a carry, and the call that was asked for with it, last.
+    pub fn join(&mut self, carry: Carry, child: CallNode) -> Result<(), OutOfMemory>
+        ensures { OnOk result (seen self.new ≡ joined (seen self.old) carry child) }
+    {
+        self.carries.push(carry)?;
+        self.children.push(child)
     }
 
     /// What the function that asked for the call is told.

@@ -1,12 +1,13 @@
-use Rattle.std.proofs.Common.{◌+◌, refl}
+use Rattle.std.proofs.Common.{◌+◌, [], refl}
 use Rattle.std.proofs.lemmas.Result.{IfOk-weaker}
 use Rattle.rhd_session.specs.Of.{world_of}
 use Rattle.rhd_session.specs.Runs.{none_yet}
+use Rattle.rhd_session.specs.Seen.{seen}
 use Rattle.rhd_session.specs.Waits.{keeping}
 use Rattle.rhd_session.proofs.Stack.{settled}
 use Rattle.rhd_session.proofs.session.Session.begin_picked.Goals as goal
 
 pub returns : goal.returns
 unfolding world_of
-returns g c = λ n begun host within decided.
-    IfOk-weaker c.settle.result _ _ (λ outcome s. settled _ _ (λ i. keeping c.args.call c.args.level c.args.pick (c.new.ensures i) (c.new-2.ensures i)) within decided (c.in_ok-step.ensures (begun + 1) host) none_yet s) (c.settle.ensures _ refl refl)
+returns g c = λ n begun host begins within decided.
+    IfOk-weaker c.settle.result _ _ (λ asking s. settled _ _ within decided (c.in_ok-step.ensures (begun + 1) host) none_yet s) (c.settle.ensures _ (keeping (seen c.args.node.now).call (seen c.args.node.now).level c.args.pick [] []) refl refl begins refl)

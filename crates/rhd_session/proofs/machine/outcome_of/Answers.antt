@@ -1,0 +1,14 @@
+use Rattle.std.proofs.Common.{ap, sym, ◌∙◌}
+use Rattle.std.specs.Prelude.{Some}
+use Rattle.rhd_session.specs.declared.machine.Asking.{Asking}
+use Rattle.rhd_session.specs.declared.machine.Outcome.{Outcome}
+use Rattle.rhd_session.specs.declared.machine.Outcome.TheVariants.{Waiting}
+use Rattle.rhd_session.specs.Waits.{outcome_of}
+use Rattle.rhd_session.proofs.machine.outcome_of.Goals as goal
+
+pub returns-in-Some : goal.returns-in-Some
+returns-in-Some c =
+    ap (λ (a : Asking). Waiting (record { node = c.args.node; pick = a.pick; carry = a.carry }) a.request) c.into_inner-pick.ensures ∙ ap (outcome_of c.args.node) (sym c.in-Some.is)
+
+pub returns-in-None : goal.returns-in-None
+returns-in-None c = ap (outcome_of c.args.node) (sym c.in-None.is)
