@@ -23,7 +23,9 @@ ghost use Rattle.rhd_session.specs.Runs.{Runs, received_by};
 ghost use Rattle.rhd_session.specs.Waits.{Open, outcome_of, Comes_to, Going, Cutting, weight};
 
 use crate::ends::host_end;
-use crate::machine::{Asking, Hand, Outcome, Suspended, cut, outcome_of, put, settle, settle_waiting};
+use crate::machine::{
+    Asking, Hand, Outcome, Suspended, cut, outcome_of, put, settle, settle_waiting,
+};
 use crate::missing::not_found;
 use crate::node::CallNode;
 use crate::pick::Pick;
@@ -419,11 +421,7 @@ impl Session {
 }
 
 /// Ends a call for which no function is found. The host is asked where scripts are allowed.
-fn unpicked<H: Host>(
-    alloc: Global,
-    node: &mut CallNode,
-    host: &mut H,
-) -> Result<(), OutOfMemory>
+fn unpicked<H: Host>(alloc: Global, node: &mut CallNode, host: &mut H) -> Result<(), OutOfMemory>
     ensures alone { OnOk result (only_natives (plan_of (seen node.old).call).search ≡ true → (host.new ≡ host.old) × (seen node.new ≡ ended_as (seen node.old) None (missing_end (plan_of (seen node.old).call)))) }
     ensures asked { OnOk result (only_natives (plan_of (seen node.old).call).search ≡ false → (answer : HostAnswer) × H.allows_missing host.old (plan_of (seen node.old).call).name (all_args (plan_of (seen node.old).call).shape) (is_method_shape (plan_of (seen node.old).call).shape) answer host.new × (seen node.new ≡ ended_as (seen node.old) None (host_end (plan_of (seen node.old).call) answer))) }
 {

@@ -59,9 +59,7 @@ pub fn settle(
 {
     match step {
         NativeStep::Done { answer, first } => {
-            let end = done(
-                alloc, limits, printers, &node.call, &pick, answer, first,
-            )?;
+            let end = done(alloc, limits, printers, &node.call, &pick, answer, first)?;
             node.end_with(Some(pick), end);
             Ok(None)
         }
@@ -137,7 +135,11 @@ pub fn put(stack: &mut Vec<Suspended>, outcome: Outcome) -> Result<Hand, OutOfMe
 pub fn cut(frame: Suspended, child: CallNode) -> Result<CallNode, OutOfMemory>
     ensures { IfOk result (λ node. seen node ≡ closed (seen frame.node) frame.pick frame.carry child) }
 {
-    let Suspended { mut node, pick, carry } = frame;
+    let Suspended {
+        mut node,
+        pick,
+        carry,
+    } = frame;
     node.join(carry, child)?;
     node.pick = Some(pick);
     Ok(node)

@@ -14,10 +14,12 @@ returns-then-begun-self-clause-runs g c =
     IfOk-weaker c.unbegun.result _ _ (λ node h. (true, root_spent _ _ (frame_of c.args.self.now) c.args.call (moment c.args.begun.now c.args.host.now c.args.bodies.now) node b h)) c.unbegun.ensures
 
 pub returns-in-None-clause-runs : goal.returns-in-None-clause-runs
-returns-in-None-clause-runs g c =
-    (false, root_ends _ _ (frame_of c.args.self.now) c.args.call (moment c.args.begun.now c.args.host.now c.args.bodies.now) (moment (c.args.begun.now + 1) c.begin.new.host c.begin.new.bodies) (outcome_of c.begin.new.node c.in_ok-begin.field-0) c.begin.new.node
-    (λ n. begins_as _ _ (entered (frame_of c.args.self.now) n) _ _ c.begun-node.result _ _ _ _ c.begun-node.ensures refl (λ begins. c.in_ok-begin.ensures n c.args.begun.now begins c.if-begun-self.false))
-    (ap (outcome_of c.begin.new.node) c.in-None.is))
+returns-in-None-clause-runs g c = (
+  false,
+  root_ends _ _ (frame_of c.args.self.now) c.args.call (moment c.args.begun.now c.args.host.now c.args.bodies.now) (moment (c.args.begun.now + 1) c.begin.new.host c.begin.new.bodies) (outcome_of c.begin.new.node c.in_ok-begin.field-0) c.begin.new.node
+      (λ n. begins_as _ _ (entered (frame_of c.args.self.now) n) _ _ c.begun-node.result _ _ _ _ c.begun-node.ensures refl (λ begins. c.in_ok-begin.ensures n c.args.begun.now begins c.if-begun-self.false))
+      (ap (outcome_of c.begin.new.node) c.in-None.is),
+)
 
 pub run_on-requires-clause-comes : goal.run_on-requires-clause-comes
 run_on-requires-clause-comes g c =
