@@ -17,7 +17,7 @@ use Rattle.rhd_session.specs.Patterns.{patterns}
 use Rattle.rhd_value.specs.declared.tag.TypeTag.{TypeTag}
 use Rattle.rhd_names.specs.declared.token.OpToken.{OpToken}
 use Rattle.rhd_session.specs.Plans.{Plan, plan_of}
-use Rattle.rhd_session.specs.declared.ends.End.{End}
+use Rattle.rhd_session.specs.Ends.{End}
 use Rattle.rhd_session.specs.Ends.{host_end}
 use Rattle.rhd_laws.specs.Owners.{shown_pick}
 use Rattle.rhd_session.specs.Decisions.{asks_of, Decision, ends, asks_host, runs, pick_of, decided, refusal, unless_refused, decision, is_on_constant, constant_end, picked}

@@ -9,7 +9,7 @@ use Rattle.rhd_value.specs.declared.fault.EvalAltResult.TheVariants.{ErrorMismat
 use Rattle.rhd_func.specs.declared.request.HostAnswer.{HostAnswer}
 use Rattle.rhd_func.specs.declared.request.HostAnswer.TheVariants.{Nothing, Value, Fault}
 use Rattle.rhd_func.specs.Shapes.{all_args}
-use Rattle.rhd_session.specs.declared.ends.End.{End}
+use Rattle.rhd_session.specs.Ends.{End}
 use Rattle.rhd_session.specs.declared.node.Whose.TheVariants.{Host}
 use Rattle.rhd_session.specs.Display.{display}
 use Rattle.rhd_session.specs.Plans.{Plan}

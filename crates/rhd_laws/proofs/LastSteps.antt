@@ -18,7 +18,7 @@ use Rattle.rhd_func.specs.declared.request.NativeStep.{NativeStep}
 use Rattle.rhd_func.specs.declared.request.NativeStep.TheVariants.{Done, Failed, Ask}
 use Rattle.rhd_func.specs.Funcs.{is_script}
 use Rattle.rhd_session.specs.Engine.{EngineLists}
-use Rattle.rhd_session.specs.declared.ends.End.{End}
+use Rattle.rhd_session.specs.Ends.{End}
 use Rattle.rhd_session.specs.declared.limits.Limits.{Limits}
 use Rattle.rhd_session.specs.declared.node.Whose.TheVariants.{Called}
 use Rattle.rhd_session.specs.declared.pick.Pick.{Pick}

@@ -23,7 +23,7 @@ use Rattle.rhd_func.specs.declared.request.HostAnswer.TheVariants.{Value}
 use Rattle.rhd_func.specs.Shapes.{all_args, first_given, given, pos_of}
 use Rattle.rhd_session.specs.Engine.{EngineLists, Frame}
 use Rattle.rhd_session.specs.World.{World, Objects, Moment}
-use Rattle.rhd_session.specs.declared.ends.End.{End}
+use Rattle.rhd_session.specs.Ends.{End}
 use Rattle.rhd_session.specs.declared.limits.Limits.{Limits}
 use Rattle.rhd_session.specs.declared.node.CallNode.{CallNode}
 use Rattle.rhd_session.specs.declared.node.Whose.TheVariants.{Call, Called, Host}

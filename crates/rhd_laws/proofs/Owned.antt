@@ -10,7 +10,7 @@ use Rattle.rhd_func.specs.declared.request.CallRequest.TheVariants.{Named}
 use Rattle.rhd_func.specs.Shapes.{all_args, given}
 use Rattle.rhd_session.specs.Engine.{EngineLists, Frame}
 use Rattle.rhd_session.specs.World.{World, Objects, Moment}
-use Rattle.rhd_session.specs.declared.ends.End.{End}
+use Rattle.rhd_session.specs.Ends.{End}
 use Rattle.rhd_session.specs.declared.node.CallNode.{CallNode}
 use Rattle.rhd_session.specs.declared.node.Whose.{Whose}
 use Rattle.rhd_session.specs.declared.node.Whose.TheVariants.{Call, Called, Host}

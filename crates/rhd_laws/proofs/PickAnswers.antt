@@ -24,7 +24,7 @@ use Rattle.rhd_session.specs.Display.{display}
 use Rattle.rhd_session.specs.Operators.{operator_eq, operator_eq-Decides}
 use Rattle.rhd_session.specs.Patterns.{patterns_to}
 use Rattle.rhd_session.specs.World.{Objects}
-use Rattle.rhd_session.specs.declared.ends.End.{End}
+use Rattle.rhd_session.specs.Ends.{End}
 use Rattle.rhd_laws.specs.Unfound.{AllFail, without_host, and_host}
 use Rattle.rhd_session.specs.Received.{Manner, native_method, other_native, script, received}
 use Rattle.rhd_session.specs.Searched.{found}

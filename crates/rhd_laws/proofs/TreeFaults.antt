@@ -11,7 +11,7 @@ use Rattle.rhd_session.specs.declared.pick.Pick.{Pick}
 use Rattle.rhd_session.specs.Engine.{EngineLists, Frame}
 use Rattle.rhd_session.specs.World.{World, Objects, Moment}
 use Rattle.rhd_session.specs.Plans.{plan_of}
-use Rattle.rhd_session.specs.declared.ends.End.{End}
+use Rattle.rhd_session.specs.Ends.{End}
 use Rattle.rhd_session.specs.Ends.{failed}
 use Rattle.rhd_session.specs.Decisions.{ends, asks_host, locked_place, refusal}
 use Rattle.rhd_laws.specs.FirstAsks.{IsAnsweredFirst, EndsAlone}

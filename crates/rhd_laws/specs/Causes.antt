@@ -18,7 +18,7 @@ use Rattle.rhd_func.specs.Funcs.{is_script}
 use Rattle.rhd_func.specs.Shapes.{pos_of}
 use Rattle.rhd_session.specs.Engine.{EngineLists, Frame}
 use Rattle.rhd_session.specs.World.{World, Objects, Moment}
-use Rattle.rhd_session.specs.declared.ends.End.{End}
+use Rattle.rhd_session.specs.Ends.{End}
 use Rattle.rhd_session.specs.declared.limits.Limits.{Limits}
 use Rattle.rhd_session.specs.declared.limits.Printers.{Printers}
 use Rattle.rhd_session.specs.declared.node.Whose.TheVariants.{Call}

@@ -16,7 +16,7 @@ use Rattle.rhd_session.specs.Patterns.{patterns}
 use Rattle.rhd_session.specs.Received.{received, manner_of, first_received}
 use Rattle.rhd_session.specs.NotFound.{not_found}
 use Rattle.rhd_session.specs.Plans.{only_natives, Plan, plan_of}
-use Rattle.rhd_session.specs.declared.ends.End.{End}
+use Rattle.rhd_session.specs.Ends.{End}
 use Rattle.rhd_session.specs.Ends.{failed}
 use Rattle.rhd_session.specs.Decisions.{asks_of, refusal, constant_end}
 

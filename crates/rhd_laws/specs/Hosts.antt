@@ -6,7 +6,7 @@ use Rattle.rhd_func.specs.Shapes.{all_args, is_method_shape}
 use Rattle.rhd_session.specs.Engine.{EngineLists, Frame}
 use Rattle.rhd_session.specs.World.{Objects}
 use Rattle.rhd_session.specs.Plans.{plan_of}
-use Rattle.rhd_session.specs.declared.ends.End.{End}
+use Rattle.rhd_session.specs.Ends.{End}
 use Rattle.rhd_session.specs.Ends.{host_end}
 use Rattle.rhd_laws.specs.FirstAsks.{IsForHost}
 

@@ -8,7 +8,7 @@ use Rattle.rhd_func.specs.declared.request.HostAnswer.TheVariants.{Nothing}
 use Rattle.rhd_func.specs.Shapes.{all_args}
 use Rattle.rhd_session.specs.Engine.{EngineLists, Frame}
 use Rattle.rhd_session.specs.World.{Objects}
-use Rattle.rhd_session.specs.declared.ends.End.{End}
+use Rattle.rhd_session.specs.Ends.{End}
 use Rattle.rhd_session.specs.Plans.{only_natives, plan_of}
 use Rattle.rhd_session.specs.NotFound.{not_found}
 use Rattle.rhd_session.specs.Decisions.{refusal}

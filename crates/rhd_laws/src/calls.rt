@@ -22,7 +22,7 @@ ghost use Rattle.rhd_session.specs.declared.pick.Pick.{Pick};
 ghost use Rattle.rhd_session.specs.Engine.{EngineLists, Frame};
 ghost use Rattle.rhd_session.specs.Searched.{found};
 ghost use Rattle.rhd_session.specs.Plans.{Plan, plan_of};
-ghost use Rattle.rhd_session.specs.declared.ends.End.{End};
+ghost use Rattle.rhd_session.specs.Ends.{End};
 ghost use Rattle.rhd_session.specs.Ends.{failed};
 ghost use Rattle.rhd_session.specs.Decisions.{ends, asks_host, runs, locked_place, locked_text, refusal, decision, constant_end};
 ghost use Rattle.rhd_laws.specs.Causes.{IsOwn, IsForNoConstant, IsFirstLocked, NamesLocked, RefusesKind, RefusesHosts, RefusesSize, RefusesValue, GivesBack};

@@ -34,7 +34,7 @@ use Rattle.rhd_session.specs.Operators.{operator_eq}
 use Rattle.rhd_session.specs.Display.{display}
 use Rattle.rhd_session.proofs.Tables.{table_held}
 use Rattle.rhd_session.specs.Entered.{entered}
-use Rattle.rhd_session.specs.declared.ends.End.{End}
+use Rattle.rhd_session.specs.Ends.{End}
 use Rattle.rhd_session.specs.Ends.{failed}
 use Rattle.rhd_session.specs.Decisions.{ends, runs, asks_of, pick_of, decided, locked_place, locked_text, refusal, unless_refused, decision, is_on_constant, constant_end, asks_host, unpicked}
 use Rattle.rhd_session.proofs.HeldLaws.{found_is_held}

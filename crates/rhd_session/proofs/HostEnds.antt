@@ -1,6 +1,6 @@
 -- The end of a call that the host answers.
 use Rattle.std.proofs.Common.{◌≡◌, refl, sym, ap, ◌∙◌}
-use Rattle.std.specs.Prelude.{Option, None, Err}
+use Rattle.std.specs.Prelude.{Option, Err}
 use Rattle.rhd_value.specs.Tree.{Tree}
 use Rattle.rhd_value.specs.declared.fault.EvalAltResult.{EvalAltResult}
 use Rattle.rhd_func.specs.declared.request.HostAnswer.{HostAnswer}
@@ -8,30 +8,31 @@ use Rattle.rhd_func.specs.declared.request.HostAnswer.TheVariants.{Nothing, Valu
 use Rattle.rhd_func.specs.declared.request.CallRequest.{CallRequest}
 use Rattle.rhd_func.specs.declared.request.CallRequest.TheVariants.{Named}
 use Rattle.rhd_func.specs.Shapes.{all_args, given}
-use Rattle.rhd_session.specs.declared.ends.End.{End}
+use Rattle.rhd_session.specs.declared.node.CallNode.{CallNode}
 use Rattle.rhd_session.specs.declared.node.Whose.TheVariants.{Host}
 use Rattle.rhd_session.specs.Plans.{plan_of}
 use Rattle.rhd_session.specs.NotFound.{not_found}
-use Rattle.rhd_session.specs.Ends.{failed, accepted, host_end}
+use Rattle.rhd_session.specs.Ends.{answered, failed, accepted, host_end}
+use Rattle.rhd_session.specs.Seen.{seen, with_end}
 
 plan_given : (call : CallRequest) → given call ≡ (plan_of call).given
 plan_given (Named name token native_only shape want pos) = refl
 
-abbrev fault_with : EvalAltResult → Option Tree → End
-fault_with fault first = record { answer = Err fault; whose = Host; first_after = first; printed = None; refused = None }
-
 -- the end of a call with each answer of the host
-pub nothing_ends : (call : CallRequest) (answer : HostAnswer) (first : Option Tree) (fault : EvalAltResult) (end : End) →
-    answer ≡ Nothing → first ≡ given call → fault ≡ not_found (plan_of call).pos (plan_of call).name (all_args (plan_of call).shape) → end ≡ failed first fault → end ≡ host_end (plan_of call) answer
+pub nothing_ends : (old new : CallNode) (answer : HostAnswer) (fault : EvalAltResult) →
+    answer ≡ Nothing → fault ≡ not_found (plan_of (seen old).call).pos (plan_of (seen old).call).name (all_args (plan_of (seen old).call).shape) →
+    seen new ≡ with_end (seen old) (failed (given (seen old).call) fault) → seen new ≡ with_end (seen old) (host_end (plan_of (seen old).call) answer)
 unfolding host_end
-nothing_ends call answer first fault end is f m e = e ∙ (λ i. failed ((f ∙ plan_given call) i) (m i)) ∙ ap (host_end (plan_of call)) (sym is)
+nothing_ends old new answer fault is m e = e ∙ (λ i. with_end (seen old) (failed (plan_given (seen old).call i) (m i))) ∙ ap (λ (x : HostAnswer). with_end (seen old) (host_end (plan_of (seen old).call) x)) (sym is)
 
-pub value_ends : (call : CallRequest) (answer : HostAnswer) (v : Tree) (first : Option Tree) (end : End) →
-    answer ≡ Value v → first ≡ given call → end ≡ accepted (plan_of call) Host first v → end ≡ host_end (plan_of call) answer
+pub value_ends : (old new : CallNode) (answer : HostAnswer) (v : Tree) (first : Option Tree) →
+    answer ≡ Value v → first ≡ given (seen old).call → seen new ≡ with_end (seen old) (accepted (plan_of (seen old).call) Host first v) → seen new ≡ with_end (seen old) (host_end (plan_of (seen old).call) answer)
 unfolding host_end
-value_ends call answer v first end is f e = e ∙ ap (λ (x : Option Tree). accepted (plan_of call) Host x v) (f ∙ plan_given call) ∙ ap (host_end (plan_of call)) (sym is)
+value_ends old new answer v first is f e =
+    e ∙ ap (λ (x : Option Tree). with_end (seen old) (accepted (plan_of (seen old).call) Host x v)) (f ∙ plan_given (seen old).call) ∙ ap (λ (x : HostAnswer). with_end (seen old) (host_end (plan_of (seen old).call) x)) (sym is)
 
-pub fault_ends : (call : CallRequest) (answer : HostAnswer) (fault : EvalAltResult) (first : Option Tree) →
-    answer ≡ Fault fault → first ≡ given call → ◌≡◌ {A = End} (record { answer = Err fault; whose = Host; first_after = first; printed = None; refused = None }) (host_end (plan_of call) answer)
+pub fault_ends : (old new : CallNode) (answer : HostAnswer) (fault : EvalAltResult) (first : Option Tree) →
+    answer ≡ Fault fault → first ≡ given (seen old).call → seen new ≡ with_end (seen old) (answered Host first (Err fault)) → seen new ≡ with_end (seen old) (host_end (plan_of (seen old).call) answer)
 unfolding host_end
-fault_ends call answer fault first is f = ap (fault_with fault) (f ∙ plan_given call) ∙ ap (host_end (plan_of call)) (sym is)
+fault_ends old new answer fault first is f e =
+    e ∙ ap (λ (x : Option Tree). with_end (seen old) (answered Host x (Err fault))) (f ∙ plan_given (seen old).call) ∙ ap (λ (x : HostAnswer). with_end (seen old) (host_end (plan_of (seen old).call) x)) (sym is)

@@ -22,11 +22,11 @@ use Rattle.rhd_session.specs.declared.machine.Hand.{Hand}
 use Rattle.rhd_session.specs.declared.machine.Hand.TheVariants.{Asked, Answered}
 use Rattle.rhd_session.specs.Held.{func_held, all_held, builtins_held}
 use Rattle.rhd_session.specs.Plans.{Plan, plan_of}
-use Rattle.rhd_session.specs.declared.ends.End.{End}
+use Rattle.rhd_session.specs.Ends.{End}
 use Rattle.rhd_session.specs.declared.limits.Limits.{Limits}
 use Rattle.rhd_session.specs.declared.limits.Printers.{Printers}
 use Rattle.rhd_session.specs.Ends.{done, handed_on, end_of}
-use Rattle.rhd_session.specs.Seen.{Seen, seen, begun_node, begun_call, is_begun, unbegun_node, ended_as, joined, closed, done_of}
+use Rattle.rhd_session.specs.Seen.{Seen, seen, begun_node, begun_call, is_begun, unbegun_node, with_end, picking, joined, closed, done_of}
 use Rattle.rhd_session.specs.Decisions.{runs, decision}
 use Rattle.rhd_session.specs.Entered.{context, entered}
 use Rattle.rhd_session.specs.Steps.{Starts, Resumes}
@@ -37,19 +37,19 @@ use Rattle.rhd_session.proofs.Found.{runs_within, runs_plan, runs_is_held}
 -- what each step makes of a call under way
 pub settled_done : (e : EngineLists) (k : Kept) (limits : Limits) (printers : Printers) (old new : CallNode) (pick : Pick) (step : NativeStep) (answer : Tree) (back : Option Tree) (end : End) → e.limits ≡ limits → e.printers ≡ printers → seen old ≡ under_way k → pick ≡ k.pick → step ≡ Done answer back →
     end ≡ done limits printers (plan_of (seen old).call) pick back answer →
-    seen new ≡ ended_as (seen old) (Some pick) end → Settled e k step (Finished new)
+    seen new ≡ picking (with_end (seen old) end) pick → Settled e k step (Finished new)
 unfolding end_of
 settled_done e k limits printers old new pick step answer back end l p o q is h s =
     ends_with (ap (end_of e (plan_of k.call) k.pick) is ∙ ap Some ((λ i. done (l i) (p i) (plan_of k.call) k.pick back answer) ∙ sym (h ∙ (λ i. done limits printers (plan_of (o i).call) (q i) back answer))))
-    (s ∙ (λ i. ended_as (o i) (Some (q i)) end))
+    (s ∙ (λ i. picking (with_end (o i) end) (q i)))
 
 pub settled_failed : (e : EngineLists) (k : Kept) (old new : CallNode) (pick : Pick) (step : NativeStep) (fault : EvalAltResult) (back : Option Tree) (end : End) → seen old ≡ under_way k → pick ≡ k.pick → step ≡ Failed fault back →
     end ≡ handed_on (plan_of (seen old).call) pick back fault →
-    seen new ≡ ended_as (seen old) (Some pick) end → Settled e k step (Finished new)
+    seen new ≡ picking (with_end (seen old) end) pick → Settled e k step (Finished new)
 unfolding end_of
 settled_failed e k old new pick step fault back end o q is h s =
     ends_with (ap (end_of e (plan_of k.call) k.pick) is ∙ ap Some (sym (h ∙ (λ i. handed_on (plan_of (o i).call) (q i) back fault))))
-    (s ∙ (λ i. ended_as (o i) (Some (q i)) end))
+    (s ∙ (λ i. picking (with_end (o i) end) (q i)))
 
 pub settled_ask : (e : EngineLists) (k : Kept) (node : CallNode) (pick : Pick) (step : NativeStep) (request : CallRequest) (carry : Carry) (asking : Box Asking) → seen node ≡ under_way k → pick ≡ k.pick → step ≡ Ask request carry →
     asking.value ≡ record { pick = pick; request = request; carry = carry } → Settled e k step (outcome_of node (Some asking))

@@ -14,7 +14,7 @@ use Rattle.rhd_session.specs.declared.pick.Pick.{Pick}
 use Rattle.rhd_session.specs.Asks.{Asked, asks, pick_unqualified}
 use Rattle.rhd_session.specs.Plans.{Search, by_name, Plan, plan_of}
 use Rattle.rhd_session.specs.Received.{received, manner_of, first_received, is_read_only}
-use Rattle.rhd_session.specs.declared.ends.End.{End}
+use Rattle.rhd_session.specs.Ends.{End}
 use Rattle.rhd_session.specs.Ends.{failed, missing_end}
 
 pub data Decision : Type 0 where

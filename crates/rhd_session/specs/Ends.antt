@@ -1,5 +1,5 @@
 -- How a call ends: its answer, and what the checks of the answer make of it.
-use Rattle.std.specs.Prelude.{Bool, not, nat_lt, [], ◌∷◌, if◌then◌else◌, Option, None, Some, option_and_then, Ok, Err, codes}
+use Rattle.std.specs.Prelude.{Bool, not, nat_lt, [], ◌∷◌, if◌then◌else◌, Option, None, Some, option_and_then, Result, Ok, Err, codes}
 use Rattle.rhd_value.specs.Tree.{Bytes, Tree}
 use Rattle.rhd_value.specs.Kinds.{tag_of, type_name}
 use Rattle.rhd_value.specs.Sums.{sizes_of}
@@ -17,7 +17,6 @@ use Rattle.rhd_func.specs.declared.request.HostAnswer.TheVariants as host
 use Rattle.rhd_func.specs.Funcs.{is_script}
 use Rattle.rhd_func.specs.Shapes.{all_args}
 use Rattle.rhd_session.specs.NotFound.{not_found}
-use Rattle.rhd_session.specs.declared.ends.End.{End}
 use Rattle.rhd_session.specs.declared.limits.Limits.{Limits}
 use Rattle.rhd_session.specs.declared.limits.Printers.{Printers}
 use Rattle.rhd_session.specs.declared.node.Whose.{Whose}
@@ -29,9 +28,21 @@ use Rattle.rhd_session.specs.Plans.{Plan}
 use Rattle.rhd_session.specs.Printed.{printer, no_text, printed_text, said}
 use Rattle.rhd_session.specs.Received.{manner_of, first_after}
 
+-- how a call ends: its answer or fault, whose that is, the first argument by reference or the object as it is after the call, the text that is printed, and the value that the call refuses
+pub record End : Type 0 where
+  pub answer : Result Tree EvalAltResult
+  pub whose : Whose
+  pub first_after : Option Tree
+  pub printed : Option Bytes
+  pub refused : Option Tree
+
+-- an answer or a fault, where no value was refused and nothing was printed
+abbrev pub answered : Whose → Option Tree → Result Tree EvalAltResult → End
+answered whose first answer = record { answer = answer; whose = whose; first_after = first; printed = None; refused = None }
+
 -- a fault of the call itself, where no value was refused
 abbrev pub failed : Option Tree → EvalAltResult → End
-failed first fault = record { answer = Err fault; whose = Call; first_after = first; printed = None; refused = None }
+failed first fault = answered Call first (Err fault)
 
 -- a fault of the call itself, which refuses this value
 abbrev pub refusing : Option Tree → Tree → EvalAltResult → End
@@ -46,7 +57,7 @@ not_wanted (Some want) pos v = where_holds (not (tag_eq want (tag_of v))) (Error
 -- a value that is tested for the wanted kind alone
 abbrev pub accepted : Plan → Whose → Option Tree → Tree → End
 accepted plan whose first v = elim (not_wanted plan.want plan.pos v) as (λ _. End) [
-  | None ↦ record { answer = Ok v; whose = whose; first_after = first; printed = None; refused = None }
+  | None ↦ answered whose first (Ok v)
   | Some fault ↦ refusing first v fault
 ]
 
@@ -97,7 +108,7 @@ done limits printers plan pick back v = elim (unfit limits plan pick back v) as 
 
 -- its own fault is handed on unchanged
 abbrev pub handed_on : Plan → Pick → Option Tree → EvalAltResult → End
-handed_on plan pick back fault = record { answer = Err fault; whose = Called; first_after = first_at_end plan pick back; printed = None; refused = None }
+handed_on plan pick back fault = answered Called (first_at_end plan pick back) (Err fault)
 
 -- how a call ends with the last step of its function; a request is no end
 unfoldable pub end_of : EngineLists → Plan → Pick → NativeStep → Option End
@@ -113,4 +124,4 @@ missing_end plan = failed plan.given (not_found plan.pos plan.name (all_args pla
 unfoldable pub host_end : Plan → HostAnswer → End
 host_end plan host.Nothing = missing_end plan
 host_end plan (host.Value v) = accepted plan Host plan.given v
-host_end plan (host.Fault fault) = record { answer = Err fault; whose = Host; first_after = plan.given; printed = None; refused = None }
+host_end plan (host.Fault fault) = answered Host plan.given (Err fault)

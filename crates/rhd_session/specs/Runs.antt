@@ -12,7 +12,7 @@ use Rattle.rhd_session.specs.declared.node.CallNode.{CallNode}
 use Rattle.rhd_session.specs.declared.pick.Pick.{Pick}
 use Rattle.rhd_session.specs.Plans.{Plan}
 use Rattle.rhd_session.specs.Received.{Received, received, manner_of}
-use Rattle.rhd_session.specs.declared.ends.End.{End}
+use Rattle.rhd_session.specs.Ends.{End}
 use Rattle.rhd_session.specs.Ends.{end_of, host_end}
 use Rattle.rhd_session.specs.Decisions.{ends, asks_host, runs, decision}
 use Rattle.rhd_session.specs.Entered.{context, entered}

@@ -9,7 +9,7 @@ use Rattle.rhd_func.specs.Shapes.{given, pos_of}
 use Rattle.rhd_session.specs.declared.pick.Pick.{Pick}
 use Rattle.rhd_session.specs.declared.node.CallNode.{CallNode, out-CallNode}
 use Rattle.rhd_session.specs.Nodes.{nodes_in}
-use Rattle.rhd_session.specs.declared.ends.End.{End}
+use Rattle.rhd_session.specs.Ends.{End}
 use Rattle.rhd_session.specs.Ends.{failed}
 
 -- the parts of a node
@@ -59,8 +59,12 @@ abbrev pub unbegun_as : Seen → Option Tree → Seen
 unbegun_as s first = record s { begun = false; end = record s.end { first_after = first } }
 
 -- the same call, ended
-abbrev pub ended_as : Seen → Option Pick → End → Seen
-ended_as s pick end = record s { pick = pick; end = end }
+abbrev pub with_end : Seen → End → Seen
+with_end s end = record s { end = end }
+
+-- the same call, which shows its pick
+abbrev pub picking : Seen → Pick → Seen
+picking s pick = record s { pick = Some pick }
 
 -- the same call, with the answer to one more request
 abbrev pub joined : Seen → Carry → CallNode → Seen
@@ -68,7 +72,7 @@ joined s carry child = record s { carries = s.carries ++ carry ∷ []; children 
 
 -- the same call, closed where the budget was spent within the child that it waits for
 abbrev pub closed : Seen → Pick → Carry → CallNode → Seen
-closed s pick carry child = record (joined s carry child) { pick = Some pick }
+closed s pick carry child = picking (joined s carry child) pick
 
 -- what a child hands to the function that asked for it
 abbrev pub done_of : CallNode → CallDone

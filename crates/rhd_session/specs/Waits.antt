@@ -16,7 +16,7 @@ use Rattle.rhd_session.specs.declared.machine.Outcome.TheVariants.{Waiting, Fini
 use Rattle.rhd_session.specs.declared.machine.Hand.{Hand}
 use Rattle.rhd_session.specs.declared.machine.Hand.TheVariants.{Asked, Answered}
 use Rattle.rhd_session.specs.Plans.{Plan, plan_of}
-use Rattle.rhd_session.specs.declared.ends.End.{End}
+use Rattle.rhd_session.specs.Ends.{End}
 use Rattle.rhd_session.specs.Ends.{end_of}
 use Rattle.rhd_session.specs.Seen.{Seen, seen, begun_node, cut_end}
 use Rattle.rhd_session.specs.Decisions.{runs, decision}

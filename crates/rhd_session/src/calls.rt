@@ -16,13 +16,13 @@ ghost use Rattle.rhd_session.specs.Searched.{found};
 ghost use Rattle.rhd_session.specs.Plans.{only_natives, plan_of};
 ghost use Rattle.rhd_session.specs.Ends.{missing_end, host_end};
 ghost use Rattle.rhd_session.specs.Decisions.{refusal, decision, runs, pick_of, is_on_constant, constant_end};
-ghost use Rattle.rhd_session.specs.Seen.{seen, is_begun, ended_as, done_of};
+ghost use Rattle.rhd_session.specs.Seen.{seen, is_begun, with_end, picking, done_of};
 ghost use Rattle.rhd_session.specs.Entered.{context, entered};
 ghost use Rattle.rhd_session.specs.Steps.{Starts, Resumes};
 ghost use Rattle.rhd_session.specs.Runs.{Runs, received_by};
 ghost use Rattle.rhd_session.specs.Waits.{Open, outcome_of, Comes_to, Going, Cutting, weight};
 
-use crate::ends::host_end;
+use crate::ends::end_by_host;
 use crate::machine::{
     Asking, Hand, Outcome, Suspended, cut, outcome_of, put, settle, settle_waiting,
 };
@@ -177,7 +177,7 @@ impl Session {
     {
         match refusal(alloc, self.limits, node.level, &node.call)? {
             Some(fault) => {
-                node.fail(alloc, None, fault)?;
+                node.fail(alloc, fault)?;
                 Ok(None)
             }
             None => self.begin_unrefused(alloc, node, host, bodies),
@@ -422,17 +422,15 @@ impl Session {
 
 /// Ends a call for which no function is found. The host is asked where scripts are allowed.
 fn unpicked<H: Host>(alloc: Global, node: &mut CallNode, host: &mut H) -> Result<(), OutOfMemory>
-    ensures alone { OnOk result (only_natives (plan_of (seen node.old).call).search ≡ true → (host.new ≡ host.old) × (seen node.new ≡ ended_as (seen node.old) None (missing_end (plan_of (seen node.old).call)))) }
-    ensures asked { OnOk result (only_natives (plan_of (seen node.old).call).search ≡ false → (answer : HostAnswer) × H.allows_missing host.old (plan_of (seen node.old).call).name (all_args (plan_of (seen node.old).call).shape) (is_method_shape (plan_of (seen node.old).call).shape) answer host.new × (seen node.new ≡ ended_as (seen node.old) None (host_end (plan_of (seen node.old).call) answer))) }
+    ensures alone { OnOk result (only_natives (plan_of (seen node.old).call).search ≡ true → (host.new ≡ host.old) × (seen node.new ≡ with_end (seen node.old) (missing_end (plan_of (seen node.old).call)))) }
+    ensures asked { OnOk result (only_natives (plan_of (seen node.old).call).search ≡ false → (answer : HostAnswer) × H.allows_missing host.old (plan_of (seen node.old).call).name (all_args (plan_of (seen node.old).call).shape) (is_method_shape (plan_of (seen node.old).call).shape) answer host.new × (seen node.new ≡ with_end (seen node.old) (host_end (plan_of (seen node.old).call) answer))) }
 {
     if native_only_of(&node.call) {
         let fault = not_found(alloc, &node.call)?;
-        return node.fail(alloc, None, fault);
+        return node.fail(alloc, fault);
     }
     let answer = ask_host(alloc, &node.call, host)?;
-    let end = host_end(alloc, &node.call, answer)?;
-    node.end_with(None, end);
-    Ok(())
+    end_by_host(alloc, node, answer)
 }
 
 /// What the host answers for a call.
@@ -457,9 +455,11 @@ fn on_constant(call: &CallRequest, pick: &Pick) -> bool
 
 /// Ends a call whose function isn't for a constant.
 fn refuse_constant(alloc: Global, node: &mut CallNode, pick: Pick) -> Result<(), OutOfMemory>
-    ensures { OnOk result (seen node.new ≡ ended_as (seen node.old) (Some pick) (constant_end (plan_of (seen node.old).call))) }
+    ensures { OnOk result (seen node.new ≡ picking (with_end (seen node.old) (constant_end (plan_of (seen node.old).call))) pick) }
 {
     let name = name_of(&node.call).dup(alloc)?;
     let fault = EvalAltResult::ErrorNonPureMethodCallOnConstant(name, position_of(&node.call));
-    node.fail(alloc, Some(pick), fault)
+    node.fail(alloc, fault)?;
+    node.picks(pick);
+    Ok(())
 }

@@ -1,61 +1,23 @@
 //! How a call ends, and the checks of what its function answered.
 
-ghost use Rattle.std.specs.Prelude.{◌≡◌, IfOk, Option, Some, option_and_then};
+ghost use Rattle.std.specs.Prelude.{◌≡◌, IfOk, OnOk, Option, Some, option_and_then};
 ghost use Rattle.rhd_value.specs.Tree.{Tree};
 ghost use Rattle.std.specs.Option.{option_copied};
 ghost use Rattle.rhd_value.specs.declared.fault.EvalAltResult.TheVariants as faults;
 ghost use Rattle.rhd_session.specs.Ends as ends;
 ghost use Rattle.rhd_session.specs.Plans.{Plan, plan_of};
+ghost use Rattle.rhd_session.specs.Seen.{seen, with_end};
 
 use crate::limits::{Limits, Printers};
 use crate::missing::not_found;
-use crate::node::Whose;
+use crate::node::{CallNode, Whose};
 use crate::pick::Pick;
 use crate::plan::{position_of, shape_of, want_of};
 use crate::printed::{no_text, printed_text, printer, said};
 use crate::received::{first_after, given};
-use rhd_func::{CallRequest, HostAnswer};
+use rhd_func::HostAnswer;
 use rhd_value::{Dynamic, EvalAltResult, OutOfMemory, Position, Text, TypeTag};
 use std::alloc::Global;
-
-/// How a call ends.
-#[derive(Drop)]
-pub struct End {
-    pub answer: Result<Dynamic, EvalAltResult>,
-    pub whose: Whose,
-    /// The first argument by reference, or the object, as it is after the call.
-    pub first_after: Option<Dynamic>,
-    /// The text that is printed, if one is.
-    pub printed: Option<Text>,
-    /// The value that the call refuses, where it does.
-    pub refused: Option<Dynamic>,
-}
-
-/// A fault of the call itself, where no value was refused.
-pub fn failed(first: Option<Dynamic>, fault: EvalAltResult) -> End
-    ensures { result ≡ ends.failed first fault }
-{
-    End {
-        answer: Err(fault),
-        whose: Whose::Call,
-        first_after: first,
-        printed: None,
-        refused: None,
-    }
-}
-
-/// A fault of the call itself, which refuses a value.
-fn refusing(first: Option<Dynamic>, value: Dynamic, fault: EvalAltResult) -> End
-    ensures { result ≡ ends.refusing first value fault }
-{
-    End {
-        answer: Err(fault),
-        whose: Whose::Call,
-        first_after: first,
-        printed: None,
-        refused: Some(value),
-    }
-}
 
 /// The fault of a value that isn't of the wanted kind.
 fn not_wanted(
@@ -151,100 +113,106 @@ fn unfit(
     }
 }
 
-/// How a call ends with a value that is tested for the wanted kind alone.
-pub fn accepted(
+/// Ends a call with a value that is tested for the wanted kind alone.
+fn accept(
     alloc: Global,
-    call: &CallRequest,
+    node: &mut CallNode,
     whose: Whose,
     first: Option<Dynamic>,
     value: Dynamic,
-) -> Result<End, OutOfMemory>
-    ensures { IfOk result (λ end. end ≡ ends.accepted (plan_of call.now) whose first value) }
+) -> Result<(), OutOfMemory>
+    ensures { OnOk result (seen node.new ≡ with_end (seen node.old) (ends.accepted (plan_of (seen node.old).call) whose first value)) }
 {
-    match not_wanted(alloc, want_of(call), position_of(call), &value)? {
-        Some(fault) => Ok(refusing(first, value, fault)),
-        None => Ok(End {
-            answer: Ok(value),
-            whose,
-            first_after: first,
-            printed: None,
-            refused: None,
-        }),
+    match not_wanted(alloc, want_of(&node.call), position_of(&node.call), &value)? {
+        Some(fault) => node.refuse(first, value, fault),
+        None => node.answer_with(whose, first, Ok(value)),
     }
+    Ok(())
 }
 
-/// How a call ends whose function answered a value of sizes that are allowed. The text that it
-/// prints stays printed where the call then refuses what it answers.
-fn told(
+/// Ends a call whose function answered a value of sizes that are allowed. The text that it prints
+/// stays printed where the call then refuses what it answers.
+fn tell(
     alloc: Global,
-    call: &CallRequest,
+    node: &mut CallNode,
     printer: Option<bool>,
     first: Option<Dynamic>,
     value: Dynamic,
-) -> Result<End, OutOfMemory>
-    ensures { IfOk result (λ end. end ≡ ends.told printer (plan_of call.now) first value) }
+) -> Result<(), OutOfMemory>
+    ensures { OnOk result (seen node.new ≡ with_end (seen node.old) (ends.told printer (plan_of (seen node.old).call) first value)) }
 {
-    if let Some(fault) = no_text(alloc, printer, position_of(call), &value)? {
-        return Ok(refusing(first, value, fault));
+    if let Some(fault) = no_text(alloc, printer, position_of(&node.call), &value)? {
+        node.refuse(first, value, fault);
+        return Ok(());
     }
     let printed = printed_text(alloc, printer, &value)?;
-    let mut end = accepted(alloc, call, Whose::Called, first, said(printer, value))?;
-    end.printed = printed;
-    Ok(end)
+    accept(alloc, node, Whose::Called, first, said(printer, value))?;
+    node.print(printed);
+    Ok(())
 }
 
-/// How a call ends whose function answered a value, and gave this back of its first argument.
-pub fn done(
+/// Ends a call whose function answered a value, and gave this back of its first argument.
+pub fn finish(
     alloc: Global,
     limits: Limits,
     printers: Printers,
-    call: &CallRequest,
+    node: &mut CallNode,
     pick: &Pick,
     value: Dynamic,
     back: Option<Dynamic>,
-) -> Result<End, OutOfMemory>
-    ensures { IfOk result (λ end. end ≡ ends.done limits printers (plan_of call.now) pick.now back value) }
+) -> Result<(), OutOfMemory>
+    ensures { OnOk result (seen node.new ≡ with_end (seen node.old) (ends.done limits printers (plan_of (seen node.old).call) pick.now back value)) }
 {
-    let first = first_after(alloc, &pick.func, shape_of(call), back)?;
-    match unfit(alloc, limits, position_of(call), pick, &first, &value)? {
-        Some(fault) => Ok(refusing(first, value, fault)),
-        None => told(alloc, call, printer(printers, call, pick), first, value),
+    let first = first_after(alloc, &pick.func, shape_of(&node.call), back)?;
+    let pos = position_of(&node.call);
+    match unfit(alloc, limits, pos, pick, &first, &value)? {
+        Some(fault) => {
+            node.refuse(first, value, fault);
+            Ok(())
+        }
+        None => {
+            let printer = printer(printers, &node.call, pick);
+            tell(alloc, node, printer, first, value)
+        }
     }
 }
 
-/// How a call ends whose function failed, and gave this back of its first argument.
-pub fn handed_on(
+/// Ends a call whose function failed, and gave this back of its first argument.
+pub fn hand_on(
     alloc: Global,
-    call: &CallRequest,
+    node: &mut CallNode,
     pick: &Pick,
     fault: EvalAltResult,
     back: Option<Dynamic>,
-) -> Result<End, OutOfMemory>
-    ensures { IfOk result (λ end. end ≡ ends.handed_on (plan_of call.now) pick.now back fault) }
+) -> Result<(), OutOfMemory>
+    ensures { OnOk result (seen node.new ≡ with_end (seen node.old) (ends.handed_on (plan_of (seen node.old).call) pick.now back fault)) }
 {
-    Ok(End {
-        answer: Err(fault),
-        whose: Whose::Called,
-        first_after: first_after(alloc, &pick.func, shape_of(call), back)?,
-        printed: None,
-        refused: None,
-    })
+    let first = first_after(alloc, &pick.func, shape_of(&node.call), back)?;
+    node.answer_with(Whose::Called, first, Err(fault));
+    Ok(())
 }
 
-/// How a call ends with what the host answered. Where that is nothing, its function isn't found.
-pub fn host_end(alloc: Global, call: &CallRequest, answer: HostAnswer) -> Result<End, OutOfMemory>
-    ensures { IfOk result (λ end. end ≡ ends.host_end (plan_of call.now) answer) }
+/// Ends a call with what the host answered. Where that is nothing, its function isn't found.
+pub fn end_by_host(
+    alloc: Global,
+    node: &mut CallNode,
+    answer: HostAnswer,
+) -> Result<(), OutOfMemory>
+    ensures { OnOk result (seen node.new ≡ with_end (seen node.old) (ends.host_end (plan_of (seen node.old).call) answer)) }
 {
-    let first = given(alloc, call)?;
     match answer {
-        HostAnswer::Nothing => Ok(failed(first, not_found(alloc, call)?)),
-        HostAnswer::Value(value) => accepted(alloc, call, Whose::Host, first, value),
-        HostAnswer::Fault(fault) => Ok(End {
-            answer: Err(fault),
-            whose: Whose::Host,
-            first_after: first,
-            printed: None,
-            refused: None,
-        }),
+        HostAnswer::Nothing => {
+            let fault = not_found(alloc, &node.call)?;
+            node.fail(alloc, fault)
+        }
+        HostAnswer::Value(value) => {
+            let first = given(alloc, &node.call)?;
+            accept(alloc, node, Whose::Host, first, value)
+        }
+        HostAnswer::Fault(fault) => {
+            let first = given(alloc, &node.call)?;
+            node.answer_with(Whose::Host, first, Err(fault));
+            Ok(())
+        }
     }
 }

@@ -5,7 +5,7 @@ ghost use Rattle.rhd_session.specs.Seen.{seen, joined, closed};
 ghost use Rattle.rhd_session.specs.Engine.{EngineLists};
 ghost use Rattle.rhd_session.specs.Waits.{Kept, under_way, outcome_of, Settled, Put, weight};
 
-use crate::ends::{done, handed_on};
+use crate::ends::{finish, hand_on};
 use crate::limits::{Limits, Printers};
 use crate::node::CallNode;
 use crate::pick::Pick;
@@ -59,13 +59,13 @@ pub fn settle(
 {
     match step {
         NativeStep::Done { answer, first } => {
-            let end = done(alloc, limits, printers, &node.call, &pick, answer, first)?;
-            node.end_with(Some(pick), end);
+            finish(alloc, limits, printers, node, &pick, answer, first)?;
+            node.picks(pick);
             Ok(None)
         }
         NativeStep::Failed { fault, first } => {
-            let end = handed_on(alloc, &node.call, &pick, fault, first)?;
-            node.end_with(Some(pick), end);
+            hand_on(alloc, node, &pick, fault, first)?;
+            node.picks(pick);
             Ok(None)
         }
         NativeStep::Ask { request, carry } => {
@@ -141,6 +141,6 @@ pub fn cut(frame: Suspended, child: CallNode) -> Result<CallNode, OutOfMemory>
         carry,
     } = frame;
     node.join(carry, child)?;
-    node.pick = Some(pick);
+    node.picks(pick);
     Ok(node)
 }

@@ -1,12 +1,11 @@
 //! The tree of a call.
 
 ghost use Rattle.std.specs.Prelude.{◌≡◌, ◌++◌, ◌∷◌, [], if◌then◌else◌, is_ok, IfOk, OnOk};
-ghost use Rattle.rhd_session.specs.Ends.{failed};
+ghost use Rattle.rhd_session.specs.Ends.{answered, failed, refusing, showing};
 ghost use Rattle.rhd_func.specs.Shapes.{given};
 ghost use Rattle.rhd_session.specs.Nodes.{nodes_in};
-ghost use Rattle.rhd_session.specs.Seen.{seen, begun_call, unbegun_node, unbegun_as, ended_as, joined, done_of};
+ghost use Rattle.rhd_session.specs.Seen.{seen, begun_call, unbegun_node, unbegun_as, with_end, picking, joined, done_of};
 
-use crate::ends::{End, failed};
 use crate::pick::Pick;
 use crate::plan::position_of;
 use crate::received::given;
@@ -158,29 +157,53 @@ impl CallNode {
         self.first_after = first;
     }
 
-    /// Ends a call.
-    pub fn end_with(&mut self, pick: Option<Pick>, end: End)
-        ensures { seen self.new ≡ ended_as (seen self.old) pick end }
+    /// Ends a call with an answer or a fault, where no value is refused.
+    pub fn answer_with(
+        &mut self,
+        whose: Whose,
+        first: Option<Dynamic>,
+        answer: Result<Dynamic, EvalAltResult>,
+    )
+        ensures { seen self.new ≡ with_end (seen self.old) (answered whose first answer) }
     {
-        self.pick = pick;
-        self.answer = end.answer;
-        self.whose = end.whose;
-        self.first_after = end.first_after;
-        self.printed = end.printed;
-        self.refused = end.refused;
+        self.answer = answer;
+        self.whose = whose;
+        self.first_after = first;
+        self.printed = None;
+        self.refused = None;
     }
 
-    /// Ends a call with a fault of its own, for which nothing runs.
-    pub fn fail(
-        &mut self,
-        alloc: Global,
-        pick: Option<Pick>,
-        fault: EvalAltResult,
-    ) -> Result<(), OutOfMemory>
-        ensures { OnOk result (seen self.new ≡ ended_as (seen self.old) pick (failed (given (seen self.old).call) fault)) }
+    /// Ends a call with a fault of its own, which refuses a value.
+    pub fn refuse(&mut self, first: Option<Dynamic>, value: Dynamic, fault: EvalAltResult)
+        ensures { seen self.new ≡ with_end (seen self.old) (refusing first value fault) }
+    {
+        self.answer = Err(fault);
+        self.whose = Whose::Call;
+        self.first_after = first;
+        self.printed = None;
+        self.refused = Some(value);
+    }
+
+    /// Shows the text that is printed, if one is.
+    pub fn print(&mut self, printed: Option<Text>)
+        ensures { seen self.new ≡ with_end (seen self.old) (showing printed (seen self.old).end) }
+    {
+        self.printed = printed;
+    }
+
+    /// Shows the function that was picked.
+    pub fn picks(&mut self, pick: Pick)
+        ensures { seen self.new ≡ picking (seen self.old) pick }
+    {
+        self.pick = Some(pick);
+    }
+
+    /// Ends a call for which nothing runs with a fault of its own.
+    pub fn fail(&mut self, alloc: Global, fault: EvalAltResult) -> Result<(), OutOfMemory>
+        ensures { OnOk result (seen self.new ≡ with_end (seen self.old) (failed (given (seen self.old).call) fault)) }
     {
         let first = given(alloc, &self.call)?;
-        self.end_with(pick, failed(first, fault));
+        self.answer_with(Whose::Call, first, Err(fault));
         Ok(())
     }
 
