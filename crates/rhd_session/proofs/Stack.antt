@@ -26,7 +26,7 @@ use Rattle.rhd_session.specs.Ends.{End}
 use Rattle.rhd_session.specs.declared.limits.Limits.{Limits}
 use Rattle.rhd_session.specs.declared.limits.Printers.{Printers}
 use Rattle.rhd_session.specs.Ends.{done, handed_on, end_of}
-use Rattle.rhd_session.specs.Seen.{Seen, seen, begun_node, begun_call, is_begun, unbegun_node, with_end, picking, joined, closed, done_of}
+use Rattle.rhd_session.specs.Seen.{Seen, seen, begun_call, is_begun, unbegun_node, with_end, picking, joined, closed, done_of}
 use Rattle.rhd_session.specs.Decisions.{runs, decision}
 use Rattle.rhd_session.specs.Entered.{context, entered}
 use Rattle.rhd_session.specs.Steps.{Starts, Resumes}

@@ -1,5 +1,5 @@
 -- What becomes of a call for which no function is found.
-use Rattle.std.proofs.Common.{◌≡◌, ℕ, ◌<◌, Bool, true, false, [], refl, sym, subst, ap, ◌∙◌}
+use Rattle.std.proofs.Common.{◌≡◌, ◌<◌, Bool, true, false, [], refl, sym, subst, ap, ◌∙◌}
 use Rattle.std.specs.Prelude.{None, Some}
 use Rattle.rhd_func.specs.declared.request.HostAnswer.{HostAnswer}
 use Rattle.rhd_func.specs.Shapes.{all_args, is_method_shape}

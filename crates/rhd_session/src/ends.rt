@@ -163,8 +163,8 @@ pub fn finish(
 ) -> Result<(), OutOfMemory>
     ensures { OnOk result (seen node.new ≡ with_end (seen node.old) (ends.done limits printers (plan_of (seen node.old).call) pick.now back value)) }
 {
-    let first = first_after(alloc, &pick.func, shape_of(&node.call), back)?;
     let pos = position_of(&node.call);
+    let first = first_after(alloc, &pick.func, shape_of(&node.call), back)?;
     match unfit(alloc, limits, pos, pick, &first, &value)? {
         Some(fault) => {
             node.refuse(first, value, fault);

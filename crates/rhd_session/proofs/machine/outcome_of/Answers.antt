@@ -1,7 +1,5 @@
 use Rattle.std.proofs.Common.{ap, sym, ◌∙◌}
-use Rattle.std.specs.Prelude.{Some}
 use Rattle.rhd_session.specs.declared.machine.Asking.{Asking}
-use Rattle.rhd_session.specs.declared.machine.Outcome.{Outcome}
 use Rattle.rhd_session.specs.declared.machine.Outcome.TheVariants.{Waiting}
 use Rattle.rhd_session.specs.Waits.{outcome_of}
 use Rattle.rhd_session.proofs.machine.outcome_of.Goals as goal

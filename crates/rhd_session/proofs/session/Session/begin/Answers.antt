@@ -1,6 +1,4 @@
-use Rattle.std.proofs.Common.{ap, ◌∙◌, refl}
-use Rattle.std.specs.Prelude.{None, Option}
-use Rattle.rhd_value.specs.Tree.{Tree}
+use Rattle.std.proofs.Common.{◌∙◌, refl}
 use Rattle.rhd_session.specs.Of.{world_of}
 use Rattle.rhd_session.specs.Runs.{ended}
 use Rattle.rhd_session.specs.Seen.{seen}

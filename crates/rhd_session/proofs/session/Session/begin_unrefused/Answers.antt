@@ -1,5 +1,4 @@
 use Rattle.std.proofs.Common.{◌∙◌, sym}
-use Rattle.std.specs.Prelude.{Some}
 use Rattle.rhd_session.specs.Of.{world_of, frame_of}
 use Rattle.rhd_session.specs.Runs.{ended}
 use Rattle.rhd_session.specs.Seen.{seen}
