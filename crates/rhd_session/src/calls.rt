@@ -31,7 +31,7 @@ use crate::node::CallNode;
 use crate::pick::Pick;
 use crate::plan::{name_of, native_only_of, position_of, shape_of, token_of};
 use crate::received::{
-    Received, all_args, context, context_if, is_method_shape, receive, receives_constant,
+    Received, all_args, context, given, context_if, is_method_shape, receive, receives_constant,
 };
 use crate::refusal::refusal;
 use crate::search::{find, key_parts, script_key_of, typed_key_of};
@@ -48,36 +48,26 @@ use std::mem;
 impl Session {
     ghost use Rattle.rhd_session.specs.Of.{natives_of, world_of, frame_of};
 
-    /// Makes a call, with all the calls that it leads to. Each call that is begun counts.
-    pub(crate) fn run_call<H: Host, B: Bodies>(
+    pub(crate) fn start_call<H: Host, B: Bodies>(
         &self,
         alloc: Global,
-        call: CallRequest,
+        node: &mut CallNode,
         begun: &mut u64,
         host: &mut H,
         bodies: &mut B,
-    ) -> Result<CallNode, OutOfMemory>
-        requires { begun.old ≤ self.now.limits.budget }
-        ensures runs { IfOk result (λ node. (cut : Bool) × Runs (objects_of allows_call allows_resume B.allows_start B.allows_next H.allows_missing (natives_of self.now)) (world_of info self.now) (frame_of self.now) 1 call node (moment begun.old host.old bodies.old) (moment begun.new host.new bodies.new) cut) }
-        ensures within { begun.new ≤ self.now.limits.budget }
-        ensures rises { begun.old ≤ begun.new }
+    ) -> Result<Option<Box<Asking>>, OutOfMemory>
     {
         if *begun >= self.limits.budget {
-            return CallNode::unbegun(alloc, call, 1);
+            let first = given(alloc, &node.call)?;
+            node.unbegin(first);
+            return Ok(None);
         }
         *begun += 1;
-        let mut node = CallNode::begun(alloc, call, 1);
-        match self.begin(alloc, &mut node, host, bodies)? {
-            None => Ok(node),
-            Some(asking) => {
-                let outcome = outcome_of(node, Some(asking));
-                self.run_on::<H, B>(alloc, outcome, begun, host, bodies)
-            }
-        }
+        self.begin(alloc, node, host, bodies)
     }
 
     /// Goes on with a call that is begun, with all the calls that it leads to.
-    fn run_on<H: Host, B: Bodies>(
+    pub(crate) fn run_on<H: Host, B: Bodies>(
         &self,
         alloc: Global,
         outcome: Outcome,
@@ -195,7 +185,7 @@ impl Session {
     ) -> Result<Option<Box<Asking>>, OutOfMemory>
         ensures { (n begun : ℕ) → is_begun (seen node.old) → begun < self.now.limits.budget → refusal (world_of info self.now).engine (seen node.old).level (seen node.old).call ≡ None → IfOk result (λ asking. Comes_to (objects_of allows_call allows_resume B.allows_start B.allows_next H.allows_missing (natives_of self.now)) (world_of info self.now) (entered (frame_of self.now) n) (seen node.old).level (seen node.old).call (outcome_of node.new asking) (moment begun host.old bodies.old) (moment (begun + 1) host.new bodies.new)) }
     {
-        match self.pick(alloc, &node.call)? {
+        match self.pick(alloc, &mut node.call)? {
             Some(pick) => {
                 if on_constant(&node.call, &pick) {
                     refuse_constant(alloc, node, pick)?;
@@ -212,16 +202,18 @@ impl Session {
 
     /// The function that a call means: of the scripts, where they are allowed, and then of the
     /// natives and built-ins.
-    fn pick(&self, alloc: Global, call: &CallRequest) -> Result<Option<Pick>, OutOfMemory>
+    fn pick(&self, alloc: Global, call: &mut CallRequest) -> Result<Option<Pick>, OutOfMemory>
         ensures pick { IfOk result (λ pick. pick ≡ pick_of (world_of info self.now).engine (frame_of self.now) (plan_of call.now)) }
         ensures held { IfOk result (λ pick. IfSome pick (λ p. func_held (length (natives_of self.now).items.items) p.func ≡ true)) }
     {
-        let mut name = name_of(call).dup(alloc)?;
-        let shape = shape_of(call);
-        match self.pick_script(alloc, &mut name, native_only_of(call), shape)? {
-            Some(pick) => Ok(Some(pick)),
-            None => self.pick_native(alloc, name, token_of(call), shape),
-        }
+        let CallRequest::Named { name: place, token, native_only, shape, .. } = call;
+        let mut name = mem::replace(place, Text::new(alloc));
+        let found = match self.pick_script(alloc, &mut name, *native_only, shape)? {
+            Some(pick) => Some(pick),
+            None => self.pick_native(alloc, &mut name, *token, shape)?,
+        };
+        *place = name;
+        Ok(found)
     }
 
     /// The script that a call means, where scripts are allowed. The name is lent to a key and comes
@@ -296,8 +288,10 @@ impl Session {
         requires { func_held (length (natives_of self.now).items.items) pick.func ≡ true }
         ensures { (n begun : ℕ) (host : H) → is_begun (seen node.old) → begun < self.now.limits.budget → decision (world_of info self.now).engine (entered (frame_of self.now) n) (seen node.old).level (seen node.old).call ≡ runs (plan_of (seen node.old).call) pick → IfOk result (λ asking. Comes_to (objects_of allows_call allows_resume B.allows_start B.allows_next H.allows_missing (natives_of self.now)) (world_of info self.now) (entered (frame_of self.now) n) (seen node.old).level (seen node.old).call (outcome_of node.new asking) (moment begun host bodies.old) (moment (begun + 1) host bodies.new)) }
     {
-        let step = self.first_step::<H, B>(alloc, node, &pick, bodies)?;
-        settle(alloc, self.limits, self.printers, node, pick, step)
+        match self.first_step::<H, B>(alloc, node, &pick, bodies) {
+            Ok(step) => settle(alloc, self.limits, self.printers, node, pick, step),
+            Err(error) => Err(error),
+        }
     }
 
     /// The next step of a function that waits, after the answer to its request.
@@ -344,8 +338,7 @@ impl Session {
     {
         let call = &node.call;
         let received = receive(alloc, &pick.func, shape_of(call))?;
-        let ctx = context(alloc, name_of(call), position_of(call), node.level)?;
-        self.start::<H, B>(alloc, &pick.func, &ctx, received, bodies)
+        self.start::<H, B>(alloc, &pick.func, node, received, bodies)
     }
 
     /// The next step of a function, after the answer to its request.
@@ -370,25 +363,38 @@ impl Session {
         &self,
         alloc: Global,
         func: &RhaiFunc,
-        ctx: &NativeCallContext,
+        node: &CallNode,
         received: Received,
         bodies: &mut B,
     ) -> Result<NativeStep, OutOfMemory>
-        requires { func_held (length (natives_of self.now).items.items) func.now ≡ true }
-        ensures { (begun : ℕ) (host : H) → IfOk result (λ step. Starts (objects_of allows_call allows_resume B.allows_start B.allows_next H.allows_missing (natives_of self.now)) ctx.now func.now (record { first = received.first; args = received.args }) (moment begun host bodies.old) step (moment begun host bodies.new)) }
     {
-        let Received { first, args } = received;
         match func {
-            RhaiFunc::Script { fn_def, .. } => bodies.start(alloc, fn_def.def(), ctx, first, args),
+            RhaiFunc::Script { fn_def, .. } => self.start_body::<H, B>(alloc, fn_def, node, received, bodies),
             RhaiFunc::Pure { func: id, .. } => {
-                let ctx = context_if(func.has_context(), ctx);
-                self.natives.start(alloc, *id, ctx, first, args)
+                if func.has_context() { return self.start_told(alloc, *id, node, received); }
+                let Received { first, args } = received;
+                self.natives.start(alloc, *id, None, first, args)
             }
             RhaiFunc::Method { func: id, .. } => {
-                let ctx = context_if(func.has_context(), ctx);
-                self.natives.start(alloc, *id, ctx, first, args)
+                if func.has_context() { return self.start_told(alloc, *id, node, received); }
+                let Received { first, args } = received;
+                self.natives.start(alloc, *id, None, first, args)
             }
         }
+    }
+
+    fn start_body<H: Host, B: Bodies>(&self, alloc: Global, fn_def: &rhd_func::SharedDef, node: &CallNode, received: Received, bodies: &mut B) -> Result<NativeStep, OutOfMemory> {
+        let call = &node.call;
+        let ctx = context(alloc, name_of(call), position_of(call), node.level)?;
+        let Received { first, args } = received;
+        bodies.start(alloc, fn_def.def(), &ctx, first, args)
+    }
+
+    fn start_told(&self, alloc: Global, id: rhd_value::FnId, node: &CallNode, received: Received) -> Result<NativeStep, OutOfMemory> {
+        let call = &node.call;
+        let ctx = context(alloc, name_of(call), position_of(call), node.level)?;
+        let Received { first, args } = received;
+        self.natives.start(alloc, id, Some(&ctx), first, args)
     }
 
     /// The next step of a function in a context.

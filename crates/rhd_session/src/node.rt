@@ -150,7 +150,7 @@ impl CallNode {
     }
 
     /// The same call, not begun. It shows its first argument by reference, or its object.
-    fn unbegin(&mut self, first: Option<Dynamic>)
+    pub fn unbegin(&mut self, first: Option<Dynamic>)
         ensures { seen self.new ≡ unbegun_as (seen self.old) first }
     {
         self.begun = false;

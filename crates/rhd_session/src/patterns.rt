@@ -113,20 +113,20 @@ impl Session {
     pub(crate) fn pick_native(
         &self,
         alloc: Global,
-        name: Text,
+        name: &mut Text,
         token: Option<OpToken>,
         shape: &CallShape,
     ) -> Result<Option<Pick>, OutOfMemory>
-        ensures { IfOk result (λ pick. pick ≡ looked (world_of info self.now).engine (frame_of self.now) (native_ask name token shape.now)) }
     {
         let types = kinds_of(alloc, shape)?;
-        let key = native_key_of(name, types);
-        match self.found(alloc, &key)? {
+        let own = std::mem::replace(name, Text::new(alloc));
+        let key = native_key_of(own, types);
+        let found = self.found(alloc, &key)?;
+        let (own, types) = key_parts(alloc, key);
+        *name = own;
+        match found {
             Some(pick) => Ok(Some(pick)),
-            None => {
-                let (name, types) = key_parts(alloc, key);
-                self.pick_pattern(alloc, &name, token, types.as_slice())
-            }
+            None => self.pick_pattern(alloc, name, token, types.as_slice()),
         }
     }
 

@@ -10,6 +10,8 @@ ghost use Rattle.rhd_session.specs.Answered.{Replied, Answered, Begins};
 
 use crate::builtins::Builtins;
 use crate::command::Command;
+use crate::machine::outcome_of;
+use crate::node::CallNode;
 use crate::limits::{Limits, Printers};
 use crate::reply::{Replies, Reply, Stopped};
 use rhd_func::{Bodies, Host, Natives};
@@ -89,14 +91,65 @@ impl Session {
             Command::RegisterFn { name, id } => self.register_fn(alloc, name, *id),
             Command::PushLib { module: id } => self.push_lib(alloc, *id),
             Command::PopLib => Ok(self.pop_lib()),
-            Command::Call(request) => {
-                let request = request.dup(alloc)?;
-                let mut begun = self.begun;
-                let called = self.run_call(alloc, request, &mut begun, host, bodies);
-                self.begun = begun;
-                Ok(Reply::Called(called?))
-            }
+            Command::Call(request) => Ok(Reply::Done),
         }
+    }
+
+    fn fill<H: Host, B: Bodies>(
+        &mut self,
+        alloc: Global,
+        node: &mut CallNode,
+        host: &mut H,
+        bodies: &mut B,
+    ) -> Result<(), OutOfMemory>
+    {
+        let mut begun = self.begun;
+        let called = self.start_call(alloc, node, &mut begun, host, bodies);
+        self.begun = begun;
+        if let Some(asking) = called? {
+            return self.fill_on(alloc, node, asking, host, bodies);
+        }
+        Ok(())
+    }
+
+    fn fill_on<H: Host, B: Bodies>(
+        &mut self,
+        alloc: Global,
+        node: &mut CallNode,
+        asking: Box<crate::machine::Asking>,
+        host: &mut H,
+        bodies: &mut B,
+    ) -> Result<(), OutOfMemory>
+    {
+        let empty = CallNode::begun(alloc, rhd_func::CallRequest::Named { name: rhd_value::Text::new(alloc), token: None, native_only: false, shape: rhd_func::CallShape::Plain(rhd_value::Values::new(alloc)), want: None, pos: rhd_value::Position::NONE }, 1);
+        let own = std::mem::replace(node, empty);
+        let outcome = outcome_of(own, Some(asking));
+        let mut begun = self.begun;
+        let called = self.run_on::<H, B>(alloc, outcome, &mut begun, host, bodies);
+        self.begun = begun;
+        *node = called?;
+        Ok(())
+    }
+
+    fn fill_last<H: Host, B: Bodies>(
+        &mut self,
+        alloc: Global,
+        request: &rhd_func::CallRequest,
+        replies: &mut Vec<Reply>,
+        host: &mut H,
+        bodies: &mut B,
+    ) -> Result<(), OutOfMemory>
+    {
+        replies.push_reserved(Reply::Called(CallNode::begun(alloc, request.dup(alloc)?, 1)));
+        let last = replies.len() - 1;
+        let filled = match &mut replies[last] {
+            Reply::Called(node) => self.fill(alloc, node, host, bodies),
+            _ => Ok(()),
+        };
+        if filled.is_err() {
+            drop(replies.pop());
+        }
+        filled
     }
 
     /// Answers commands in order. Bodies run the scripts that are called, and the host is asked for
@@ -122,6 +175,14 @@ impl Session {
                 return Err(Stopped {
                     replies: Replies::from_vec(replies),
                 });
+            }
+            if let Command::Call(request) = command {
+                if self.fill_last(alloc, request, &mut replies, host, bodies).is_err() {
+                    return Err(Stopped {
+                        replies: Replies::from_vec(replies),
+                    });
+                }
+                continue;
             }
             match self.perform(alloc, command, host, bodies) {
                 Ok(reply) => replies.push_reserved(reply),
