@@ -4,8 +4,7 @@ use Rattle.std.specs.Borrow.{Lends, LendsIf, follows, MutBor, Fml, Array}
 use Rattle.std.specs.List.{refill}
 use Rattle.std.specs.declared.slice.IterMut.{IterMut}
 use Rattle.std.specs.Slice.Iter.{iter_mut_name}
-use Rattle.rhd_value.specs.Tree.{Tree}
-use Rattle.rhd_value.specs.declared.dynamic.FnPtr.{FnPtr}
+use Rattle.rhd_value.specs.Tree.{Tree, Pointer}
 use Rattle.rhd_value.specs.contracts.dynamic.Values as values
 use Rattle.rhd_value.specs.contracts.dynamic.FnPtr as ptr
 use Rattle.rhd_value.specs.contracts.dynamic.Dynamic as dynamic
@@ -23,10 +22,10 @@ abbrev pub LendsItems : MutBor (List Tree) → IterMut Tree → Fml
 LendsItems s it = follows values.the_row (Array dynamic.the_row 0) s.ghost_name (iter_mut_name it) (refill (length s.now) s.now)
 
 -- the pointer, with what was written at the place of its values
-abbrev pub LendsCurried : MutBor FnPtr → ℕ → MutBor Tree → Fml
+abbrev pub LendsCurried : MutBor Pointer → ℕ → MutBor Tree → Fml
 LendsCurried s i r = Lends ptr.the_row dynamic.the_row s r (λ w. record s.now { curry = slice_set s.now.curry i w })
 
 -- the pointer, with what was written to its values in turn
-abbrev pub LendsCurry : MutBor FnPtr → IterMut Tree → Fml
+abbrev pub LendsCurry : MutBor Pointer → IterMut Tree → Fml
 LendsCurry s it =
     follows ptr.the_row (Array dynamic.the_row 0) s.ghost_name (iter_mut_name it) (λ ws. record s.now { curry = refill (length s.now.curry) s.now.curry ws })

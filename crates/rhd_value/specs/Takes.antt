@@ -2,8 +2,7 @@
 use Rattle.std.specs.Prelude.{◌≡◌, ◌↔◌, ◌⊎◌, Some, IsSome, List, [], ◌∷◌}
 use Rattle.std.proofs.Common.{refl, ap, rules}
 use Rattle.rhd_value.specs.declared.tag.TypeTag.TheVariants as tags
-use Rattle.rhd_value.specs.declared.dynamic.FnPtr.{FnPtr}
-use Rattle.rhd_value.specs.Tree.{Tree, Kind, unit, boolean, integer, character, text, array, object, pointer, items_of, members_of, list_of, entries_of, Bytes}
+use Rattle.rhd_value.specs.Tree.{Tree, Pointer, Kind, unit, boolean, integer, character, text, array, object, pointer, items_of, members_of, list_of, entries_of, Bytes}
 use Rattle.rhd_value.specs.Kinds.{tag_of_kind, int_in, bool_in, text_in, plain}
 use Rattle.rhd_value.specs.Variant.{IsTaken, list_in, entries_in, char_in, unit_in, pointer_in}
 
@@ -80,5 +79,5 @@ takes_pointer t = go t.kind
     go (pointer n ts p) = grind rules
     go _ = grind rules
 
-pub pointer_returns : (p : FnPtr) → pointer_in (plain (pointer p.name (items_of p.curry) p.typ)).kind ≡ Some p
+pub pointer_returns : (p : Pointer) → pointer_in (plain (pointer p.name (items_of p.curry) p.typ)).kind ≡ Some p
 pointer_returns p = ap (λ ts. Some (record { name = p.name; curry = ts; typ = p.typ })) (list_back p.curry)

@@ -2,8 +2,7 @@
 use Rattle.std.specs.Prelude.{◌≡◌, ℕ, Option, None, Some, List, ◌⊎◌}
 use Rattle.rhd_value.specs.declared.tag.TypeTag.{TypeTag}
 use Rattle.rhd_value.specs.declared.tag.TypeTag.TheVariants as tags
-use Rattle.rhd_value.specs.declared.dynamic.FnPtr.{FnPtr}
-use Rattle.rhd_value.specs.Tree.{Bytes, Tree, Kind, unit, character, array, object, pointer, list_of, entries_of}
+use Rattle.rhd_value.specs.Tree.{Bytes, Tree, Pointer, Kind, unit, character, array, object, pointer, list_of, entries_of}
 use Rattle.rhd_value.specs.Kinds.{tag_of}
 
 abbrev pub list_in : Kind → Option (List Tree)
@@ -22,7 +21,7 @@ abbrev pub unit_in : Kind → Option (Unit {0})
 unit_in unit = Some tt
 unit_in _ = None
 
-abbrev pub pointer_in : Kind → Option FnPtr
+abbrev pub pointer_in : Kind → Option Pointer
 pointer_in (pointer n ts p) = Some (record { name = n; curry = list_of ts; typ = p })
 pointer_in _ = None
 

@@ -41,13 +41,20 @@ pub enum Value {
     Custom(u32, i64),
 }
 
-/// A pointer to a function, with the values that a call of it puts before its own arguments.
+/// A pointer to a function, with the values that a call of it puts before its own arguments. Its
+/// parts stand in a box, so that a value is small. Contracts see the parts.
 #[cycle(dynamic)]
 #[derive(Drop)]
 pub struct FnPtr {
-    pub name: Text,
-    pub curry: Values,
-    pub typ: FnPtrType,
+    parts: Box<FnPtrParts>,
+}
+
+#[cycle(dynamic)]
+#[derive(Drop)]
+struct FnPtrParts {
+    name: Text,
+    curry: Values,
+    typ: FnPtrType,
 }
 
 /// Values in order. Contracts see the list of their trees.
@@ -77,6 +84,19 @@ impl Model for Dynamic {
     ghost view = { λ a. record { kind = kind_view a.value; marks = a.marks } };
 
     ghost size = { weight };
+}
+
+impl Model for FnPtr {
+    ghost use Rattle.rhd_value.specs.Tree.{Pointer, weight_pointer};
+    ghost use Rattle.rhd_value.specs.Codes.{coded_pointer};
+
+    ghost Value = { Pointer };
+
+    ghost coded = { coded_pointer };
+
+    ghost view = { λ a. record { name = a.parts.value.name; curry = a.parts.value.curry; typ = a.parts.value.typ } };
+
+    ghost size = { weight_pointer };
 }
 
 impl Model for Values {

@@ -39,7 +39,7 @@ fn sizes_of_value(value: &Value) -> Sizes
             map: entries.len() as u64,
             text: 0,
         }),
-        Value::FnPtr(ptr) => sizes_of_values(&ptr.curry),
+        Value::FnPtr(ptr) => sizes_of_values(ptr.curry()),
     }
 }
 

@@ -1,6 +1,6 @@
 //! Lists of values.
 
-ghost use Rattle.std.specs.Prelude.{◌≡◌, ◌<◌, ◌-◌, ◌++◌, ◌∷◌, [], length, if◌then◌else◌, is_ok, slice_get, slice_set, take, Some};
+ghost use Rattle.std.specs.Prelude.{◌≡◌, ◌<◌, ◌-◌, ◌++◌, ◌∷◌, [], length, if◌then◌else◌, is_ok, slice_get, slice_set, take, Some, IfOk};
 ghost use Rattle.std.specs.Option.{option_copied};
 ghost use Rattle.std.specs.List.{IsItemAtMut};
 ghost use Rattle.std.specs.Slice.Iter.{iter_mut_rest, iter_mut_steps};
@@ -23,6 +23,15 @@ impl Values {
         Values {
             items: Vec::new(alloc),
         }
+    }
+
+    /// An empty list with room for so many values.
+    pub fn with_capacity(alloc: Global, many: usize) -> Result<Values, OutOfMemory>
+        ensures { IfOk result (λ values. values ≡ []) }
+    {
+        Ok(Values {
+            items: Vec::with_capacity(alloc, many)?,
+        })
     }
 
     /// Puts a value last.

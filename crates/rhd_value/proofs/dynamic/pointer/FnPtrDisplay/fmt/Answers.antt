@@ -7,4 +7,4 @@ returns-clause-styled g c flush ok =
     let one = c.in_ok-write_str.ensures.styled flush refl in
     let two = c.in_ok-write_str-2.ensures.styled one.flush refl in
     let three = c.write_str-3.ensures.styled two.flush ok in
-    rw (← c.as_str.ensures) (has_written_styled_append _ _ _ _ _ _ one (has_written_styled_append _ _ _ _ _ _ two three))
+    rw (← c.fn_name.ensures, ← c.as_str.ensures) (has_written_styled_append _ _ _ _ _ _ one (has_written_styled_append _ _ _ _ _ _ two three))
