@@ -68,7 +68,7 @@ fn token_of(name: &str) -> Option<OpToken> {
     }
 }
 
-/// A pointer to a function.
-fn pointer(name: Text, curry: Values, typ: FnPtrType) -> FnPtr {
-    FnPtr { name, curry, typ }
+/// A pointer to a function of this name.
+fn pointer(alloc: Global, name: &str, curry: Values, typ: FnPtrType) -> Result<FnPtr, OutOfMemory> {
+    FnPtr::from_parts(alloc, text_of(alloc, name)?, curry, typ)
 }

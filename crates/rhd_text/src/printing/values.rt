@@ -113,10 +113,10 @@ fn push_kind(alloc: Global, value: &Value, out: &mut Vec<u8>) -> Result<(), OutO
 fn push_pointer(alloc: Global, ptr: &FnPtr, out: &mut Vec<u8>) -> Result<(), OutOfMemory>
     ensures { OnOk result (out.new.items ≡ out.old.items ++ spelled_kind (pointer ptr.now.name (items_of ptr.now.curry) ptr.now.typ)) }
 {
-    push_pointer_head(ptr.typ, out)?;
-    push_quoted(ptr.name.as_str(), out)?;
-    push_pointer_number(ptr.typ, out)?;
-    push_spaced(alloc, ptr.curry.as_slice(), out)?;
+    push_pointer_head(ptr.typ(), out)?;
+    push_quoted(ptr.fn_name().as_str(), out)?;
+    push_pointer_number(ptr.typ(), out)?;
+    push_spaced(alloc, ptr.curry().as_slice(), out)?;
     Ok(out.push(b')')?)
 }
 

@@ -117,7 +117,7 @@ fn check_pointers(rt: &impl Abort, alloc: Global) -> Result<(), Fail> {
             let locked = marked(Value::Array(Values::new(alloc)), false, false, true);
             curry.push(locked)?;
         }
-        let ptr = pointer(text_of(alloc, name)?, curry, typ);
+        let ptr = pointer(alloc, name, curry, typ)?;
         check_kind(rt, alloc, Value::FnPtr(ptr), want)?;
     }
     Ok(())

@@ -90,9 +90,9 @@ fn remake_value(value: &Value, alloc: Global, clear: bool) -> Result<Value, OutO
 fn remake_ptr(ptr: &FnPtr, alloc: Global, clear: bool) -> Result<FnPtr, OutOfMemory>
     ensures { IfOk result (λ made. made ≡ record ptr.now { curry = remade_list clear ptr.now.curry }) }
 {
-    let name = ptr.parts.name.dup(alloc)?;
-    let curry = remake_values(&ptr.parts.curry, alloc, clear)?;
-    FnPtr::from_parts(alloc, name, curry, ptr.parts.typ)
+    let name = ptr.fn_name().dup(alloc)?;
+    let curry = remake_values(ptr.curry(), alloc, clear)?;
+    FnPtr::from_parts(alloc, name, curry, ptr.typ())
 }
 
 #[cycle(remake)]

@@ -19,7 +19,12 @@ impl FnPtr {
     ghost use Rattle.rhd_value.specs.Lends.{LendsCurried, LendsCurry};
 
     /// A pointer of these parts.
-    pub fn from_parts(alloc: Global, name: Text, curry: Values, typ: FnPtrType) -> Result<FnPtr, OutOfMemory>
+    pub fn from_parts(
+        alloc: Global,
+        name: Text,
+        curry: Values,
+        typ: FnPtrType,
+    ) -> Result<FnPtr, OutOfMemory>
         ensures { IfOk result (λ ptr. ptr ≡ record { name = name; curry = curry; typ = typ }) }
     {
         Ok(FnPtr {

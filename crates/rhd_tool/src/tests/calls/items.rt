@@ -40,10 +40,11 @@ pub fn made(alloc: Global, item: Item) -> Result<Dynamic, Fail> {
         Item::Text(text) => Value::Text(text_of(alloc, text)?),
         Item::Array(numbers) => Value::Array(integers(alloc, numbers)?),
         Item::Pointer(name) => Value::FnPtr(pointer(
-            text_of(alloc, name)?,
+            alloc,
+            name,
             Values::new(alloc),
             FnPtrType::Normal,
-        )),
+        )?),
         Item::Custom(number, payload) => Value::Custom(number, payload),
     };
     Ok(marked(value, true, false, false))

@@ -93,11 +93,7 @@ fn check_variant<T: Variant + Drop>(
 
 /// Curries a pointer, and compares what it shows.
 fn check_pointer(rt: &impl Abort, alloc: Global) -> Result<(), Fail> {
-    let mut ptr = pointer(
-        text_of(alloc, "anon$f")?,
-        Values::new(alloc),
-        FnPtrType::Normal,
-    );
+    let mut ptr = pointer(alloc, "anon$f", Values::new(alloc), FnPtrType::Normal)?;
     holds(rt, ptr.is_anonymous() && !ptr.is_curried(), "a new pointer");
     ptr.add_curry(alloc, Dynamic::from(Value::Int(1)))?;
     let mut more = Values::new(alloc);
@@ -108,10 +104,10 @@ fn check_pointer(rt: &impl Abort, alloc: Global) -> Result<(), Fail> {
         ptr.is_curried() && ptr.iter_curry().count() == 2,
         "two values",
     );
-    if let Some(value) = ptr.curry.get_mut(1) {
-        *value = Dynamic::from(Value::Bool(true));
+    if 1 < ptr.curry().len() {
+        *ptr.at_mut(1) = Dynamic::from(Value::Bool(true));
     }
-    let shown = format!(in alloc; "{ptr} {}", ptr.typ)?;
+    let shown = format!(in alloc; "{ptr} {}", ptr.typ())?;
     same_bytes(rt, shown.as_bytes(), b"Fn(anon$f) Fn", "a pointer's text");
     let types = format!(in alloc;
         "{} {}",

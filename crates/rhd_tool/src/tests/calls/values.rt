@@ -71,7 +71,7 @@ fn check_entries(rt: &impl Abort, alloc: Global) -> Result<(), Fail> {
 fn some_value(alloc: Global) -> Result<Dynamic, OutOfMemory> {
     let mut curry = Values::new(alloc);
     curry.push(marked(Value::Int(2), true, false, true))?;
-    let ptr = pointer(text_of(alloc, "f")?, curry, FnPtrType::Native(FnId(7)));
+    let ptr = pointer(alloc, "f", curry, FnPtrType::Native(FnId(7)))?;
     let mut inner = Values::new(alloc);
     inner.push(marked(Value::Bool(true), true, true, true))?;
     let mut values = Values::new(alloc);
@@ -94,7 +94,7 @@ fn check_copies(rt: &impl Abort, alloc: Global) -> Result<(), Fail> {
 
 /// Compares the names of the nine types.
 fn check_type_names(rt: &impl Abort, alloc: Global) -> Result<(), Fail> {
-    let ptr = pointer(Text::new(alloc), Values::new(alloc), FnPtrType::Normal);
+    let ptr = pointer(alloc, "", Values::new(alloc), FnPtrType::Normal)?;
     let table = [
         (Value::Unit, "()"),
         (Value::Bool(true), "bool"),
