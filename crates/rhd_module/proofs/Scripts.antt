@@ -32,13 +32,13 @@ none_put k d (p ∷ ps) native none =
     let others = second_false (is_script p.0) (has_script ps) none in
     put_step k d p ps (key_eq k p.0) first others (none_put k d ps native others)
 
--- a note that knows of the key is a note once the key is put
-pub noted_put : (noted : Bool) (k : Key) (d : Declaration) (ps : Pairs) → AreNoted noted ps → AreNoted (noted || is_script k) (put k d ps)
-noted_put noted k d ps are e = none_put k d ps (second_false noted (is_script k) e) (are (first_false noted (is_script k) e))
+-- a note that takes in the key is right once the key is put
+pub noted_put : (noted script : Bool) (k : Key) (d : Declaration) (old new : Pairs) → AreNoted noted old → script ≡ is_script k → new ≡ put k d old → AreNoted (noted || script) new
+noted_put noted script k d old new are is puts none = ap has_script puts ∙ none_put k d old (sym is ∙ second_false noted script none) (are (first_false noted script none))
 
--- a note that knows more is a note
-pub noted_more : (noted more : Bool) (ps : Pairs) → AreNoted noted ps → AreNoted (noted || more) ps
-noted_more noted more ps are e = are (first_false noted more e)
+-- and where all is as before
+pub noted_still : (noted script : Bool) (old new : Pairs) → AreNoted noted old → new ≡ old → AreNoted (noted || script) new
+noted_still noted script old new are same none = ap has_script same ∙ are (first_false noted script none)
 
 missing_step : (key : Key) (p : Key × Declaration) (ps : Pairs) (same : Bool) → key_eq key p.0 ≡ same → is_script key ≡ true → is_script p.0 ≡ false → lookup (key_eq key) ps ≡ None
     → cond same (Some p.1) (lookup (key_eq key) ps) ≡ None

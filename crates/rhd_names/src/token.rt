@@ -324,7 +324,10 @@ fn is_written(token: OpToken, syntax: &str) -> bool
 fn find_written(tokens: &[OpToken], syntax: &str) -> Option<OpToken>
     ensures { result ≡ find (λ t. bytes_eq (token_text t) syntax.now) tokens.now }
 {
-    tokens.iter().copied().find(|token| is_written(*token, syntax))
+    tokens
+        .iter()
+        .copied()
+        .find(|token| is_written(*token, syntax))
 }
 
 /// The token that is written so, if there is one.
