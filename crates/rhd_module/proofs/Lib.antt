@@ -3,3 +3,4 @@ pub mod FirstFound
 pub mod PutIn
 pub mod Noted
 pub mod Places
+pub mod Scripts

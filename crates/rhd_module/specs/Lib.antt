@@ -5,3 +5,4 @@ pub mod Registered
 pub mod FirstDeclarations
 pub mod Matching
 pub mod Natives
+pub mod Scripts

@@ -7,6 +7,7 @@ ghost use Rattle.std.specs.Hash as fed;
 ghost use Rattle.rhd_module.specs.Keys.{path_eq, key_eq, key_eq_equiv, key_name, key_params, key_input, key_alike};
 ghost use Rattle.rhd_module.specs.Matching.{types_match, key_matches};
 ghost use Rattle.rhd_module.specs.Natives.{native_name};
+ghost use Rattle.rhd_module.specs.Scripts.{is_script};
 
 use rhd_value::{OutOfMemory, Text, Texts, TypeTag, Types};
 use std::alloc::Global;
@@ -140,6 +141,17 @@ impl Key {
             Key::Script { .. } => None,
             Key::Typed { .. } => None,
             Key::Native { path, name, .. } => { if path.is_none() { Some(name) } else { None } }
+        }
+    }
+
+    /// Whether it is that of a script.
+    pub(crate) fn is_script(&self) -> bool
+        ensures { result ≡ is_script self.now }
+    {
+        match self {
+            Key::Script { .. } => true,
+            Key::Typed { .. } => true,
+            Key::Native { .. } => false,
         }
     }
 

@@ -26,17 +26,20 @@ pub struct Module {
     declarations: IndexMap<Key, Declaration>,
     /// Where the natives of a name stand among the declarations.
     natives: Natives,
+    /// Whether a script was ever declared: if not, a search for one ends at once.
+    scripts: bool,
 }
 
 impl Model for Module {
     ghost use Rattle.rhd_module.specs.Tree.{ModuleTree};
     ghost use Rattle.rhd_module.specs.Natives.{IsIndex};
+    ghost use Rattle.rhd_module.specs.Scripts.{AreNoted};
 
     ghost Value = { ModuleTree };
 
     ghost view = { λ m. record { own = record { eager = m.declarations.entries } } };
 
-    ghost invariant = { λ m. IsIndex m.natives m.declarations.entries };
+    ghost invariant = { λ m. IsIndex m.natives m.declarations.entries × AreNoted m.scripts m.declarations.entries };
 }
 
 /// Puts a declaration under a key. Whether no equal key was there, so that it went last.
@@ -80,6 +83,7 @@ impl Module {
         Module {
             declarations: IndexMap::new(alloc),
             natives: Natives::new(alloc),
+            scripts: false,
         }
     }
 
@@ -89,6 +93,7 @@ impl Module {
         ensures err { OnErr result (self.new ≡ self.old) }
     {
         let place = self.declarations.len();
+        self.scripts |= key.is_script();
         if !put(&mut self.declarations, key, declaration)? {
             return Ok(());
         }
@@ -106,6 +111,9 @@ impl Module {
     pub fn get_fn(&self, key: &Key) -> Option<&RhaiFunc>
         ensures { option_copied result ≡ option_map (λ d. d.func) (own_decl self.now key.now) }
     {
+        if !self.scripts && key.is_script() {
+            return None;
+        }
         match self.declarations.get(key) {
             Some(declaration) => Some(&declaration.func),
             None => None,

@@ -312,11 +312,22 @@ fn candidates(syntax: &str) -> &'static [OpToken]
     }
 }
 
+/// Whether the token is written so. For most texts the first byte answers already.
+fn is_written(token: OpToken, syntax: &str) -> bool
+    ensures { result ≡ bytes_eq (token_text token) syntax.now }
+{
+    let text = token.text();
+    text.as_bytes().first() == syntax.as_bytes().first() && text == syntax
+}
+
 /// The first of these tokens that is written so.
 fn find_written(tokens: &[OpToken], syntax: &str) -> Option<OpToken>
     ensures { result ≡ find (λ t. bytes_eq (token_text t) syntax.now) tokens.now }
 {
-    tokens.iter().copied().find(|token| token.text() == syntax)
+    tokens
+        .iter()
+        .copied()
+        .find(|token| is_written(*token, syntax))
 }
 
 /// The token that is written so, if there is one.

@@ -15,4 +15,4 @@ loop-place-init c =
     let places = c.places-place-items.result.now in
     let P : ModuleTree → Type 0 = λ m. list_any (matches_at m exact name kinds) places ≡ may_match m exact name kinds in
     let seen : ModuleTree = record { own = record { eager = inside.declarations.entries } } in
-    subst P c.self.view_is (ap (list_any (matches_at seen exact name kinds)) c.places-place-items.ensures ∙ matches_at_places inside.natives inside.declarations.entries exact name kinds c.self.invariant)
+    subst P c.self.view_is (ap (list_any (matches_at seen exact name kinds)) c.places-place-items.ensures ∙ matches_at_places inside.natives inside.declarations.entries exact name kinds c.self.invariant.0)
