@@ -109,10 +109,10 @@ fn is_signed_digits(word: &[u8]) -> bool
     }
 }
 
-/// A number below this is small, and so it is no wider than 64 bits with a digit more.
+/// A number below this has fewer than 64 bits with a digit more behind it.
 const SMALL: u64 = 100_000_000_000_000_000;
 
-/// The number that a word of digits says, where it can be counted without a test for its width.
+/// The number that a word of digits says, where that is so small that no step can pass 64 bits.
 fn small_number(word: &[u8]) -> Option<u64>
     ensures { IfSome result (λ n. (is_digits word.now ≡ true) × (n ≡ digits_value 10 word.now) × (n < 2 ^ 63)) }
 {

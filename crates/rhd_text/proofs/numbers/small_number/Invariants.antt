@@ -8,5 +8,5 @@ abbrev pub invariant-loop-digit : goal.invariant-loop-digit
 invariant-loop-digit l = record {
   small : l.number < 2 ^ 63;
   value : digits_value_after 10 l.number (drop l.digit-index l.word) ≡ digits_value 10 l.word;
-  digits : list_all is_ascii_digit (drop l.digit-index l.word) ≡ list_all is_ascii_digit l.word
+  digits : list_all is_ascii_digit (drop l.digit-index l.word) ≡ list_all is_ascii_digit l.word;
 }
