@@ -1,5 +1,6 @@
 pub mod Loops
 pub mod LineLaws
+pub mod LineUtf8
 pub mod NumberLaws
 pub mod Agrees
 pub mod WordLaws

@@ -1,6 +1,6 @@
 //! Keywords.
 
-ghost use Rattle.std.specs.Prelude.{◌≡◌};
+ghost use Rattle.std.specs.Prelude.{◌≡◌, Some, IfSome};
 ghost use Rattle.rhd_text.specs.Rows.{call_word, native_only, keyword};
 ghost use Rattle.rhd_text.specs.ReadRows.{keyword_in, keyword_of, step_at, keyword_at};
 ghost use Rattle.rhd_text.specs.Answers.{Gives};
@@ -103,13 +103,25 @@ fn keyword_in(keywords: &[Keyword], word: &[u8]) -> Option<Keyword>
     None
 }
 
+/// The keyword of a word that calls are made with, which most lines begin with.
+#[tactic(auto, unfolding(crate::specs::ReadRows::keyword_in))]
+fn frequent(word: &[u8]) -> Option<Keyword>
+    ensures { IfSome result (λ k. keyword_of word.now ≡ Some k) }
+{
+    match word {
+        b"call" => Some(Keyword::Call(CallWord::Call)),
+        b"ref" => Some(Keyword::Call(CallWord::Ref)),
+        b"method" => Some(Keyword::Call(CallWord::Method)),
+        _ => None,
+    }
+}
+
 /// The keyword of one word that is spelled so.
 fn keyword_of(word: &[u8]) -> Option<Keyword>
     ensures { result ≡ keyword_of word.now }
 {
-    // Most lines are calls, so that word is tried first.
-    if word == b"call".as_slice() {
-        return Some(Keyword::Call(CallWord::Call));
+    if let Some(keyword) = frequent(word) {
+        return Some(keyword);
     }
     keyword_in(
         &[

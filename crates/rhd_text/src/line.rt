@@ -20,7 +20,8 @@ pub enum Line {
     Says(Part),
 }
 
-fn is_skipped(line: &[u8]) -> bool
+/// Whether a line says nothing: it is blank, or a comment.
+pub fn is_skipped(line: &[u8]) -> bool
     ensures { result ≡ is_skipped line.now }
 {
     match skip_blanks(line) {

@@ -1,6 +1,6 @@
 //! Numbers.
 
-ghost use Rattle.std.specs.Prelude.{◌≡◌, ◌^◌, ◌&&◌, nat_le, nat_lt, length, if◌then◌else◌, true};
+ghost use Rattle.std.specs.Prelude.{◌≡◌, ◌^◌, ◌&&◌, nat_le, nat_lt, length, if◌then◌else◌, true, ◌<◌, IfSome};
 ghost use Rattle.std.specs.Str.Parse.{digits_value};
 ghost use Rattle.rhd_text.specs.Bytes.{is_digits, is_signed_digits, fitting_int, num_of, int_of};
 ghost use Rattle.rhd_text.specs.Reading.{num_at};
@@ -109,11 +109,34 @@ fn is_signed_digits(word: &[u8]) -> bool
     }
 }
 
+/// A number below this has fewer than 64 bits with a digit more behind it.
+const SMALL: u64 = 100_000_000_000_000_000;
+
+/// The number that a word of digits says, where that is so small that no step can pass 64 bits.
+fn small_number(word: &[u8]) -> Option<u64>
+    ensures { IfSome result (λ n. (is_digits word.now ≡ true) × (n ≡ digits_value 10 word.now) × (n < 2 ^ 63)) }
+{
+    if word.is_empty() {
+        return None;
+    }
+    let mut number = 0u64;
+    for digit in word {
+        if !digit.is_ascii_digit() || number >= SMALL {
+            return None;
+        }
+        number = 10 * number + u64::from(*digit - b'0');
+    }
+    Some(number)
+}
+
 /// The integer that a word says.
 #[tactic(auto, unfolding(crate::specs::Bytes::int_of))]
 pub fn int_of(word: &[u8]) -> Option<i64>
     ensures { result ≡ int_of word.now }
 {
+    if let Some(number) = small_number(word) {
+        return Some(number as i64);
+    }
     if is_signed_digits(word) {
         parse_i64(word)
     } else {

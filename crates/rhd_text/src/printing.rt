@@ -16,8 +16,8 @@ use rhd_value::{Dynamic, OutOfMemory};
 use std::alloc::Global;
 use values::push_value;
 
-/// The bytes that most replies fit in.
-const MOST_LINES: usize = 128;
+/// Room for the bytes of the lines of most replies.
+const MOST_BYTES: usize = 128;
 
 /// Puts a value at the end, as it is written: its marks, and then its kind in one line.
 pub fn print_value(alloc: Global, value: &Dynamic, out: &mut Vec<u8>) -> Result<(), OutOfMemory>
@@ -79,7 +79,7 @@ fn print_by(
 {
     lines.clear();
     push_lines(alloc, reply, lines)?;
-    Ok(out.extend_from_slice(lines)?)
+    Ok(out.append(lines)?)
 }
 
 /// Puts the lines of a reply at the end. Each ends with a line feed.
@@ -89,7 +89,7 @@ pub fn print_reply(alloc: Global, reply: &Reply, out: &mut Vec<u8>) -> Result<()
     ensures ok { OnOk result (out.new.items ≡ out.old.items ++ printed reply.now) }
     ensures err { OnErr result (out.new.items ≡ out.old.items) }
 {
-    let mut lines = Vec::with_capacity(alloc, MOST_LINES)?;
+    let mut lines = Vec::with_capacity(alloc, MOST_BYTES)?;
     print_by(alloc, reply, &mut lines, out)
 }
 
@@ -100,7 +100,7 @@ pub fn print_replies(alloc: Global, replies: &[Reply], out: &mut Vec<u8>) -> Res
     ensures ok { OnOk result (out.new.items ≡ out.old.items ++ all_printed replies.now) }
     ensures err { OnErr result ((n : ℕ) × (n ≤ length replies.now) × (out.new.items ≡ out.old.items ++ all_printed (take n replies.now))) }
 {
-    let mut lines = Vec::with_capacity(alloc, MOST_LINES)?;
+    let mut lines = Vec::with_capacity(alloc, MOST_BYTES)?;
     for reply in replies {
         print_by(alloc, reply, &mut lines, out)?;
     }

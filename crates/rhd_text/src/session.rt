@@ -1,12 +1,11 @@
 //! What a text says.
 
 ghost use Rattle.std.specs.Prelude.{◌≡◌};
-ghost use Rattle.rhd_text.specs.Session.{empty_text, takes_headers, with_limits, with_printer, with_builtin, with_host, with_body, with_call, with_end, with_part, with_line};
+ghost use Rattle.rhd_text.specs.Session.{empty_text, takes_headers, with_limits, with_printer, with_builtin, with_host, with_body, with_call, with_end, with_part};
 ghost use Rattle.rhd_text.specs.Answers.{StepGives};
 
 use crate::body::{BodyEnd, BodyPlans, CallPlan};
 use crate::fault::Stop;
-use crate::line::Line;
 use crate::part::Part;
 use crate::printers::Printer;
 use rhd_names::OpToken;
@@ -135,7 +134,8 @@ impl SessionText {
         self.bodies.add_end(end)
     }
 
-    fn add_part(&mut self, alloc: Global, part: Part) -> Result<(), Stop>
+    /// Adds what a line says, where it may stand there; else all stays as it was.
+    pub fn add_part(&mut self, alloc: Global, part: Part) -> Result<(), Stop>
         ensures { StepGives result self.old self.new (with_part self.old part) }
     {
         match part {
@@ -152,16 +152,6 @@ impl SessionText {
             Part::Do(call) => self.add_call(call),
             Part::End(end) => self.end_body(end),
             Part::Command(command) => Ok(self.commands.push(command)?),
-        }
-    }
-
-    /// Adds what a line says, where it may stand there; else all stays as it was.
-    pub fn add_line(&mut self, alloc: Global, line: Line) -> Result<(), Stop>
-        ensures { StepGives result self.old self.new (with_line self.old line) }
-    {
-        match line {
-            Line::Skipped => Ok(()),
-            Line::Says(part) => self.add_part(alloc, part),
         }
     }
 }

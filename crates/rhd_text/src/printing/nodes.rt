@@ -1,6 +1,6 @@
 //! The line of a call.
 
-ghost use Rattle.std.specs.Prelude.{◌≡◌, ◌++◌, ◌∷◌, [], OnOk, codes};
+ghost use Rattle.std.specs.Prelude.{◌≡◌, ◌++◌, ◌∷◌, [], OnOk, codes, if◌then◌else◌};
 ghost use Rattle.rhd_text.specs.PrintedTexts.{quoted};
 ghost use Rattle.std.specs.Fmt.{decimal};
 ghost use Rattle.rhd_text.specs.PrintedReplies.{spelled_error, spelled_fault, label, layer_text, func_text, pick_text, whose_text, result_text, after_text, shown_text, call_line, indent, tree_text, nodes_text};
@@ -144,32 +144,37 @@ fn push_pick(pick: &Option<Pick>, out: &mut Vec<u8>) -> Result<(), OutOfMemory>
     }
 }
 
-/// Whose answer it is, between two spaces.
-fn push_whose(whose: Whose, out: &mut Vec<u8>) -> Result<(), OutOfMemory>
-    ensures { OnOk result (out.new.items ≡ out.old.items ++ codes " " ++ whose_text whose ++ codes " ") }
+/// Whose answer or fault it is, between two spaces, and the sign of an answer or of a fault.
+fn answer_sign(whose: Whose, answered: bool) -> &'static [u8]
+    ensures { result.now ≡ codes " " ++ whose_text whose ++ codes " " ++ (if answered then codes "= " else codes "! ") }
 {
-    match whose {
-        Whose::Call => Ok(out.extend_from_slice(b" call ")?),
-        Whose::Called => Ok(out.extend_from_slice(b" called ")?),
-        Whose::Host => Ok(out.extend_from_slice(b" host ")?),
+    match (whose, answered) {
+        (Whose::Call, true) => b" call = ",
+        (Whose::Call, false) => b" call ! ",
+        (Whose::Called, true) => b" called = ",
+        (Whose::Called, false) => b" called ! ",
+        (Whose::Host, true) => b" host = ",
+        (Whose::Host, false) => b" host ! ",
     }
 }
 
+/// Whose answer or fault it is, after a space, and then that.
 #[tactic(auto, unfolding(crate::specs::PrintedReplies::result_text))]
 fn push_result(
     alloc: Global,
+    whose: Whose,
     answer: &Result<Dynamic, EvalAltResult>,
     out: &mut Vec<u8>,
 ) -> Result<(), OutOfMemory>
-    ensures { OnOk result (out.new.items ≡ out.old.items ++ result_text answer.now) }
+    ensures { OnOk result (out.new.items ≡ out.old.items ++ codes " " ++ whose_text whose ++ codes " " ++ result_text answer.now) }
 {
     match answer {
         Ok(value) => {
-            out.extend_from_slice(b"= ")?;
+            out.extend_from_slice(answer_sign(whose, true))?;
             push_value(alloc, value, out)
         }
         Err(fault) => {
-            out.extend_from_slice(b"! ")?;
+            out.extend_from_slice(answer_sign(whose, false))?;
             push_fault(fault, out)
         }
     }
@@ -209,8 +214,7 @@ fn push_call_line(alloc: Global, node: &CallNode, out: &mut Vec<u8>) -> Result<(
     push_label(&node.call, out)?;
     out.push(b' ')?;
     push_pick(&node.pick, out)?;
-    push_whose(node.whose, out)?;
-    push_result(alloc, &node.answer, out)?;
+    push_result(alloc, node.whose, &node.answer, out)?;
     push_after(alloc, &node.first_after, out)?;
     push_shown(&node.printed, out)
 }
