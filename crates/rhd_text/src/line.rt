@@ -1,7 +1,7 @@
 //! What one line says.
 
-ghost use Rattle.std.specs.Prelude.{◌≡◌};
-ghost use Rattle.std.specs.Str.{is_utf8};
+ghost use Rattle.std.specs.Prelude.{◌≡◌, IsTrue};
+ghost use Rattle.std.specs.Str.{IsAscii, is_utf8};
 ghost use Rattle.rhd_text.specs.ReadRows.{is_skipped, line_at};
 ghost use Rattle.rhd_text.specs.Answers.{Gives};
 
@@ -31,10 +31,24 @@ pub fn is_skipped(line: &[u8]) -> bool
     }
 }
 
-/// Whether bytes are UTF-8.
+/// Whether all bytes are ASCII.
+fn is_ascii(bytes: &[u8]) -> bool
+    ensures { IsTrue result → IsAscii bytes.now }
+{
+    let mut most = 0u8;
+    for b in bytes {
+        most = most.max(*b);
+    }
+    most < 128
+}
+
+/// Whether bytes are UTF-8. Most texts are ASCII, and that is told sooner.
 pub fn is_text(line: &[u8]) -> bool
     ensures { result ≡ is_utf8 line.now }
 {
+    if is_ascii(line) {
+        return true;
+    }
     str::from_utf8(line).is_ok()
 }
 
