@@ -178,7 +178,10 @@ fn pointer_at(alloc: Global, bytes: &[u8], depth: u32, sort: Sort) -> Result<(Va
     let (name, rest) = wording_at(alloc, bytes)?;
     let (typ, rest) = type_at(rest, sort)?;
     let (curry, rest) = items_at(alloc, rest, depth, b')')?;
-    Ok((Value::FnPtr(FnPtr::from_parts(alloc, name, curry, typ)?), rest))
+    Ok((
+        Value::FnPtr(FnPtr::from_parts(alloc, name, curry, typ)?),
+        rest,
+    ))
 }
 
 /// Values and the bracket that ends them, and the bytes after it.
