@@ -72,3 +72,7 @@ starts_begun (body_starts a) = refl
 pub resumes_begun : {H B : Type 0} {o : Objects H B} {ctx : NativeCallContext} {func : RhaiFunc} {carry : Carry} {done : CallDone} {s t : Moment H B} {step : NativeStep} → Resumes o ctx func carry done s step t → t.begun ≡ s.begun
 resumes_begun (native_resumes i a) = refl
 resumes_begun (body_resumes a) = refl
+
+-- what holds of what is handed holds of an equal one
+pub handed_as : {E A : Type 0} (r : Result A E) (P : Option NativeCallContext → A → Type 0) (handed other : Option NativeCallContext) → handed ≡ other → IfOk r (P handed) → IfOk r (P other)
+handed_as r P handed other is a = subst (λ (x : Option NativeCallContext). IfOk r (P x)) is a

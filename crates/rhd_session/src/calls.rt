@@ -17,7 +17,11 @@ ghost use Rattle.rhd_session.specs.Plans.{only_natives, plan_of};
 ghost use Rattle.rhd_session.specs.Ends.{missing_end, host_end};
 ghost use Rattle.rhd_session.specs.Decisions.{refusal, decision, runs, pick_of, is_on_constant, constant_end};
 ghost use Rattle.rhd_session.specs.Seen.{seen, is_begun, with_end, picking, done_of};
-ghost use Rattle.rhd_session.specs.Entered.{context, entered};
+ghost use Rattle.rhd_session.specs.Entered.{context, context_if, entered};
+ghost use Rattle.rhd_session.specs.Start.{start_frame};
+ghost use Rattle.rhd_session.specs.Answered.{CallReplied, IsBegunFor};
+ghost use Rattle.rhd_session.specs.declared.reply.Reply.TheVariants.{Called};
+ghost use Rattle.rhd_func.specs.Natives.{StartAllowed};
 ghost use Rattle.rhd_session.specs.Steps.{Starts, Resumes};
 ghost use Rattle.rhd_session.specs.Runs.{Runs, received_by};
 ghost use Rattle.rhd_session.specs.Waits.{Open, outcome_of, Comes_to, Going, Cutting, weight};
@@ -34,46 +38,74 @@ use crate::received::{
     Received, all_args, context, context_if, is_method_shape, receive, receives_constant,
 };
 use crate::refusal::refusal;
+use crate::reply::Reply;
 use crate::search::{find, key_parts, script_key_of, typed_key_of};
 use crate::session::Session;
 use rhd_func::{
     Bodies, CallDone, CallRequest, CallShape, Carry, Host, HostAnswer, NativeCallContext,
-    NativeStep, RhaiFunc,
+    NativeStep, RhaiFunc, ScriptFuncDef,
 };
 use rhd_module::Key;
-use rhd_value::{EvalAltResult, OutOfMemory, Text};
+use rhd_value::{EvalAltResult, FnId, OutOfMemory, Text};
 use std::alloc::Global;
 use std::mem;
 
 impl Session {
     ghost use Rattle.rhd_session.specs.Of.{natives_of, world_of, frame_of};
 
-    /// Makes a call, with all the calls that it leads to. Each call that is begun counts.
-    pub(crate) fn run_call<H: Host, B: Bodies>(
+    /// Makes the call of a reply that was begun at the first level, with all the calls that it leads
+    /// to. Each call that is begun counts.
+    pub(crate) fn fill<H: Host, B: Bodies>(
         &self,
         alloc: Global,
-        call: CallRequest,
+        reply: &mut Reply,
         begun: &mut u64,
         host: &mut H,
         bodies: &mut B,
-    ) -> Result<CallNode, OutOfMemory>
-        requires { begun.old ≤ self.now.limits.budget }
-        ensures runs { IfOk result (λ node. (cut : Bool) × Runs (objects_of allows_call allows_resume B.allows_start B.allows_next H.allows_missing (natives_of self.now)) (world_of info self.now) (frame_of self.now) 1 call node (moment begun.old host.old bodies.old) (moment begun.new host.new bodies.new) cut) }
+    ) -> Result<(), OutOfMemory>
+        requires within { begun.old ≤ self.now.limits.budget }
+        requires begun { (call : CallRequest) × IsBegunFor call reply.old }
+        ensures replied { (call : CallRequest) → IsBegunFor call reply.old → OnOk result (CallReplied (objects_of allows_call allows_resume B.allows_start B.allows_next H.allows_missing (natives_of self.now)) (world_of info self.now) (frame_of self.now) (moment begun.old host.old bodies.old) call reply.new (moment begun.new host.new bodies.new)) }
         ensures within { begun.new ≤ self.now.limits.budget }
         ensures rises { begun.old ≤ begun.new }
     {
+        let Reply::Called(node) = reply else {
+            return Ok(());
+        };
         if *begun >= self.limits.budget {
-            return CallNode::unbegun(alloc, call, 1);
+            return node.spend(alloc);
         }
         *begun += 1;
-        let mut node = CallNode::begun(alloc, call, 1);
-        match self.begin(alloc, &mut node, host, bodies)? {
-            None => Ok(node),
-            Some(asking) => {
-                let outcome = outcome_of(node, Some(asking));
-                self.run_on::<H, B>(alloc, outcome, begun, host, bodies)
-            }
+        match self.begin(alloc, node, host, bodies) {
+            Ok(None) => Ok(()),
+            Ok(Some(asking)) => self.fill_on::<H, B>(alloc, reply, asking, begun, host, bodies),
+            Err(error) => Err(error),
         }
+    }
+
+    /// Goes on with the call of a reply, whose function asks for another.
+    fn fill_on<H: Host, B: Bodies>(
+        &self,
+        alloc: Global,
+        reply: &mut Reply,
+        asking: Box<Asking>,
+        begun: &mut u64,
+        host: &mut H,
+        bodies: &mut B,
+    ) -> Result<(), OutOfMemory>
+        requires within { begun.old ≤ self.now.limits.budget }
+        requires comes { (node : CallNode) × (call : CallRequest) × (before : Moment H B) × (reply.old ≡ Called node) × ((n : ℕ) → Comes_to (objects_of allows_call allows_resume B.allows_start B.allows_next H.allows_missing (natives_of self.now)) (world_of info self.now) (entered (frame_of self.now) n) 1 call (outcome_of node (Some asking)) before (moment begun.old host.old bodies.old)) }
+        ensures replied { (node : CallNode) (call : CallRequest) (before : Moment H B) → reply.old ≡ Called node → ((n : ℕ) → Comes_to (objects_of allows_call allows_resume B.allows_start B.allows_next H.allows_missing (natives_of self.now)) (world_of info self.now) (entered (frame_of self.now) n) 1 call (outcome_of node (Some asking)) before (moment begun.old host.old bodies.old)) → OnOk result (CallReplied (objects_of allows_call allows_resume B.allows_start B.allows_next H.allows_missing (natives_of self.now)) (world_of info self.now) (frame_of self.now) before call reply.new (moment begun.new host.new bodies.new)) }
+        ensures within { begun.new ≤ self.now.limits.budget }
+        ensures rises { begun.old ≤ begun.new }
+    {
+        let Reply::Called(node) = mem::replace(reply, Reply::Done) else {
+            return Ok(());
+        };
+        let outcome = outcome_of(node, Some(asking));
+        let node = self.run_on::<H, B>(alloc, outcome, begun, host, bodies)?;
+        *reply = Reply::Called(node);
+        Ok(())
     }
 
     /// Goes on with a call that is begun, with all the calls that it leads to.
@@ -296,8 +328,10 @@ impl Session {
         requires { func_held (length (natives_of self.now).items.items) pick.func ≡ true }
         ensures { (n begun : ℕ) (host : H) → is_begun (seen node.old) → begun < self.now.limits.budget → decision (world_of info self.now).engine (entered (frame_of self.now) n) (seen node.old).level (seen node.old).call ≡ runs (plan_of (seen node.old).call) pick → IfOk result (λ asking. Comes_to (objects_of allows_call allows_resume B.allows_start B.allows_next H.allows_missing (natives_of self.now)) (world_of info self.now) (entered (frame_of self.now) n) (seen node.old).level (seen node.old).call (outcome_of node.new asking) (moment begun host bodies.old) (moment (begun + 1) host bodies.new)) }
     {
-        let step = self.first_step::<H, B>(alloc, node, &pick, bodies)?;
-        settle(alloc, self.limits, self.printers, node, pick, step)
+        match self.first_step::<H, B>(alloc, node, &pick, bodies) {
+            Ok(step) => settle(alloc, self.limits, self.printers, node, pick, step),
+            Err(error) => Err(error),
+        }
     }
 
     /// The next step of a function that waits, after the answer to its request.
@@ -344,8 +378,7 @@ impl Session {
     {
         let call = &node.call;
         let received = receive(alloc, &pick.func, shape_of(call))?;
-        let ctx = context(alloc, name_of(call), position_of(call), node.level)?;
-        self.start::<H, B>(alloc, &pick.func, &ctx, received, bodies)
+        self.start::<H, B>(alloc, &pick.func, node, received, bodies)
     }
 
     /// The next step of a function, after the answer to its request.
@@ -360,8 +393,7 @@ impl Session {
         requires { func_held (length (natives_of self.now).items.items) frame.now.pick.func ≡ true }
         ensures { (begun : ℕ) (host : H) → IfOk result (λ step. Resumes (objects_of allows_call allows_resume B.allows_start B.allows_next H.allows_missing (natives_of self.now)) (context (frame_of self.now) (seen frame.now.node).level (plan_of (seen frame.now.node).call)) frame.now.pick.func carry done (moment begun host bodies.old) step (moment begun host bodies.new)) }
     {
-        let call = &frame.node.call;
-        let ctx = context(alloc, name_of(call), position_of(call), frame.node.level)?;
+        let ctx = context_of(alloc, &frame.node)?;
         self.go_on::<H, B>(alloc, &frame.pick.func, &ctx, carry, done, bodies)
     }
 
@@ -370,25 +402,75 @@ impl Session {
         &self,
         alloc: Global,
         func: &RhaiFunc,
-        ctx: &NativeCallContext,
+        node: &CallNode,
         received: Received,
         bodies: &mut B,
     ) -> Result<NativeStep, OutOfMemory>
         requires { func_held (length (natives_of self.now).items.items) func.now ≡ true }
-        ensures { (begun : ℕ) (host : H) → IfOk result (λ step. Starts (objects_of allows_call allows_resume B.allows_start B.allows_next H.allows_missing (natives_of self.now)) ctx.now func.now (record { first = received.first; args = received.args }) (moment begun host bodies.old) step (moment begun host bodies.new)) }
+        ensures { (begun : ℕ) (host : H) → IfOk result (λ step. Starts (objects_of allows_call allows_resume B.allows_start B.allows_next H.allows_missing (natives_of self.now)) (context (frame_of self.now) (seen node.now).level (plan_of (seen node.now).call)) func.now (record { first = received.first; args = received.args }) (moment begun host bodies.old) step (moment begun host bodies.new)) }
     {
-        let Received { first, args } = received;
         match func {
-            RhaiFunc::Script { fn_def, .. } => bodies.start(alloc, fn_def.def(), ctx, first, args),
+            RhaiFunc::Script { fn_def, .. } => {
+                self.start_script::<H, B>(alloc, fn_def.def(), node, received, bodies)
+            }
             RhaiFunc::Pure { func: id, .. } => {
-                let ctx = context_if(func.has_context(), ctx);
-                self.natives.start(alloc, *id, ctx, first, args)
+                self.start_native(alloc, *id, func.has_context(), node, received)
             }
             RhaiFunc::Method { func: id, .. } => {
-                let ctx = context_if(func.has_context(), ctx);
-                self.natives.start(alloc, *id, ctx, first, args)
+                self.start_native(alloc, *id, func.has_context(), node, received)
             }
         }
+    }
+
+    /// The first step of a script's body.
+    fn start_script<H: Host, B: Bodies>(
+        &self,
+        alloc: Global,
+        def: &ScriptFuncDef,
+        node: &CallNode,
+        received: Received,
+        bodies: &mut B,
+    ) -> Result<NativeStep, OutOfMemory>
+        ensures { IfOk result (λ step. B.allows_start bodies.old def.now (context (frame_of self.now) (seen node.now).level (plan_of (seen node.now).call)) received.first received.args step bodies.new) }
+    {
+        let ctx = context_of(alloc, node)?;
+        let Received { first, args } = received;
+        bodies.start(alloc, def, &ctx, first, args)
+    }
+
+    /// The first step of a native, which may be handed the context of its call.
+    fn start_native(
+        &self,
+        alloc: Global,
+        id: FnId,
+        has_context: bool,
+        node: &CallNode,
+        received: Received,
+    ) -> Result<NativeStep, OutOfMemory>
+        requires { id.0 < length (natives_of self.now).items.items }
+        ensures { IfOk result (StartAllowed (λ b. allows_call (b.vtable, b.value)) (natives_of self.now).items.items id (context_if has_context (context (frame_of self.now) (seen node.now).level (plan_of (seen node.now).call))) received.first received.args) }
+    {
+        if has_context {
+            return self.start_told(alloc, id, node, received);
+        }
+        let Received { first, args } = received;
+        self.natives.start(alloc, id, None, first, args)
+    }
+
+    /// The first step of a native that is handed the context of its call.
+    fn start_told(
+        &self,
+        alloc: Global,
+        id: FnId,
+        node: &CallNode,
+        received: Received,
+    ) -> Result<NativeStep, OutOfMemory>
+        requires { id.0 < length (natives_of self.now).items.items }
+        ensures { IfOk result (StartAllowed (λ b. allows_call (b.vtable, b.value)) (natives_of self.now).items.items id (Some (context (frame_of self.now) (seen node.now).level (plan_of (seen node.now).call))) received.first received.args) }
+    {
+        let ctx = context_of(alloc, node)?;
+        let Received { first, args } = received;
+        self.natives.start(alloc, id, Some(&ctx), first, args)
     }
 
     /// The next step of a function in a context.
@@ -418,6 +500,14 @@ impl Session {
             }
         }
     }
+}
+
+/// What a function may know of its call.
+fn context_of(alloc: Global, node: &CallNode) -> Result<NativeCallContext, OutOfMemory>
+    ensures { IfOk result (λ ctx. ctx ≡ context start_frame (seen node.now).level (plan_of (seen node.now).call)) }
+{
+    let call = &node.call;
+    context(alloc, name_of(call), position_of(call), node.level)
 }
 
 /// Ends a call for which no function is found. The host is asked where scripts are allowed.

@@ -1,4 +1,4 @@
-use Rattle.std.proofs.Common.{sym, ◌∙◌}
+use Rattle.std.proofs.Common.{refl, ◌∙◌}
 use Rattle.rhd_session.specs.Of.{frame_of}
 use Rattle.rhd_session.specs.Entered.{context}
 use Rattle.rhd_session.specs.Plans.{plan_of}
@@ -11,7 +11,8 @@ use Rattle.rhd_session.proofs.session.Session.first_step.Goals as goal
 pub returns : goal.returns
 returns g c = λ begun host.
     let plan = plan_of (seen c.args.node.now).call in
+    let ctx = context (frame_of c.args.self.now) (seen c.args.node.now).level plan in
     let first = c.in_ok-received.ensures.first ∙ (λ i. (received (manner_of c.args.pick.now.func) (c.shape_of.ensures i)).first) in
     let args = c.in_ok-received.ensures.args ∙ (λ i. (received (manner_of c.args.pick.now.func) (c.shape_of.ensures i)).args) in
-    starts_on _ c.start.result c.args.pick.now.func c.in_ok-ctx.ctx (context (frame_of c.args.self.now) (seen c.args.node.now).level plan) (record { first = c.in_ok-received.received.first; args = c.in_ok-received.received.args }) (received_by plan c.args.pick.now) _ _
-    (c.in_ok-ctx.ensures plan (sym c.name_of.ensures) (sym c.position_of.ensures)) first args (c.start.ensures begun host)
+    starts_on _ c.start.result c.args.pick.now.func ctx ctx (record { first = c.in_ok-received.received.first; args = c.in_ok-received.received.args }) (received_by plan c.args.pick.now) _ _
+    refl first args (c.start.ensures begun host)
