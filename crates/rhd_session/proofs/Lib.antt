@@ -1,6 +1,7 @@
 pub mod Registers
 pub mod HeldLaws
 pub mod Stepped
+pub mod Filled
 pub mod Found
 pub mod Unpicked
 pub mod Stack

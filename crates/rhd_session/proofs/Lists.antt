@@ -1,16 +1,12 @@
 -- Lists of commands and their replies, one more at a time.
-use Rattle.std.proofs.Common.{◌≡◌, Bool, ℕ, ◌+◌, ◌<◌, ◌≤◌, List, [], ◌∷◌, ◌++◌, refl, sym, subst, length, ap, suc, take, get_or, slice_get, Some, ◌∙◌, arith}
+use Rattle.std.proofs.Common.{◌≡◌, ℕ, ◌+◌, ◌<◌, ◌≤◌, List, [], ◌∷◌, ◌++◌, refl, sym, subst, length, ap, suc, take, get_or, slice_get, Some, ◌∙◌, arith}
 use Rattle.std.proofs.lemmas.List.{take_more, length-take}
 use Rattle.std.proofs.lemmas.Option.{get_or_from_slice_get}
-use Rattle.rhd_func.specs.declared.request.CallRequest.{CallRequest}
 use Rattle.rhd_session.specs.declared.command.Command.{Command}
 use Rattle.rhd_session.specs.declared.command.Command.TheVariants as commands
-use Rattle.rhd_session.specs.declared.node.CallNode.{CallNode}
 use Rattle.rhd_session.specs.declared.reply.Reply.{Reply}
-use Rattle.rhd_session.specs.declared.reply.Reply.TheVariants.{Called}
 use Rattle.rhd_session.specs.Engine.{Frame}
 use Rattle.rhd_session.specs.World.{World, Objects, Moment}
-use Rattle.rhd_session.specs.Runs.{Runs}
 use Rattle.rhd_session.specs.Answered.{Replied, Answered, Begins}
 
 -- where no call is begun, none is
@@ -84,10 +80,3 @@ module _ {H B : Type 0} (o : Objects H B) where
       subst (λ (cs : List Command). Answered o w f s cs now w2 f2 s2) (sym t)
       (subst (λ (rs : List Reply). Answered o w f s (take i commands ++ command ∷ []) rs w2 f2 s2) (sym q)
       (answered_more w f s (take i commands) replies w1 f1 s1 command reply w2 f2 s2 a r))
-
-  -- a call that is made answers its command
-  pub called : (w : World) (f : Frame) (s : Moment H B) (command : Command) (request same : CallRequest) (node : CallNode) (s2 : Moment H B) →
-      command ≡ commands.Call request → same ≡ request → ((cut : Bool) × Runs o w f 1 same node s s2 cut) → Replied o w f s command (Called node) w f s2
-  called w f s command request same node s2 is e r =
-      subst (λ (x : Command). Replied o w f s x (Called node) w f s2) (sym is)
-      (subst (λ (x : CallRequest). (cut : Bool) × Runs o w f 1 x node s s2 cut) e r, refl, refl)

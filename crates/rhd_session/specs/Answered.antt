@@ -10,6 +10,7 @@ use Rattle.rhd_session.specs.Engine.{Frame}
 use Rattle.rhd_session.specs.World.{World, Objects, Moment}
 use Rattle.rhd_session.specs.Commands.{cause, change, Change}
 use Rattle.rhd_session.specs.Runs.{Runs}
+use Rattle.rhd_session.specs.Seen.{seen, begun_call}
 
 -- what a declaring command answers, and the world and the frame that it leaves
 pub data Applied (w : World) (f : Frame) (command : Command) : Reply → World → Frame → Type 0 where
@@ -25,6 +26,11 @@ pub data Applied (w : World) (f : Frame) (command : Command) : Reply → World �
 abbrev pub CallReplied : {H B : Type 0} → Objects H B → World → Frame → Moment H B → CallRequest → Reply → Moment H B → Type 0
 CallReplied o w f before request (Called node) after = (cut : Bool) × Runs o w f 1 request node before after cut
 CallReplied o w f before request reply after = ⊥
+
+-- the node of this call is begun at level 1, and nothing more
+abbrev pub IsBegunFor : CallRequest → Reply → Type 0
+IsBegunFor request (Called node) = seen node ≡ begun_call request 1
+IsBegunFor request reply = ⊥
 
 -- this reply answers the command
 abbrev pub Replied : {H B : Type 0} → Objects H B → World → Frame → Moment H B → Command → Reply → World → Frame → Moment H B → Type 0

@@ -1,5 +1,5 @@
 -- What a declaring command answers and leaves: causes of a refusal, and the change.
-use Rattle.std.specs.Prelude.{ℕ, not, nat_lt, List, [], ◌∷◌, ◌++◌, length, slice_get, slice_set, Option, None, Some, option_map}
+use Rattle.std.specs.Prelude.{ℕ, Bool, true, false, not, nat_lt, List, [], ◌∷◌, ◌++◌, length, slice_get, slice_set, Option, None, Some, option_map}
 use Rattle.rhd_value.specs.Tree.{Bytes}
 use Rattle.rhd_value.specs.Firsts.{first_of, where_holds}
 use Rattle.rhd_value.specs.declared.tag.FnId.{FnId}
@@ -15,6 +15,15 @@ use Rattle.rhd_session.specs.declared.command.ModuleId.{ModuleId}
 use Rattle.rhd_session.specs.declared.reply.Reply.TheVariants.{Done, Made}
 use Rattle.rhd_session.specs.Engine.{Frame}
 use Rattle.rhd_session.specs.World.{World}
+
+-- only a call declares nothing
+abbrev pub is_call : Command → Bool
+is_call commands.NewModule = false
+is_call (commands.Script m def) = false
+is_call (commands.RegisterFn name id) = false
+is_call (commands.PushLib m) = false
+is_call commands.PopLib = false
+is_call (commands.Call request) = true
 
 -- Numbers that aren't held, in the order of the operands: each number with the length of its list.
 abbrev pub native_operand : World → FnId → ℕ × ℕ

@@ -19,6 +19,8 @@ ghost use Rattle.rhd_session.specs.Decisions.{refusal, decision, runs, pick_of, 
 ghost use Rattle.rhd_session.specs.Seen.{seen, is_begun, with_end, picking, done_of};
 ghost use Rattle.rhd_session.specs.Entered.{context, context_if, entered};
 ghost use Rattle.rhd_session.specs.Start.{start_frame};
+ghost use Rattle.rhd_session.specs.Answered.{CallReplied, IsBegunFor};
+ghost use Rattle.rhd_session.specs.declared.reply.Reply.TheVariants.{Called};
 ghost use Rattle.rhd_func.specs.Natives.{StartAllowed};
 ghost use Rattle.rhd_session.specs.Steps.{Starts, Resumes};
 ghost use Rattle.rhd_session.specs.Runs.{Runs, received_by};
@@ -36,6 +38,7 @@ use crate::received::{
     Received, all_args, context, context_if, is_method_shape, receive, receives_constant,
 };
 use crate::refusal::refusal;
+use crate::reply::Reply;
 use crate::search::{find, key_parts, script_key_of, typed_key_of};
 use crate::session::Session;
 use rhd_func::{
@@ -50,32 +53,59 @@ use std::mem;
 impl Session {
     ghost use Rattle.rhd_session.specs.Of.{natives_of, world_of, frame_of};
 
-    /// Makes a call, with all the calls that it leads to. Each call that is begun counts.
-    pub(crate) fn run_call<H: Host, B: Bodies>(
+    /// Makes the call of a reply that was begun at the first level, with all the calls that it leads
+    /// to. Each call that is begun counts.
+    pub(crate) fn fill<H: Host, B: Bodies>(
         &self,
         alloc: Global,
-        call: CallRequest,
+        reply: &mut Reply,
         begun: &mut u64,
         host: &mut H,
         bodies: &mut B,
-    ) -> Result<CallNode, OutOfMemory>
-        requires { begun.old ≤ self.now.limits.budget }
-        ensures runs { IfOk result (λ node. (cut : Bool) × Runs (objects_of allows_call allows_resume B.allows_start B.allows_next H.allows_missing (natives_of self.now)) (world_of info self.now) (frame_of self.now) 1 call node (moment begun.old host.old bodies.old) (moment begun.new host.new bodies.new) cut) }
+    ) -> Result<(), OutOfMemory>
+        requires within { begun.old ≤ self.now.limits.budget }
+        requires begun { (call : CallRequest) × IsBegunFor call reply.old }
+        ensures replied { (call : CallRequest) → IsBegunFor call reply.old → OnOk result (CallReplied (objects_of allows_call allows_resume B.allows_start B.allows_next H.allows_missing (natives_of self.now)) (world_of info self.now) (frame_of self.now) (moment begun.old host.old bodies.old) call reply.new (moment begun.new host.new bodies.new)) }
         ensures within { begun.new ≤ self.now.limits.budget }
         ensures rises { begun.old ≤ begun.new }
     {
+        let Reply::Called(node) = reply else {
+            return Ok(());
+        };
         if *begun >= self.limits.budget {
-            return CallNode::unbegun(alloc, call, 1);
+            return node.spend(alloc);
         }
         *begun += 1;
-        let mut node = CallNode::begun(alloc, call, 1);
-        match self.begin(alloc, &mut node, host, bodies)? {
-            None => Ok(node),
-            Some(asking) => {
-                let outcome = outcome_of(node, Some(asking));
-                self.run_on::<H, B>(alloc, outcome, begun, host, bodies)
-            }
+        match self.begin(alloc, node, host, bodies) {
+            Ok(None) => Ok(()),
+            Ok(Some(asking)) => self.fill_on::<H, B>(alloc, reply, asking, begun, host, bodies),
+            Err(error) => Err(error),
         }
+    }
+
+    /// Goes on with the call of a reply, whose function asks for another.
+    fn fill_on<H: Host, B: Bodies>(
+        &self,
+        alloc: Global,
+        reply: &mut Reply,
+        asking: Box<Asking>,
+        begun: &mut u64,
+        host: &mut H,
+        bodies: &mut B,
+    ) -> Result<(), OutOfMemory>
+        requires within { begun.old ≤ self.now.limits.budget }
+        requires comes { (node : CallNode) × (call : CallRequest) × (before : Moment H B) × (reply.old ≡ Called node) × ((n : ℕ) → Comes_to (objects_of allows_call allows_resume B.allows_start B.allows_next H.allows_missing (natives_of self.now)) (world_of info self.now) (entered (frame_of self.now) n) 1 call (outcome_of node (Some asking)) before (moment begun.old host.old bodies.old)) }
+        ensures replied { (node : CallNode) (call : CallRequest) (before : Moment H B) → reply.old ≡ Called node → ((n : ℕ) → Comes_to (objects_of allows_call allows_resume B.allows_start B.allows_next H.allows_missing (natives_of self.now)) (world_of info self.now) (entered (frame_of self.now) n) 1 call (outcome_of node (Some asking)) before (moment begun.old host.old bodies.old)) → OnOk result (CallReplied (objects_of allows_call allows_resume B.allows_start B.allows_next H.allows_missing (natives_of self.now)) (world_of info self.now) (frame_of self.now) before call reply.new (moment begun.new host.new bodies.new)) }
+        ensures within { begun.new ≤ self.now.limits.budget }
+        ensures rises { begun.old ≤ begun.new }
+    {
+        let Reply::Called(node) = mem::replace(reply, Reply::Done) else {
+            return Ok(());
+        };
+        let outcome = outcome_of(node, Some(asking));
+        let node = self.run_on::<H, B>(alloc, outcome, begun, host, bodies)?;
+        *reply = Reply::Called(node);
+        Ok(())
     }
 
     /// Goes on with a call that is begun, with all the calls that it leads to.

@@ -1,6 +1,6 @@
 //! The tree of a call.
 
-ghost use Rattle.std.specs.Prelude.{◌≡◌, ◌++◌, ◌∷◌, [], if◌then◌else◌, is_ok, IfOk, OnOk};
+ghost use Rattle.std.specs.Prelude.{ℕ, ◌≡◌, ◌++◌, ◌∷◌, [], if◌then◌else◌, is_ok, IfOk, OnOk};
 ghost use Rattle.rhd_session.specs.Ends.{answered, failed, refusing, showing};
 ghost use Rattle.rhd_func.specs.Shapes.{given};
 ghost use Rattle.rhd_session.specs.Nodes.{nodes_in};
@@ -143,10 +143,18 @@ impl CallNode {
     pub fn unbegun(alloc: Global, call: CallRequest, level: u32) -> Result<CallNode, OutOfMemory>
         ensures { IfOk result (λ node. seen node ≡ unbegun_node call level) }
     {
-        let first = given(alloc, &call)?;
         let mut node = CallNode::begun(alloc, call, level);
-        node.unbegin(first);
+        node.spend(alloc)?;
         Ok(node)
+    }
+
+    /// The call of a node that was just made isn't begun, as the budget is spent.
+    pub(crate) fn spend(&mut self, alloc: Global) -> Result<(), OutOfMemory>
+        ensures { (call : CallRequest) (level : ℕ) → seen self.old ≡ begun_call call level → OnOk result (seen self.new ≡ unbegun_node call level) }
+    {
+        let first = given(alloc, &self.call)?;
+        self.unbegin(first);
+        Ok(())
     }
 
     /// The same call, not begun. It shows its first argument by reference, or its object.

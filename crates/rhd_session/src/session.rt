@@ -1,18 +1,21 @@
 //! A session: a table of natives, modules by number, libraries, and a global module into which
 //! natives are registered.
 
-ghost use Rattle.std.specs.Prelude.{◌≡◌, ◌≤◌, ◌<◌, ◌+◌, ◌^◌, [], true, IfOk, OnErr, IfErr, Some, length, slice_get, take};
+ghost use Rattle.std.specs.Prelude.{◌≡◌, ◌≤◌, ◌<◌, ◌+◌, ◌^◌, ◌++◌, ◌∷◌, [], true, false, IfOk, OnOk, OnErr, IfErr, Some, length, slice_get, take, vec_len, vec_capacity};
+ghost use Rattle.rhd_session.specs.declared.reply.Reply.{Reply};
 ghost use Rattle.rhd_session.specs.World.{Moment};
 ghost use Rattle.rhd_session.specs.Held.{names_held, all_held, builtins_held};
 ghost use Rattle.rhd_session.specs.Objects.{infos_of, objects_of};
 ghost use Rattle.rhd_session.specs.Start.{start_world, start_frame};
-ghost use Rattle.rhd_session.specs.Answered.{Replied, Answered, Begins};
+ghost use Rattle.rhd_session.specs.Answered.{Applied, CallReplied, Replied, Answered, Begins};
+ghost use Rattle.rhd_session.specs.Commands.{is_call};
 
 use crate::builtins::Builtins;
 use crate::command::Command;
 use crate::limits::{Limits, Printers};
+use crate::node::CallNode;
 use crate::reply::{Replies, Reply, Stopped};
-use rhd_func::{Bodies, Host, Natives};
+use rhd_func::{Bodies, CallRequest, Host, Natives};
 use rhd_module::{Module, SharedModule};
 use rhd_value::OutOfMemory;
 use std::alloc::Global;
@@ -68,19 +71,14 @@ impl Session {
         })
     }
 
-    /// Answers one command.
-    fn perform<H: Host, B: Bodies>(
-        &mut self,
-        alloc: Global,
-        command: &Command,
-        host: &mut H,
-        bodies: &mut B,
-    ) -> Result<Reply, OutOfMemory>
-        requires { length (modules_of self.old) < 2 ^ 32 }
-        ensures replied { IfOk result (λ reply. Replied (objects_of allows_call allows_resume B.allows_start B.allows_next H.allows_missing (natives_of self.old)) (world_of info self.old) (frame_of self.old) (moment_of self.old host.old bodies.old) command.now reply (world_of info self.new) (frame_of self.new) (moment_of self.new host.new bodies.new)) }
+    /// Answers a command that makes no call.
+    fn declare(&mut self, alloc: Global, command: &Command) -> Result<Reply, OutOfMemory>
+        requires declares { is_call command.now ≡ false }
+        requires count { length (modules_of self.old) < 2 ^ 32 }
+        ensures applied { IfOk result (λ reply. Applied (world_of info self.old) (frame_of self.old) command.now reply (world_of info self.new) (frame_of self.new)) }
         ensures failed { OnErr result ((world_of info self.new ≡ world_of info self.old) × (frame_of self.new ≡ frame_of self.old)) }
         ensures natives { natives_of self.new ≡ natives_of self.old }
-        ensures begins { Begins command.now (calls_begun_of self.old) (calls_begun_of self.new) }
+        ensures begun { calls_begun_of self.new ≡ calls_begun_of self.old }
         ensures count { length (modules_of self.new) ≤ length (modules_of self.old) + 1 }
     {
         match command {
@@ -89,12 +87,67 @@ impl Session {
             Command::RegisterFn { name, id } => self.register_fn(alloc, name, *id),
             Command::PushLib { module: id } => self.push_lib(alloc, *id),
             Command::PopLib => Ok(self.pop_lib()),
-            Command::Call(request) => {
-                let request = request.dup(alloc)?;
-                let mut begun = self.begun;
-                let called = self.run_call(alloc, request, &mut begun, host, bodies);
-                self.begun = begun;
-                Ok(Reply::Called(called?))
+            Command::Call(_) => unreachable!(),
+        }
+    }
+
+    /// Makes a call. Its node is made at the end of the replies, where there is room for it, and
+    /// leaves them again where memory runs out.
+    fn call<H: Host, B: Bodies>(
+        &mut self,
+        alloc: Global,
+        request: &CallRequest,
+        replies: &mut Vec<Reply>,
+        host: &mut H,
+        bodies: &mut B,
+    ) -> Result<(), OutOfMemory>
+        requires { vec_len replies.old < vec_capacity replies.old }
+        ensures replied { OnOk result ((reply : Reply) × (replies.new.items ≡ replies.old.items ++ reply ∷ []) × CallReplied (objects_of allows_call allows_resume B.allows_start B.allows_next H.allows_missing (natives_of self.old)) (world_of info self.old) (frame_of self.old) (moment_of self.old host.old bodies.old) request.now reply (moment_of self.new host.new bodies.new)) }
+        ensures failed { OnErr result (replies.new.items ≡ replies.old.items) }
+        ensures world { world_of info self.new ≡ world_of info self.old }
+        ensures frame { frame_of self.new ≡ frame_of self.old }
+        ensures natives { natives_of self.new ≡ natives_of self.old }
+        ensures modules { modules_of self.new ≡ modules_of self.old }
+        ensures rises { calls_begun_of self.old ≤ calls_begun_of self.new }
+    {
+        let request = request.dup(alloc)?;
+        let last = replies.len();
+        replies.push_reserved(Reply::Called(CallNode::begun(alloc, request, 1)));
+        let mut begun = self.begun;
+        let filled = self.fill(alloc, &mut replies[last], &mut begun, host, bodies);
+        self.begun = begun;
+        if filled.is_err() {
+            drop(replies.pop());
+        }
+        filled
+    }
+
+    /// Answers one command. Its reply goes last, where there is room for it.
+    fn perform<H: Host, B: Bodies>(
+        &mut self,
+        alloc: Global,
+        command: &Command,
+        replies: &mut Vec<Reply>,
+        host: &mut H,
+        bodies: &mut B,
+    ) -> Result<(), OutOfMemory>
+        requires count { length (modules_of self.old) < 2 ^ 32 }
+        requires room { vec_len replies.old < vec_capacity replies.old }
+        ensures replied { OnOk result ((reply : Reply) × (replies.new.items ≡ replies.old.items ++ reply ∷ []) × Replied (objects_of allows_call allows_resume B.allows_start B.allows_next H.allows_missing (natives_of self.old)) (world_of info self.old) (frame_of self.old) (moment_of self.old host.old bodies.old) command.now reply (world_of info self.new) (frame_of self.new) (moment_of self.new host.new bodies.new)) }
+        ensures failed { OnErr result ((replies.new.items ≡ replies.old.items) × (world_of info self.new ≡ world_of info self.old) × (frame_of self.new ≡ frame_of self.old)) }
+        ensures natives { natives_of self.new ≡ natives_of self.old }
+        ensures begins { Begins command.now (calls_begun_of self.old) (calls_begun_of self.new) }
+        ensures count { length (modules_of self.new) ≤ length (modules_of self.old) + 1 }
+    {
+        match command {
+            Command::Call(request) => self.call(alloc, request, replies, host, bodies),
+            Command::NewModule
+            | Command::Script { .. }
+            | Command::RegisterFn { .. }
+            | Command::PushLib { .. }
+            | Command::PopLib => {
+                replies.push_reserved(self.declare(alloc, command)?);
+                Ok(())
             }
         }
     }
@@ -123,13 +176,13 @@ impl Session {
                     replies: Replies::from_vec(replies),
                 });
             }
-            match self.perform(alloc, command, host, bodies) {
-                Ok(reply) => replies.push_reserved(reply),
-                Err(_) => {
-                    return Err(Stopped {
-                        replies: Replies::from_vec(replies),
-                    });
-                }
+            if self
+                .perform(alloc, command, &mut replies, host, bodies)
+                .is_err()
+            {
+                return Err(Stopped {
+                    replies: Replies::from_vec(replies),
+                });
             }
         }
         Ok(Replies::from_vec(replies))

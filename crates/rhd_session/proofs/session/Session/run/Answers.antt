@@ -1,6 +1,7 @@
-use Rattle.std.proofs.Common.{arith, ◌≡◌, ◌≤◌, refl, ap, length, take, ◌∙◌}
+use Rattle.std.proofs.Common.{arith, ◌≡◌, ◌≤◌, refl, sym, ap, length, take, ◌∙◌}
 use Rattle.std.proofs.lemmas.List.{length-take}
 use Rattle.rhd_session.specs.Of.{moment_of}
+use Rattle.rhd_session.proofs.Filled.{on_ok_of, on_err_of}
 use Rattle.rhd_session.proofs.Lists.{answered_length, stopped_at, stopped_before, stopped_begins, begins_none, turn}
 use Rattle.rhd_session.proofs.session.Session.run.Goals as goal
 
@@ -13,23 +14,25 @@ returns-then-is_err-clause-stopped g c =
       stopped_before _ _ _ _ c.args.commands.now c.loop-command.command-index c.loop-command.replies.items c.from_vec.result _ _ _ c.loop-command-test.true (c.from_vec.ensures ∙ c.reserve.ensures.items) c.loop-command.invariant.answered,
     )
 
-pub returns-in-Err-clause-stopped : goal.returns-in-Err-clause-stopped
-returns-in-Err-clause-stopped g c =
-    let h : c.loop-command.command-index ≤ length c.args.commands.now = omega arith in (
+pub returns-then-is_err-2-clause-stopped : goal.returns-then-is_err-2-clause-stopped
+returns-then-is_err-2-clause-stopped g c =
+    let h : c.loop-command.command-index ≤ length c.args.commands.now = omega arith in
+    let failed = on_err_of c.perform.result c.perform.ensures.failed (sym c.is_err-in-loop-command.ensures.value ∙ c.if-is_err-2.true) in
+    let kept = c.from_vec-then-is_err-2.ensures ∙ failed.0 ∙ c.reserve.ensures.items in (
       moment_of c.loop-command.self c.loop-command.host c.loop-command.bodies,
-      stopped_at _ _ _ _ c.args.commands.now c.loop-command.command-index c.loop-command.replies.items c.from_vec-in-Err.result _ _ _ _ _ h (c.from_vec-in-Err.ensures ∙ c.reserve.ensures.items) c.in-Err.ensures.failed.0 c.in-Err.ensures.failed.1 c.loop-command.invariant.answered,
-      λ other stands. stopped_begins _ _ _ _ c.args.commands.now c.loop-command.command-index c.command-item.result other c.loop-command.replies.items c.from_vec-in-Err.result _ _ _ _ _ c.loop-command-test.true c.command-item.is (c.from_vec-in-Err.ensures ∙ c.reserve.ensures.items) c.loop-command.invariant.answered stands c.in-Err.ensures.begins,
-      stopped_before _ _ _ _ c.args.commands.now c.loop-command.command-index c.loop-command.replies.items c.from_vec-in-Err.result _ _ _ c.loop-command-test.true (c.from_vec-in-Err.ensures ∙ c.reserve.ensures.items) c.loop-command.invariant.answered,
+      stopped_at _ _ _ _ c.args.commands.now c.loop-command.command-index c.loop-command.replies.items c.from_vec-then-is_err-2.result _ _ _ _ _ h kept failed.1 failed.2 c.loop-command.invariant.answered,
+      λ other stands. stopped_begins _ _ _ _ c.args.commands.now c.loop-command.command-index c.command-item.result other c.loop-command.replies.items c.from_vec-then-is_err-2.result _ _ _ _ _ c.loop-command-test.true c.command-item.is kept c.loop-command.invariant.answered stands c.perform.ensures.begins,
+      stopped_before _ _ _ _ c.args.commands.now c.loop-command.command-index c.loop-command.replies.items c.from_vec-then-is_err-2.result _ _ _ c.loop-command-test.true kept c.loop-command.invariant.answered,
     )
 
 pub loop-command-preserved : goal.loop-command-preserved
 loop-command-preserved g c =
     let i = c.loop-command.invariant in
-    let replied = simp i.natives at c.in-Ok.ensures.replied in
+    let replied = on_ok_of c.perform.result (simp i.natives at c.perform.ensures.replied) (sym c.is_err-in-loop-command.ensures.value ∙ c.if-is_err-2.false) in
     record {
-      count = omega (arith, i.count, c.in-Ok.ensures.count);
-      natives = c.in-Ok.ensures.natives ∙ i.natives;
-      answered = turn _ _ _ _ c.args.commands.now c.loop-command.command-index c.command-item.result c.loop-command.replies.items c.reserve.new.self.items c.push_reserved.new.self.items c.in-Ok.reply _ _ _ _ _ _ c.loop-command-test.true c.command-item.is c.reserve.ensures.items c.push_reserved.ensures.items i.answered replied;
+      count = omega (arith, i.count, c.perform.ensures.count);
+      natives = c.perform.ensures.natives ∙ i.natives;
+      answered = turn _ _ _ _ c.args.commands.now c.loop-command.command-index c.command-item.result c.loop-command.replies.items c.reserve.new.self.items c.perform.new.replies.items replied.0 _ _ _ _ _ _ c.loop-command-test.true c.command-item.is c.reserve.ensures.items replied.1 i.answered replied.2;
     }
 
 pub returns-clause-counted : goal.returns-clause-counted

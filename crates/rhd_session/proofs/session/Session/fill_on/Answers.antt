@@ -1,0 +1,13 @@
+use Rattle.std.specs.Prelude.{Some}
+use Rattle.rhd_session.specs.Of.{frame_of}
+use Rattle.rhd_session.proofs.Filled.{taken_comes}
+use Rattle.rhd_session.proofs.session.Session.fill_on.Goals as goal
+
+pub run_on-requires-clause-comes : goal.run_on-requires-clause-comes
+run_on-requires-clause-comes g c =
+    let r = c.requires.comes in
+    (r.1, r.2, taken_comes _ _ (frame_of c.args.self.now) c.args.reply.now c.replace.result r.0 c.in-Called.node (Some c.args.asking) c.outcome_of-outcome.result r.1 r.2 _ r.3 c.replace.ensures.value c.in-Called.is c.outcome_of-outcome.ensures r.4)
+
+pub returns-clause-replied : goal.returns-clause-replied
+returns-clause-replied g c = λ node call before is step.
+    c.in_ok-node.ensures.runs call before (taken_comes _ _ (frame_of c.args.self.now) c.args.reply.now c.replace.result node c.in-Called.node (Some c.args.asking) c.outcome_of-outcome.result call before _ is c.replace.ensures.value c.in-Called.is c.outcome_of-outcome.ensures step)
