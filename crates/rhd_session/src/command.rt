@@ -1,6 +1,6 @@
 //! What a session is told to do.
 
-ghost use Rattle.std.specs.Prelude.{◌≡◌, ◌++◌, ◌∷◌, [], length, if◌then◌else◌, is_ok};
+ghost use Rattle.std.specs.Prelude.{◌≡◌, ◌++◌, ◌∷◌, [], length, if◌then◌else◌, is_ok, IfOk};
 
 use rhd_func::{CallRequest, SharedDef};
 use rhd_value::{FnId, OutOfMemory, Text};
@@ -26,6 +26,28 @@ pub enum Command {
     PopLib,
     /// Makes a call.
     Call(CallRequest),
+}
+
+impl Command {
+    /// An equal command.
+    pub fn dup(&self, alloc: Global) -> Result<Command, OutOfMemory>
+        ensures { IfOk result (λ command. command ≡ self.now) }
+    {
+        match self {
+            Command::NewModule => Ok(Command::NewModule),
+            Command::Script { module, def } => Ok(Command::Script {
+                module: *module,
+                def: def.dup(alloc)?,
+            }),
+            Command::RegisterFn { name, id } => Ok(Command::RegisterFn {
+                name: name.dup(alloc)?,
+                id: *id,
+            }),
+            Command::PushLib { module } => Ok(Command::PushLib { module: *module }),
+            Command::PopLib => Ok(Command::PopLib),
+            Command::Call(request) => Ok(Command::Call(request.dup(alloc)?)),
+        }
+    }
 }
 
 /// Commands in order. Contracts see the list of them.
@@ -74,5 +96,11 @@ impl Commands {
         ensures { result.now ≡ self.now }
     {
         self.items.as_slice()
+    }
+
+    pub fn into_vec(self) -> Vec<Command>
+        ensures { result.items ≡ self }
+    {
+        self.items
     }
 }

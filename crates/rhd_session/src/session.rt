@@ -11,7 +11,7 @@ ghost use Rattle.rhd_session.specs.Answered.{Applied, CallReplied, Replied, Answ
 ghost use Rattle.rhd_session.specs.Commands.{is_call};
 
 use crate::builtins::Builtins;
-use crate::command::Command;
+use crate::command::{Command, Commands};
 use crate::limits::{Limits, Printers};
 use crate::node::CallNode;
 use crate::reply::{Replies, Reply, Stopped};
@@ -96,13 +96,13 @@ impl Session {
     fn call<H: Host, B: Bodies>(
         &mut self,
         alloc: Global,
-        request: &CallRequest,
+        request: CallRequest,
         replies: &mut Vec<Reply>,
         host: &mut H,
         bodies: &mut B,
     ) -> Result<(), OutOfMemory>
         requires { vec_len replies.old < vec_capacity replies.old }
-        ensures replied { OnOk result ((reply : Reply) × (replies.new.items ≡ replies.old.items ++ reply ∷ []) × CallReplied (objects_of allows_call allows_resume B.allows_start B.allows_next H.allows_missing (natives_of self.old)) (world_of info self.old) (frame_of self.old) (moment_of self.old host.old bodies.old) request.now reply (moment_of self.new host.new bodies.new)) }
+        ensures replied { OnOk result ((reply : Reply) × (replies.new.items ≡ replies.old.items ++ reply ∷ []) × CallReplied (objects_of allows_call allows_resume B.allows_start B.allows_next H.allows_missing (natives_of self.old)) (world_of info self.old) (frame_of self.old) (moment_of self.old host.old bodies.old) request reply (moment_of self.new host.new bodies.new)) }
         ensures failed { OnErr result (replies.new.items ≡ replies.old.items) }
         ensures world { world_of info self.new ≡ world_of info self.old }
         ensures frame { frame_of self.new ≡ frame_of self.old }
@@ -110,7 +110,6 @@ impl Session {
         ensures modules { modules_of self.new ≡ modules_of self.old }
         ensures rises { calls_begun_of self.old ≤ calls_begun_of self.new }
     {
-        let request = request.dup(alloc)?;
         let last = replies.len();
         replies.push_reserved(Reply::Called(CallNode::begun(alloc, request, 1)));
         let mut begun = self.begun;
@@ -122,23 +121,23 @@ impl Session {
         filled
     }
 
-    /// Answers one command. Its reply goes last, where there is room for it.
+    /// Answers one command. Its reply goes last.
     fn perform<H: Host, B: Bodies>(
         &mut self,
         alloc: Global,
-        command: &Command,
+        command: Command,
         replies: &mut Vec<Reply>,
         host: &mut H,
         bodies: &mut B,
     ) -> Result<(), OutOfMemory>
-        requires count { length (modules_of self.old) < 2 ^ 32 }
-        requires room { vec_len replies.old < vec_capacity replies.old }
-        ensures replied { OnOk result ((reply : Reply) × (replies.new.items ≡ replies.old.items ++ reply ∷ []) × Replied (objects_of allows_call allows_resume B.allows_start B.allows_next H.allows_missing (natives_of self.old)) (world_of info self.old) (frame_of self.old) (moment_of self.old host.old bodies.old) command.now reply (world_of info self.new) (frame_of self.new) (moment_of self.new host.new bodies.new)) }
+        requires { length (modules_of self.old) < 2 ^ 32 }
+        ensures replied { OnOk result ((reply : Reply) × (replies.new.items ≡ replies.old.items ++ reply ∷ []) × Replied (objects_of allows_call allows_resume B.allows_start B.allows_next H.allows_missing (natives_of self.old)) (world_of info self.old) (frame_of self.old) (moment_of self.old host.old bodies.old) command reply (world_of info self.new) (frame_of self.new) (moment_of self.new host.new bodies.new)) }
         ensures failed { OnErr result ((replies.new.items ≡ replies.old.items) × (world_of info self.new ≡ world_of info self.old) × (frame_of self.new ≡ frame_of self.old)) }
         ensures natives { natives_of self.new ≡ natives_of self.old }
-        ensures begins { Begins command.now (calls_begun_of self.old) (calls_begun_of self.new) }
+        ensures begins { Begins command (calls_begun_of self.old) (calls_begun_of self.new) }
         ensures count { length (modules_of self.new) ≤ length (modules_of self.old) + 1 }
     {
+        replies.reserve(1)?;
         match command {
             Command::Call(request) => self.call(alloc, request, replies, host, bodies),
             Command::NewModule
@@ -146,7 +145,7 @@ impl Session {
             | Command::RegisterFn { .. }
             | Command::PushLib { .. }
             | Command::PopLib => {
-                replies.push_reserved(self.declare(alloc, command)?);
+                replies.push_reserved(self.declare(alloc, &command)?);
                 Ok(())
             }
         }
@@ -171,11 +170,40 @@ impl Session {
     {
         let mut replies = Vec::new(alloc);
         for command in commands {
-            if replies.reserve(1).is_err() {
+            let Ok(command) = command.dup(alloc) else {
+                return Err(Stopped {
+                    replies: Replies::from_vec(replies),
+                });
+            };
+            if self
+                .perform(alloc, command, &mut replies, host, bodies)
+                .is_err()
+            {
                 return Err(Stopped {
                     replies: Replies::from_vec(replies),
                 });
             }
+        }
+        Ok(Replies::from_vec(replies))
+    }
+
+    /// Answers commands in order, as `run` does, and takes them, so that none is copied.
+    pub fn run_commands<H: Host, B: Bodies>(
+        &mut self,
+        alloc: Global,
+        commands: Commands,
+        host: &mut H,
+        bodies: &mut B,
+    ) -> Result<Replies, Stopped>
+        requires { length (modules_of self.old) + length commands < 2 ^ 32 }
+        ensures answered { IfOk result (λ replies. Answered (objects_of allows_call allows_resume B.allows_start B.allows_next H.allows_missing (natives_of self.old)) (world_of info self.old) (frame_of self.old) (moment_of self.old host.old bodies.old) commands replies (world_of info self.new) (frame_of self.new) (moment_of self.new host.new bodies.new)) }
+        ensures stopped { IfErr result (λ stopped. (after : Moment H B) × Answered (objects_of allows_call allows_resume B.allows_start B.allows_next H.allows_missing (natives_of self.old)) (world_of info self.old) (frame_of self.old) (moment_of self.old host.old bodies.old) (take (length stopped.replies) commands) stopped.replies (world_of info self.new) (frame_of self.new) after × ((command : Command) → slice_get commands (length stopped.replies) ≡ Some command → Begins command after.begun (calls_begun_of self.new)) × (length stopped.replies < length commands)) }
+        ensures counted { IfOk result (λ replies. length replies ≡ length commands) }
+        ensures modules { length (modules_of self.new) ≤ length (modules_of self.old) + length commands }
+        ensures natives { natives_of self.new ≡ natives_of self.old }
+    {
+        let mut replies = Vec::new(alloc);
+        for command in commands.into_vec() {
             if self
                 .perform(alloc, command, &mut replies, host, bodies)
                 .is_err()

@@ -1,6 +1,6 @@
 //! The arguments of a call.
 
-ghost use Rattle.std.specs.Prelude.{◌≡◌, OnOk};
+ghost use Rattle.std.specs.Prelude.{◌≡◌, IfOk, OnOk};
 ghost use Rattle.rhd_text.specs.Bytes.{given_of};
 ghost use Rattle.rhd_text.specs.Arguments.{no_arguments, with_argument};
 ghost use Rattle.rhd_text.specs.Reading.{given_at, argument_at, arguments_at};
@@ -34,13 +34,14 @@ pub struct Arguments {
 }
 
 impl Arguments {
-    fn new(alloc: Global) -> Arguments
-        ensures { result ≡ no_arguments }
+    /// None yet, with room for one: most calls have no more.
+    fn new(alloc: Global) -> Result<Arguments, OutOfMemory>
+        ensures { IfOk result (λ arguments. arguments ≡ no_arguments) }
     {
-        Arguments {
-            values: Values::new(alloc),
+        Ok(Arguments {
+            values: Values::with_capacity(alloc, 1)?,
             places: Places::new(alloc),
-        }
+        })
     }
 
     /// Puts an argument last.
@@ -103,7 +104,7 @@ pub fn argument_at(alloc: Global, bytes: &[u8], given: bool) -> Result<(Argument
 pub fn arguments_at(alloc: Global, bytes: &[u8], given: bool) -> Result<(Arguments, &[u8]), Stop>
     ensures { Gives (λ x. (x.0, x.1.now)) result (arguments_at given bytes.now) }
 {
-    let mut arguments = Arguments::new(alloc);
+    let mut arguments = Arguments::new(alloc)?;
     let mut rest = bytes;
     let mut most = bytes.len();
     while most > 0 {

@@ -24,7 +24,7 @@ use crate::tool::run_tool;
 use rhd_func::{Natives, PluginFunc};
 use std::alloc::{AllocError, Global};
 use std::process::ExitCode;
-use std::{env, io};
+use std::{env, io, mem};
 
 /// The words after the program's name.
 fn own_words(alloc: Global, args: env::Args) -> Result<Vec<String>, AllocError> {
@@ -60,5 +60,8 @@ fn main(rt: HostRuntime) -> ExitCode {
     let mut source = Reading::new(rt.reader());
     let mut sink = Writing::new(io::writer(&rt));
     let end = run_tool(alloc, words.as_slice(), &mut source, &mut sink, natives);
-    ExitCode::from(end.status)
+    let status = ExitCode::from(end.status);
+    // The process ends here, and all its memory goes with it at once.
+    mem::forget(end);
+    status
 }

@@ -113,7 +113,7 @@ fn answer(alloc: Global, natives: Natives, text: SessionText) -> Result<Replies,
             replies: Replies::new(alloc),
         });
     };
-    session.run(alloc, commands.as_slice(), &mut host, &mut bodies)
+    session.run_commands(alloc, commands, &mut host, &mut bodies)
 }
 
 /// Answers the commands of a text, and writes the replies where all commands are answered.
