@@ -1,7 +1,11 @@
 -- Lists of commands and their replies, one more at a time.
 use Rattle.std.proofs.Common.{◌≡◌, ℕ, ◌+◌, ◌<◌, ◌≤◌, List, [], ◌∷◌, ◌++◌, refl, sym, subst, length, ap, suc, take, get_or, slice_get, Some, ◌∙◌, arith}
-use Rattle.std.proofs.lemmas.List.{take_more, length-take}
+use Rattle.std.proofs.lemmas.List.{take_more, length-take, length-append}
 use Rattle.std.proofs.lemmas.Option.{get_or_from_slice_get}
+use Rattle.std.proofs.Math.Seq.{take-append_seam, get_or-append_seam}
+use Rattle.std.specs.Iterator.{Yields}
+use Rattle.std.specs.Vec.Iter.{into_iter_items, into_iter_steps}
+use Rattle.std.specs.declared.vec.IntoIter.{IntoIter}
 use Rattle.rhd_session.specs.declared.command.Command.{Command}
 use Rattle.rhd_session.specs.declared.command.Command.TheVariants as commands
 use Rattle.rhd_session.specs.declared.reply.Reply.{Reply}
@@ -23,7 +27,27 @@ pub begins_at : (cs : List Command) (i : ℕ) (command other : Command) (before 
     command ≡ get_or cs i command → slice_get cs i ≡ Some other → Begins command before after → Begins other before after
 begins_at cs i command other before after is stands b = subst (λ (c : Command). Begins c before after) (is ∙ get_or_from_slice_get cs i other command stands) b
 
+-- what a list of commands has given, and what is left of it
+taken_front : {A : Type 0} (first : IntoIter Command A) (done : List Command) (last : IntoIter Command A) → Yields into_iter_steps first done last → into_iter_items first ≡ done ++ into_iter_items last
+taken_front first [] last gave = ap into_iter_items gave
+taken_front first (c ∷ done) last gave = gave.1.0 ∙ ap (λ (cs : List Command). c ∷ cs) (taken_front gave.0 done last gave.2)
+
+-- a command stands behind those that were taken before it
+pub taken_next : {A : Type 0} (all done : List Command) (first last rest : IntoIter Command A) (command : Command) → into_iter_items first ≡ all → Yields into_iter_steps first done last → into_iter_items last ≡ command ∷ into_iter_items rest →
+    (take (length done) all ≡ done) × (command ≡ get_or all (length done) command) × (length done < length all)
+taken_next all done first last rest command is gave e =
+    let stands : all ≡ done ++ command ∷ into_iter_items rest = sym is ∙ taken_front first done last gave ∙ ap (λ (cs : List Command). done ++ cs) e in (
+      ap (take (length done)) stands ∙ take-append_seam done (command ∷ into_iter_items rest),
+      sym (ap (λ (cs : List Command). get_or cs (length done) command) stands ∙ get_or-append_seam done command (into_iter_items rest) command),
+      omega (arith, ap length stands, length-append done (command ∷ into_iter_items rest)),
+    )
+
 module _ {H B : Type 0} (o : Objects H B) where
+  -- the commands that were taken are a front of all
+  pub answered_front : (w : World) (f : Frame) (s : Moment H B) (all done : List Command) (replies : List Reply) (w1 : World) (f1 : Frame) (s1 : Moment H B) →
+      take (length done) all ≡ done → Answered o w f s done replies w1 f1 s1 → Answered o w f s (take (length done) all) replies w1 f1 s1
+  answered_front w f s all done replies w1 f1 s1 e a = subst (λ (cs : List Command). Answered o w f s cs replies w1 f1 s1) (sym e) a
+
   -- one command more
   pub answered_more : (w : World) (f : Frame) (s : Moment H B) (commands : List Command) (replies : List Reply) (w1 : World) (f1 : Frame) (s1 : Moment H B) (command : Command) (reply : Reply) (w2 : World) (f2 : Frame) (s2 : Moment H B) →
       Answered o w f s commands replies w1 f1 s1 → Replied o w1 f1 s1 command reply w2 f2 s2 → Answered o w f s (commands ++ command ∷ []) (replies ++ reply ∷ []) w2 f2 s2
@@ -40,6 +64,12 @@ module _ {H B : Type 0} (o : Objects H B) where
       (a.0, a.1, a.2, a.3, answered_more a.0 a.1 a.2 commands replies w1 f1 s1 command reply w2 f2 s2 a.4 r)
   answered_more w f s [] (p ∷ replies) w1 f1 s1 command reply w2 f2 s2 a r = absurd a
   answered_more w f s (c ∷ commands) [] w1 f1 s1 command reply w2 f2 s2 a r = absurd a
+
+  -- the same, where its reply goes last
+  pub answered_next : (w : World) (f : Frame) (s : Moment H B) (commands : List Command) (replies now : List Reply) (w1 : World) (f1 : Frame) (s1 : Moment H B) (command : Command) (reply : Reply) (w2 : World) (f2 : Frame) (s2 : Moment H B) →
+      now ≡ replies ++ reply ∷ [] → Answered o w f s commands replies w1 f1 s1 → Replied o w1 f1 s1 command reply w2 f2 s2 → Answered o w f s (commands ++ command ∷ []) now w2 f2 s2
+  answered_next w f s commands replies now w1 f1 s1 command reply w2 f2 s2 p a r =
+      subst (λ (rs : List Reply). Answered o w f s (commands ++ command ∷ []) rs w2 f2 s2) (sym p) (answered_more w f s commands replies w1 f1 s1 command reply w2 f2 s2 a r)
 
   -- as many replies as commands
   pub answered_length : (w : World) (f : Frame) (s : Moment H B) (commands : List Command) (replies : List Reply) (w2 : World) (f2 : Frame) (s2 : Moment H B) → Answered o w f s commands replies w2 f2 s2 → length replies ≡ length commands
@@ -71,12 +101,10 @@ module _ {H B : Type 0} (o : Objects H B) where
       begins_at cs i command other before after is (subst (λ (k : ℕ). slice_get cs k ≡ Some other) l stands) b
 
   -- one turn of the loop
-  pub turn : (w : World) (f : Frame) (s : Moment H B) (commands : List Command) (i : ℕ) (command : Command) (replies roomy now : List Reply) (reply : Reply) (w1 w2 : World) (f1 f2 : Frame) (s1 s2 : Moment H B) →
-      i < length commands → command ≡ get_or commands i command → roomy ≡ replies → now ≡ roomy ++ reply ∷ [] →
-      Answered o w f s (take i commands) replies w1 f1 s1 → Replied o w1 f1 s1 command reply w2 f2 s2 → Answered o w f s (take (i + 1) commands) now w2 f2 s2
-  turn w f s commands i command replies roomy now reply w1 w2 f1 f2 s1 s2 h is e p a r =
-      let t : take (i + 1) commands ≡ take i commands ++ command ∷ [] = take_more commands i command h ∙ ap (λ (c : Command). take i commands ++ c ∷ []) (sym is) in
-      let q : now ≡ replies ++ reply ∷ [] = p ∙ ap (λ (rs : List Reply). rs ++ reply ∷ []) e in
+  pub turn : (w : World) (f : Frame) (s : Moment H B) (commands : List Command) (i : ℕ) (command same : Command) (replies now : List Reply) (reply : Reply) (w1 w2 : World) (f1 f2 : Frame) (s1 s2 : Moment H B) →
+      i < length commands → command ≡ get_or commands i command → same ≡ command → now ≡ replies ++ reply ∷ [] →
+      Answered o w f s (take i commands) replies w1 f1 s1 → Replied o w1 f1 s1 same reply w2 f2 s2 → Answered o w f s (take (i + 1) commands) now w2 f2 s2
+  turn w f s commands i command same replies now reply w1 w2 f1 f2 s1 s2 h is e p a r =
+      let t : take (i + 1) commands ≡ take i commands ++ same ∷ [] = take_more commands i command h ∙ ap (λ (c : Command). take i commands ++ c ∷ []) (sym is ∙ sym e) in
       subst (λ (cs : List Command). Answered o w f s cs now w2 f2 s2) (sym t)
-      (subst (λ (rs : List Reply). Answered o w f s (take i commands ++ command ∷ []) rs w2 f2 s2) (sym q)
-      (answered_more w f s (take i commands) replies w1 f1 s1 command reply w2 f2 s2 a r))
+      (answered_next w f s (take i commands) replies now w1 f1 s1 same reply w2 f2 s2 p a r)

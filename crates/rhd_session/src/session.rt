@@ -140,12 +140,8 @@ impl Session {
         replies.reserve(1)?;
         match command {
             Command::Call(request) => self.call(alloc, request, replies, host, bodies),
-            Command::NewModule
-            | Command::Script { .. }
-            | Command::RegisterFn { .. }
-            | Command::PushLib { .. }
-            | Command::PopLib => {
-                replies.push_reserved(self.declare(alloc, &command)?);
+            declared => {
+                replies.push_reserved(self.declare(alloc, &declared)?);
                 Ok(())
             }
         }
@@ -202,17 +198,17 @@ impl Session {
         ensures modules { length (modules_of self.new) ≤ length (modules_of self.old) + length commands }
         ensures natives { natives_of self.new ≡ natives_of self.old }
     {
-        let mut replies = Vec::new(alloc);
+        let mut made = Vec::new(alloc);
         for command in commands.into_vec() {
             if self
-                .perform(alloc, command, &mut replies, host, bodies)
+                .perform(alloc, command, &mut made, host, bodies)
                 .is_err()
             {
                 return Err(Stopped {
-                    replies: Replies::from_vec(replies),
+                    replies: Replies::from_vec(made),
                 });
             }
         }
-        Ok(Replies::from_vec(replies))
+        Ok(Replies::from_vec(made))
     }
 }

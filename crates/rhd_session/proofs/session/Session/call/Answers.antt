@@ -4,6 +4,11 @@ use Rattle.rhd_session.specs.Of.{world_of, frame_of}
 use Rattle.rhd_session.proofs.Filled.{placed, last_begun}
 use Rattle.rhd_session.proofs.session.Session.call.Goals as goal
 
+pub fill-filled-requires-clause-begun : goal.fill-filled-requires-clause-begun
+fill-filled-requires-clause-begun g c =
+    let at : c.len-last.result ≡ length c.args.replies.now.items = search rules in
+    (c.args.request, last_begun c.args.replies.now.items c.push_reserved.new.self.items c.len-last.result c.index_mut.result.now c.begun.result c.args.request c.push_reserved.ensures.items at c.index_mut.ensures.value c.begun.ensures)
+
 pub returns-then-is_err-clause-world : goal.returns-then-is_err-clause-world
 unfolding world_of
 returns-then-is_err-clause-world g c = refl
@@ -16,5 +21,5 @@ pub returns-else-is_err-clause-replied : goal.returns-else-is_err-clause-replied
 unfolding world_of
 returns-else-is_err-clause-replied g c =
     let at : c.len-last.result ≡ length c.args.replies.now.items = search rules in
-    let begun = last_begun c.args.replies.now.items c.push_reserved.new.self.items c.len-last.result c.index_mut.result.now c.begun.result c.in_ok-request.request c.push_reserved.ensures.items at c.index_mut.ensures.value c.begun.ensures in
-    on_ok_weaker c.fill-filled.result (λ replied. placed _ _ (frame_of c.args.self.now) c.args.replies.now.items c.push_reserved.new.self.items c.len-last.result _ c.fill-filled.new.reply c.args.request.now c.in_ok-request.request _ _ c.push_reserved.ensures.items at c.in_ok-request.ensures replied) (c.fill-filled.ensures.replied c.in_ok-request.request begun)
+    let begun = last_begun c.args.replies.now.items c.push_reserved.new.self.items c.len-last.result c.index_mut.result.now c.begun.result c.args.request c.push_reserved.ensures.items at c.index_mut.ensures.value c.begun.ensures in
+    on_ok_weaker c.fill-filled.result (λ replied. placed _ _ (frame_of c.args.self.now) c.args.replies.now.items c.push_reserved.new.self.items c.len-last.result _ c.fill-filled.new.reply c.args.request c.args.request _ _ c.push_reserved.ensures.items at refl replied) (c.fill-filled.ensures.replied c.args.request begun)

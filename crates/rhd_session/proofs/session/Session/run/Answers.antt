@@ -5,34 +5,34 @@ use Rattle.rhd_session.proofs.Filled.{on_ok_of, on_err_of}
 use Rattle.rhd_session.proofs.Lists.{answered_length, stopped_at, stopped_before, stopped_begins, begins_none, turn}
 use Rattle.rhd_session.proofs.session.Session.run.Goals as goal
 
-pub returns-then-is_err-clause-stopped : goal.returns-then-is_err-clause-stopped
-returns-then-is_err-clause-stopped g c =
+pub returns-in_default-clause-stopped : goal.returns-in_default-clause-stopped
+returns-in_default-clause-stopped g c =
     let h : c.loop-command.command-index ≤ length c.args.commands.now = omega arith in (
       moment_of c.loop-command.self c.loop-command.host c.loop-command.bodies,
-      stopped_at _ _ _ _ c.args.commands.now c.loop-command.command-index c.loop-command.replies.items c.from_vec.result _ _ _ _ _ h (c.from_vec.ensures ∙ c.reserve.ensures.items) refl refl c.loop-command.invariant.answered,
-      λ other stands. stopped_begins _ _ _ _ c.args.commands.now c.loop-command.command-index c.command-item.result other c.loop-command.replies.items c.from_vec.result _ _ _ _ _ c.loop-command-test.true c.command-item.is (c.from_vec.ensures ∙ c.reserve.ensures.items) c.loop-command.invariant.answered stands (begins_none _ _),
-      stopped_before _ _ _ _ c.args.commands.now c.loop-command.command-index c.loop-command.replies.items c.from_vec.result _ _ _ c.loop-command-test.true (c.from_vec.ensures ∙ c.reserve.ensures.items) c.loop-command.invariant.answered,
+      stopped_at _ _ _ _ c.args.commands.now c.loop-command.command-index c.loop-command.replies.items c.from_vec.result _ _ _ _ _ h c.from_vec.ensures refl refl c.loop-command.invariant.answered,
+      λ other stands. stopped_begins _ _ _ _ c.args.commands.now c.loop-command.command-index c.command-item.result other c.loop-command.replies.items c.from_vec.result _ _ _ _ _ c.loop-command-test.true c.command-item.is c.from_vec.ensures c.loop-command.invariant.answered stands (begins_none _ _),
+      stopped_before _ _ _ _ c.args.commands.now c.loop-command.command-index c.loop-command.replies.items c.from_vec.result _ _ _ c.loop-command-test.true c.from_vec.ensures c.loop-command.invariant.answered,
     )
 
-pub returns-then-is_err-2-clause-stopped : goal.returns-then-is_err-2-clause-stopped
-returns-then-is_err-2-clause-stopped g c =
+pub returns-then-is_err-clause-stopped : goal.returns-then-is_err-clause-stopped
+returns-then-is_err-clause-stopped g c =
     let h : c.loop-command.command-index ≤ length c.args.commands.now = omega arith in
-    let failed = on_err_of c.perform.result c.perform.ensures.failed (sym c.is_err-in-loop-command.ensures.value ∙ c.if-is_err-2.true) in
-    let kept = c.from_vec-then-is_err-2.ensures ∙ failed.0 ∙ c.reserve.ensures.items in (
+    let failed = on_err_of c.perform.result c.perform.ensures.failed (sym c.is_err.ensures.value ∙ c.if-is_err.true) in
+    let kept = c.from_vec-then-is_err.ensures ∙ failed.0 in (
       moment_of c.loop-command.self c.loop-command.host c.loop-command.bodies,
-      stopped_at _ _ _ _ c.args.commands.now c.loop-command.command-index c.loop-command.replies.items c.from_vec-then-is_err-2.result _ _ _ _ _ h kept failed.1 failed.2 c.loop-command.invariant.answered,
-      λ other stands. stopped_begins _ _ _ _ c.args.commands.now c.loop-command.command-index c.command-item.result other c.loop-command.replies.items c.from_vec-then-is_err-2.result _ _ _ _ _ c.loop-command-test.true c.command-item.is kept c.loop-command.invariant.answered stands c.perform.ensures.begins,
-      stopped_before _ _ _ _ c.args.commands.now c.loop-command.command-index c.loop-command.replies.items c.from_vec-then-is_err-2.result _ _ _ c.loop-command-test.true kept c.loop-command.invariant.answered,
+      stopped_at _ _ _ _ c.args.commands.now c.loop-command.command-index c.loop-command.replies.items c.from_vec-then-is_err.result _ _ _ _ _ h kept failed.1 failed.2 c.loop-command.invariant.answered,
+      λ other stands. stopped_begins _ _ _ _ c.args.commands.now c.loop-command.command-index c.command-item.result other c.loop-command.replies.items c.from_vec-then-is_err.result _ _ _ _ _ c.loop-command-test.true c.command-item.is kept c.loop-command.invariant.answered stands (simp c.in-Ok.ensures at c.perform.ensures.begins),
+      stopped_before _ _ _ _ c.args.commands.now c.loop-command.command-index c.loop-command.replies.items c.from_vec-then-is_err.result _ _ _ c.loop-command-test.true kept c.loop-command.invariant.answered,
     )
 
 pub loop-command-preserved : goal.loop-command-preserved
 loop-command-preserved g c =
     let i = c.loop-command.invariant in
-    let replied = on_ok_of c.perform.result (simp i.natives at c.perform.ensures.replied) (sym c.is_err-in-loop-command.ensures.value ∙ c.if-is_err-2.false) in
+    let replied = on_ok_of c.perform.result (simp i.natives at c.perform.ensures.replied) (sym c.is_err.ensures.value ∙ c.if-is_err.false) in
     record {
       count = omega (arith, i.count, c.perform.ensures.count);
       natives = c.perform.ensures.natives ∙ i.natives;
-      answered = turn _ _ _ _ c.args.commands.now c.loop-command.command-index c.command-item.result c.loop-command.replies.items c.reserve.new.self.items c.perform.new.replies.items replied.0 _ _ _ _ _ _ c.loop-command-test.true c.command-item.is c.reserve.ensures.items replied.1 i.answered replied.2;
+      answered = turn _ _ _ _ c.args.commands.now c.loop-command.command-index c.command-item.result c.in-Ok.command c.loop-command.replies.items c.perform.new.replies.items replied.0 _ _ _ _ _ _ c.loop-command-test.true c.command-item.is c.in-Ok.ensures replied.1 i.answered replied.2;
     }
 
 pub returns-clause-counted : goal.returns-clause-counted

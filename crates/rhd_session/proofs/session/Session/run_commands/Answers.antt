@@ -1,0 +1,38 @@
+use Rattle.std.proofs.Common.{arith, ◌≡◌, ◌≤◌, ◌++◌, ◌∷◌, [], refl, sym, ap, length, take, ◌∙◌}
+use Rattle.std.proofs.lemmas.List.{length-append}
+use Rattle.std.proofs.IntoIterSteps.{All-taken}
+use Rattle.rhd_session.specs.Of.{moment_of}
+use Rattle.rhd_session.proofs.Filled.{on_ok_of, on_err_of}
+use Rattle.rhd_session.proofs.Lists.{taken_next, answered_front, answered_next, answered_length, stopped_at, stopped_before, stopped_begins}
+use Rattle.rhd_session.proofs.session.Session.run_commands.Goals as goal
+
+pub returns-then-is_err-clause-stopped : goal.returns-then-is_err-clause-stopped
+returns-then-is_err-clause-stopped g c =
+    let all = c.args.commands in
+    let done = c.loop-command.yielded in
+    let items = c.into_iter-command-iterator.ensures.into_iter_gives.0 ∙ c.into_vec-command-items.ensures in
+    let next = taken_next all done c.into_iter-command-iterator.result c.loop-command.command-iterator c.next.new.self c.in-Some.command items c.loop-command.yielded_by c.in-Some.ensures.steps.0 in
+    let failed = on_err_of c.perform.result c.perform.ensures.failed (sym c.is_err.ensures.value ∙ c.if-is_err.true) in
+    let kept = c.from_vec.ensures ∙ failed.0 in
+    let front = answered_front _ _ _ _ all done c.loop-command.made.items _ _ _ next.0 c.loop-command.invariant.answered in
+    let h : length done ≤ length all = omega (arith, next.2) in (
+      moment_of c.loop-command.self c.loop-command.host c.loop-command.bodies,
+      stopped_at _ _ _ _ all (length done) c.loop-command.made.items c.from_vec.result _ _ _ _ _ h kept failed.1 failed.2 front,
+      λ other stands. stopped_begins _ _ _ _ all (length done) c.in-Some.command other c.loop-command.made.items c.from_vec.result _ _ _ _ _ next.2 next.1 kept front stands c.perform.ensures.begins,
+      stopped_before _ _ _ _ all (length done) c.loop-command.made.items c.from_vec.result _ _ _ next.2 kept front,
+    )
+
+pub loop-command-preserved : goal.loop-command-preserved
+loop-command-preserved g c =
+    let i = c.loop-command.invariant in
+    let replied = on_ok_of c.perform.result (simp i.natives at c.perform.ensures.replied) (sym c.is_err.ensures.value ∙ c.if-is_err.false) in
+    record {
+      count = omega (arith, i.count, c.perform.ensures.count, length-append c.loop-command.yielded (c.in-Some.command ∷ []));
+      natives = c.perform.ensures.natives ∙ i.natives;
+      answered = answered_next _ _ _ _ c.loop-command.yielded c.loop-command.made.items c.perform.new.replies.items _ _ _ c.in-Some.command replied.0 _ _ _ replied.1 i.answered replied.2;
+    }
+
+pub returns-clause-counted : goal.returns-clause-counted
+returns-clause-counted g c =
+    let all = All-taken c.into_iter-command-iterator.result c.loop-command.yielded (c.next.new.self, (c.loop-command.command-iterator, c.loop-command.yielded_by, c.in-None.ensures.steps)) ∙ c.into_iter-command-iterator.ensures.into_iter_gives.0 ∙ c.into_vec-command-items.ensures in
+    omega (arith, ap length all, ap length c.from_vec-2.ensures, answered_length _ _ _ _ c.loop-command.yielded c.loop-command.made.items _ _ _ c.loop-command.invariant.answered)
