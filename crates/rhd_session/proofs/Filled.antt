@@ -1,6 +1,6 @@
 -- Replies whose calls are made in their place.
 use Rattle.std.proofs.Common.{slice_set, get_or, ◌≡◌, ℕ, true, false, List, [], ◌∷◌, ◌++◌, refl, sym, subst, ap, ◌∙◌, length}
-use Rattle.std.specs.Prelude.{Option, Some, Result, Ok, Err, OnOk, OnErr, is_err}
+use Rattle.std.specs.Prelude.{Option, Result, Ok, Err, OnOk, OnErr, is_err}
 use Rattle.std.proofs.lemmas.List.{get_or_push}
 use Rattle.std.specs.Global.{Box}
 use Rattle.rhd_func.specs.declared.request.CallRequest.{CallRequest}

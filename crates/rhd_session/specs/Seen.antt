@@ -51,6 +51,7 @@ cut_end call = failed None (ErrorTooManyOperations (pos_of call))
 abbrev pub begun_call : CallRequest → ℕ → Seen
 begun_call call level = begun_node call level None [] [] (cut_end call)
 
+-- a call that is begun, of which nothing is known yet
 abbrev pub is_begun : Seen → Type 0
 is_begun s = s ≡ begun_call s.call s.level
 

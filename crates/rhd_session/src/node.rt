@@ -120,7 +120,7 @@ impl Nodes {
 impl CallNode {
     /// A call that is begun. Until it ends, its node shows what it shows where the budget is spent
     /// within the call.
-    pub fn begun(alloc: Global, call: CallRequest, level: u32) -> CallNode
+    pub(crate) fn begun(alloc: Global, call: CallRequest, level: u32) -> CallNode
         ensures { seen result ≡ begun_call call level }
     {
         let fault = EvalAltResult::ErrorTooManyOperations(position_of(&call));
@@ -140,7 +140,11 @@ impl CallNode {
     }
 
     /// A call that isn't begun, as the budget is spent.
-    pub fn unbegun(alloc: Global, call: CallRequest, level: u32) -> Result<CallNode, OutOfMemory>
+    pub(crate) fn unbegun(
+        alloc: Global,
+        call: CallRequest,
+        level: u32,
+    ) -> Result<CallNode, OutOfMemory>
         ensures { IfOk result (λ node. seen node ≡ unbegun_node call level) }
     {
         let mut node = CallNode::begun(alloc, call, level);
@@ -166,7 +170,7 @@ impl CallNode {
     }
 
     /// Ends a call with an answer or a fault, where no value is refused.
-    pub fn answer_with(
+    pub(crate) fn answer_with(
         &mut self,
         whose: Whose,
         first: Option<Dynamic>,
@@ -182,7 +186,7 @@ impl CallNode {
     }
 
     /// Ends a call with a fault of its own, which refuses a value.
-    pub fn refuse(&mut self, first: Option<Dynamic>, value: Dynamic, fault: EvalAltResult)
+    pub(crate) fn refuse(&mut self, first: Option<Dynamic>, value: Dynamic, fault: EvalAltResult)
         ensures { seen self.new ≡ with_end (seen self.old) (refusing first value fault) }
     {
         self.answer = Err(fault);
@@ -193,21 +197,21 @@ impl CallNode {
     }
 
     /// Shows the text that is printed, if one is.
-    pub fn print(&mut self, printed: Option<Text>)
+    pub(crate) fn print(&mut self, printed: Option<Text>)
         ensures { seen self.new ≡ with_end (seen self.old) (showing printed (seen self.old).end) }
     {
         self.printed = printed;
     }
 
     /// Shows the function that was picked.
-    pub fn picks(&mut self, pick: Pick)
+    pub(crate) fn picks(&mut self, pick: Pick)
         ensures { seen self.new ≡ picking (seen self.old) pick }
     {
         self.pick = Some(pick);
     }
 
     /// Ends a call for which nothing runs with a fault of its own.
-    pub fn fail(&mut self, alloc: Global, fault: EvalAltResult) -> Result<(), OutOfMemory>
+    pub(crate) fn fail(&mut self, alloc: Global, fault: EvalAltResult) -> Result<(), OutOfMemory>
         ensures { OnOk result (seen self.new ≡ with_end (seen self.old) (failed (given (seen self.old).call) fault)) }
     {
         let first = given(alloc, &self.call)?;
@@ -216,7 +220,7 @@ impl CallNode {
     }
 
     /// Puts a carry, and the call that was asked for with it, last.
-    pub fn join(&mut self, carry: Carry, child: CallNode) -> Result<(), OutOfMemory>
+    pub(crate) fn join(&mut self, carry: Carry, child: CallNode) -> Result<(), OutOfMemory>
         ensures { OnOk result (seen self.new ≡ joined (seen self.old) carry child) }
     {
         self.carries.push(carry)?;
@@ -224,7 +228,7 @@ impl CallNode {
     }
 
     /// What the function that asked for the call is told.
-    pub fn done(&self, alloc: Global) -> Result<CallDone, OutOfMemory>
+    pub(crate) fn done(&self, alloc: Global) -> Result<CallDone, OutOfMemory>
         ensures { IfOk result (λ done. done ≡ done_of self.now) }
     {
         let answer = match &self.answer {

@@ -66,10 +66,29 @@ const FREE: Stream = Stream {
     most: 100,
 };
 
-/// A stream of which this call fails.
-fn failing(fails: u64) -> Stream {
-    Stream { fails, most: 100 }
-}
+/// A stream that moves one byte at a time.
+const BYTEWISE: Stream = Stream { fails: 0, most: 1 };
+
+/// Streams of which the first call fails, the second, or the third.
+const FIRST: Stream = Stream {
+    fails: 1,
+    most: 100,
+};
+
+const SECOND: Stream = Stream {
+    fails: 2,
+    most: 100,
+};
+
+const THIRD: Stream = Stream {
+    fails: 3,
+    most: 100,
+};
+
+/// Streams of which the second call fails, after five bytes or one.
+const FIVES: Stream = Stream { fails: 2, most: 5 };
+
+const ONES: Stream = Stream { fails: 2, most: 1 };
 
 /// What a run is to come to.
 #[derive(Clone, Copy)]
@@ -100,26 +119,6 @@ fn check_run(
     Ok(())
 }
 
-/// What is wanted of a run that ends with this status before any reply.
-fn nothing(status: u8, line: u32) -> Wanted {
-    Wanted {
-        status,
-        line,
-        written: "",
-        replies: 0,
-    }
-}
-
-/// What is wanted of a run that makes two replies.
-fn two(status: u8, written: &'static str) -> Wanted {
-    Wanted {
-        status,
-        line: 0,
-        written,
-        replies: 2,
-    }
-}
-
 /// Runs this many line feeds, and compares the status.
 fn check_large(rt: &impl Abort, alloc: Global, count: usize, status: u8) -> Result<(), Fail> {
     let mut source = PlainSource::new(vec![in alloc; b'\n'; count]?);
@@ -132,36 +131,91 @@ fn check_large(rt: &impl Abort, alloc: Global, count: usize, status: u8) -> Resu
     Ok(())
 }
 
+/// A text of two commands.
+const TWO: &str = "register f 1\ncall f 1\n";
+
+/// All is answered and written.
+const DONE: Wanted = Wanted {
+    status: 0,
+    line: 0,
+    written: "ok\nf global0#1 called = 1\n",
+    replies: 2,
+};
+
+/// There is nothing to answer.
+const EMPTY: Wanted = Wanted {
+    status: 0,
+    line: 0,
+    written: "",
+    replies: 0,
+};
+
+/// The source isn't read to its end.
+const UNREAD: Wanted = Wanted {
+    status: 3,
+    line: 0,
+    written: "",
+    replies: 0,
+};
+
+/// The first line is bad.
+const BAD: Wanted = Wanted {
+    status: 2,
+    line: 1,
+    written: "",
+    replies: 0,
+};
+
+/// All is answered, and nothing is written, one byte, or five.
+const UNWRITTEN: Wanted = Wanted {
+    status: 4,
+    line: 0,
+    written: "",
+    replies: 2,
+};
+
+const ONE_WRITTEN: Wanted = Wanted {
+    status: 4,
+    line: 0,
+    written: "o",
+    replies: 2,
+};
+
+const FIVE_WRITTEN: Wanted = Wanted {
+    status: 4,
+    line: 0,
+    written: "ok\nf ",
+    replies: 2,
+};
+
+/// Texts, the streams that they are read from and answered to, and how they end.
+const RUNS: [(&str, Stream, Stream, Wanted); 18] = [
+    (TWO, FREE, FREE, DONE),
+    (TWO, BYTEWISE, FREE, DONE),
+    (TWO, FREE, BYTEWISE, DONE),
+    (TWO, BYTEWISE, BYTEWISE, DONE),
+    // A read fails: the first, a later one, the one that would be at the end.
+    (TWO, FIRST, FREE, UNREAD),
+    (TWO, FIVES, FREE, UNREAD),
+    (TWO, SECOND, FREE, UNREAD),
+    (TWO, THIRD, FREE, DONE),
+    ("bogus\n", SECOND, FREE, UNREAD),
+    ("bogus\n", FREE, FIRST, BAD),
+    ("", FIRST, FREE, UNREAD),
+    // A write fails: the first, a later one.
+    (TWO, FREE, FIRST, UNWRITTEN),
+    (TWO, FREE, FIVES, FIVE_WRITTEN),
+    (TWO, FREE, ONES, ONE_WRITTEN),
+    (TWO, FREE, SECOND, DONE),
+    (TWO, FIRST, FIRST, UNREAD),
+    ("", FREE, FIRST, EMPTY),
+    ("; x\n", FREE, FIRST, EMPTY),
+];
+
 #[test]
 fn runs_end_as_their_streams_do(rt: HostRuntime) -> Result<(), Fail> {
     let alloc = rt.alloc();
-    let text = "register f 1\ncall f 1\n";
-    let all = "ok\nf global0#1 called = 1\n";
-    let bytewise = Stream { fails: 0, most: 1 };
-    let fives = Stream { fails: 2, most: 5 };
-    let table = [
-        (text, FREE, FREE, two(0, all)),
-        (text, bytewise, FREE, two(0, all)),
-        (text, FREE, bytewise, two(0, all)),
-        (text, bytewise, bytewise, two(0, all)),
-        // A read fails: the first, a later one, the one that would be at the end.
-        (text, failing(1), FREE, nothing(3, 0)),
-        (text, fives, FREE, nothing(3, 0)),
-        (text, failing(2), FREE, nothing(3, 0)),
-        (text, failing(3), FREE, two(0, all)),
-        ("bogus\n", failing(2), FREE, nothing(3, 0)),
-        ("bogus\n", FREE, failing(1), nothing(2, 1)),
-        ("", failing(1), FREE, nothing(3, 0)),
-        // A write fails: the first, a later one.
-        (text, FREE, failing(1), two(4, "")),
-        (text, FREE, fives, two(4, "ok\nf ")),
-        (text, FREE, Stream { fails: 2, most: 1 }, two(4, "o")),
-        (text, FREE, failing(2), two(0, all)),
-        (text, failing(1), failing(1), nothing(3, 0)),
-        ("", FREE, failing(1), nothing(0, 0)),
-        ("; x\n", FREE, failing(1), nothing(0, 0)),
-    ];
-    for (text, source, sink, wanted) in table {
+    for (text, source, sink, wanted) in RUNS {
         check_run(&rt, alloc, text, source, sink, wanted)?;
     }
     Ok(())

@@ -1,4 +1,4 @@
-use Rattle.std.proofs.Common.{arith, ◌≡◌, ◌≤◌, ◌++◌, ◌∷◌, [], refl, sym, ap, length, take, ◌∙◌}
+use Rattle.std.proofs.Common.{arith, ◌≤◌, ◌∷◌, [], sym, ap, length, ◌∙◌}
 use Rattle.std.proofs.lemmas.List.{length-append}
 use Rattle.std.proofs.IntoIterSteps.{All-taken}
 use Rattle.rhd_session.specs.Of.{moment_of}
