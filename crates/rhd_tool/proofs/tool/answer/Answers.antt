@@ -9,17 +9,16 @@ returns-in_default-clause-some g c = none_answered _ _ c.args.text c.args.text.c
 
 pub returns-clause-all : goal.returns-clause-all
 returns-clause-all g c =
-    let run = simp (c.in-Ok.ensures.natives, c.in-Ok.ensures.world, c.in-Ok.ensures.frame, c.in-Ok.ensures.begun, c.unwrap_or-limits.ensures, c.new-host.ensures, c.new-bodies.ensures, c.as_slice.ensures) at c.run.ensures.answered in
-    all_answered _ _ c.args.text c.args.text.commands c.run.result _ _ _ run
+    let run = simp (c.in-Ok.ensures.natives, c.in-Ok.ensures.world, c.in-Ok.ensures.frame, c.in-Ok.ensures.begun, c.unwrap_or-limits.ensures, c.new-host.ensures, c.new-bodies.ensures) at c.run_commands.ensures.answered in
+    all_answered _ _ c.args.text c.args.text.commands c.run_commands.result _ _ _ run
 
 pub returns-clause-some : goal.returns-clause-some
 returns-clause-some g c =
-    let run = simp (c.in-Ok.ensures.natives, c.in-Ok.ensures.world, c.in-Ok.ensures.frame, c.in-Ok.ensures.begun, c.unwrap_or-limits.ensures, c.new-host.ensures, c.new-bodies.ensures, c.as_slice.ensures) at c.run.ensures.stopped in
-    some_answered _ _ c.args.text c.args.text.commands c.run.result _ _ _ run
+    let run = simp (c.in-Ok.ensures.natives, c.in-Ok.ensures.world, c.in-Ok.ensures.frame, c.in-Ok.ensures.begun, c.unwrap_or-limits.ensures, c.new-host.ensures, c.new-bodies.ensures) at c.run_commands.ensures.stopped in
+    some_answered _ _ c.args.text c.args.text.commands c.run_commands.result _ _ _ run
 
-pub run-requires : goal.run-requires
+pub run_commands-requires : goal.run_commands-requires
 unfolding world_of
-run-requires g c =
+run_commands-requires g c =
     let none : length c.in-Ok.session.modules.items ≡ 0 = ap (λ (w : World). length w.modules) c.in-Ok.ensures.world in
-    let told : length c.as_slice.result.now ≡ length c.args.text.commands = ap length c.as_slice.ensures in
-    omega (arith, none, told, c.requires.count)
+    omega (arith, none, c.requires.count)
