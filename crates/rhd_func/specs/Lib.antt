@@ -1,3 +1,4 @@
 pub mod Natives
 pub mod Funcs
 pub mod Shapes
+pub mod GivenBack

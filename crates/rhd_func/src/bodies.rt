@@ -1,6 +1,7 @@
 //! The bodies of scripts are known by a state and by relations that lead from state to state.
 
-ghost use Rattle.std.specs.Prelude.{IfOk};
+ghost use Rattle.std.specs.Prelude.{◌≡◌, IfOk, OnErr};
+ghost use Rattle.rhd_func.specs.GivenBack.{GivesBack};
 
 use crate::func::ScriptFuncDef;
 use crate::request::{CallDone, Carry, NativeCallContext, NativeStep};
@@ -25,7 +26,8 @@ pub trait Bodies {
     /// is then in that state.
     ghost allows_next: { Self → ScriptFuncDef → NativeCallContext → Carry → CallDone → NativeStep → Self → Type 0 };
 
-    /// Begins the body of a definition. The object is given back by the last step, as it then is.
+    /// Begins the body of a definition. An object is given back exactly where one was given, in the
+    /// carry of a step that asks. Where memory runs out, the state is as before.
     fn start(
         &mut self,
         alloc: Global,
@@ -34,9 +36,12 @@ pub trait Bodies {
         this: Option<Dynamic>,
         args: Values,
     ) -> Result<NativeStep, OutOfMemory>
-        ensures { IfOk result (λ step. allows_start self.old def.now ctx.now this args step self.new) };
+        ensures step { IfOk result (λ step. allows_start self.old def.now ctx.now this args step self.new) }
+        ensures back { IfOk result (GivesBack this) }
+        ensures failed { OnErr result (self.new ≡ self.old) };
 
-    /// Goes on with the body of a definition after the answer to the call that it asked for.
+    /// Goes on with the body of a definition after the answer to the call that it asked for. An object
+    /// is given back exactly where the carry has one. Where memory runs out, the state is as before.
     fn resume(
         &mut self,
         alloc: Global,
@@ -45,5 +50,7 @@ pub trait Bodies {
         carry: Carry,
         done: CallDone,
     ) -> Result<NativeStep, OutOfMemory>
-        ensures { IfOk result (λ step. allows_next self.old def.now ctx.now carry done step self.new) };
+        ensures step { IfOk result (λ step. allows_next self.old def.now ctx.now carry done step self.new) }
+        ensures back { IfOk result (GivesBack carry.first) }
+        ensures failed { OnErr result (self.new ≡ self.old) };
 }

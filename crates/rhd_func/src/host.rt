@@ -1,6 +1,6 @@
 //! The host is known by a state and by a relation that leads from state to state.
 
-ghost use Rattle.std.specs.Prelude.{IfOk};
+ghost use Rattle.std.specs.Prelude.{◌≡◌, IfOk, OnErr};
 
 use crate::request::HostAnswer;
 use rhd_value::{OutOfMemory, Text, Values};
@@ -25,5 +25,6 @@ pub trait Host {
         args: &Values,
         is_method: bool,
     ) -> Result<HostAnswer, OutOfMemory>
-        ensures { IfOk result (λ answer. allows_missing self.old name.now args.now is_method answer self.new) };
+        ensures answer { IfOk result (λ answer. allows_missing self.old name.now args.now is_method answer self.new) }
+        ensures failed { OnErr result (self.new ≡ self.old) };
 }

@@ -2,6 +2,7 @@
 
 ghost use Rattle.std.specs.Prelude.{IfOk, ◌≡◌};
 ghost use Rattle.std.specs.Option.{option_copied};
+ghost use Rattle.rhd_func.specs.GivenBack.{GivesBack};
 
 use crate::request::{CallDone, Carry, NativeCallContext, NativeStep};
 use rhd_value::{Dynamic, OutOfMemory, TypeTag, Values};
@@ -26,7 +27,8 @@ pub trait PluginFunc: Drop {
     /// After the answer to the call that it asked for it may take this next step.
     ghost allows_resume: { Self → Option NativeCallContext → Carry → CallDone → NativeStep → Type 0 };
 
-    /// Answers every list of arguments: outside its kinds it fails by a fault of its own.
+    /// Answers every list of arguments: outside its kinds it fails by a fault of its own. A first
+    /// argument is given back exactly where one was given, in the carry of a step that asks.
     fn call(
         &self,
         alloc: Global,
@@ -34,9 +36,11 @@ pub trait PluginFunc: Drop {
         first: Option<Dynamic>,
         args: Values,
     ) -> Result<NativeStep, OutOfMemory>
-        ensures { IfOk result (λ step. allows_call self.now (option_copied ctx.entry) first args step) };
+        ensures step { IfOk result (λ step. allows_call self.now (option_copied ctx.entry) first args step) }
+        ensures back { IfOk result (GivesBack first) };
 
-    /// Goes on after the answer to the call that it asked for.
+    /// Goes on after the answer to the call that it asked for. A first argument is given back exactly
+    /// where the carry has one.
     fn resume(
         &self,
         alloc: Global,
@@ -44,7 +48,8 @@ pub trait PluginFunc: Drop {
         carry: Carry,
         done: CallDone,
     ) -> Result<NativeStep, OutOfMemory>
-        ensures { IfOk result (λ step. allows_resume self.now (option_copied ctx.entry) carry done step) };
+        ensures step { IfOk result (λ step. allows_resume self.now (option_copied ctx.entry) carry done step) }
+        ensures back { IfOk result (GivesBack carry.first) };
 
     /// The types of its parameters.
     fn param_types(&self) -> &[TypeTag]
