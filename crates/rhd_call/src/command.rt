@@ -59,8 +59,8 @@ pub struct Commands {
 impl Model for Commands {
     ghost use Rattle.std.specs.Prelude.{List};
     ghost use Rattle.std.specs.Coded.{coded_list};
-    ghost use Rattle.rhd_session.specs.declared.command.Command.{Command};
-    ghost use Rattle.rhd_session.specs.contracts.command.Command as command;
+    ghost use Rattle.rhd_call.specs.declared.command.Command.{Command};
+    ghost use Rattle.rhd_call.specs.contracts.command.Command as command;
 
     ghost Value = { List Command };
 

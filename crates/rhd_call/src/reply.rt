@@ -31,8 +31,8 @@ pub struct Replies {
 impl Model for Replies {
     ghost use Rattle.std.specs.Prelude.{List};
     ghost use Rattle.std.specs.Coded.{coded_list};
-    ghost use Rattle.rhd_session.specs.declared.reply.Reply.{Reply};
-    ghost use Rattle.rhd_session.specs.contracts.reply.Reply as reply;
+    ghost use Rattle.rhd_call.specs.declared.reply.Reply.{Reply};
+    ghost use Rattle.rhd_call.specs.contracts.reply.Reply as reply;
 
     ghost Value = { List Reply };
 
