@@ -14,15 +14,15 @@ use Rattle.rhd_func.specs.declared.func.RhaiFunc.TheVariants as funcs
 use Rattle.rhd_func.specs.declared.request.CallShape.{CallShape}
 use Rattle.rhd_func.specs.declared.request.CallShape.TheVariants.{Plain, ByRef, Method}
 use Rattle.rhd_func.specs.Shapes.{all_args}
-use Rattle.rhd_module.specs.declared.key.Key.{Key}
 use Rattle.rhd_module.specs.declared.key.Key.TheVariants.{Script, Typed, Native}
-use Rattle.rhd_session.specs.Display.{display}
-use Rattle.rhd_session.specs.Engine.{EngineLists, Frame}
-use Rattle.rhd_session.specs.Operators.{operator_eq}
-use Rattle.rhd_session.specs.Patterns.{patterns}
-use Rattle.rhd_session.specs.Searched.{found}
-use Rattle.rhd_session.specs.declared.pick.Layer.TheVariants.{Builtin}
-use Rattle.rhd_session.specs.declared.pick.Pick.{Pick}
+use Rattle.rhd_module.specs.Tree.{ModuleTree}
+use Rattle.rhd_call.specs.declared.pick.Layer.TheVariants.{Builtin}
+use Rattle.rhd_call.specs.declared.pick.Pick.{Pick}
+use Rattle.rhd_engine.specs.Display.{display}
+use Rattle.rhd_engine.specs.Engine.{EngineLists, Imports}
+use Rattle.rhd_engine.specs.Operators.{operator_eq}
+use Rattle.rhd_dispatch.specs.Patterns.{patterns}
+use Rattle.rhd_dispatch.specs.Searched.{found}
 
 pub data Asked : Type 0 where
   typed : Bytes → ℕ → Bytes → Asked  -- name, number of parameters, type of the object
@@ -31,7 +31,7 @@ pub data Asked : Type 0 where
 
 -- a built-in is a method, and pure where it is no assignment
 abbrev pub builtin_pick : EngineLists → OpToken → FnId → Pick
-builtin_pick e token id = record { layer = Builtin; func = funcs.Method id (says (λ n. n.has_context) e.natives id) (not (is_assignment token)) (says (λ n. n.is_volatile) e.natives id) }
+builtin_pick e token id = record { layer = Builtin; func = funcs.Method id (says (λ n. n.has_context) e.natives id) (not (is_assignment token)) (says (λ n. n.is_volatile) e.natives id); source = None }
 
 -- the built-in of a token and two kinds
 abbrev pub builtin : EngineLists → Option OpToken → List TypeTag → Option Pick
@@ -39,14 +39,14 @@ builtin e (Some token) (left ∷ right ∷ []) = option_map (builtin_pick e toke
 builtin e token kinds = None
 
 -- the native of a name that takes these types
-abbrev pub native_found : EngineLists → Frame → Bytes → List TypeTag → Option Pick
-native_found e f name types = found e f (Native None name types)
+abbrev pub native_found : EngineLists → List ModuleTree → Imports → Bytes → List TypeTag → Option Pick
+native_found e libs imports name types = found e libs imports (Native None name types)
 
 -- A script is looked up by its number of parameters, one of a type by that type too; a native by each pattern in turn, and then among the built-ins.
-abbrev pub looked : EngineLists → Frame → Asked → Option Pick
-looked e f (typed name params this_type) = found e f (Typed None name params this_type)
-looked e f (script name params) = found e f (Script None name params)
-looked e f (native name kinds token) = option_or (first_of (native_found e f name) (patterns kinds)) (builtin e token kinds)
+abbrev pub looked : EngineLists → List ModuleTree → Imports → Asked → Option Pick
+looked e libs imports (typed name params this_type) = found e libs imports (Typed None name params this_type)
+looked e libs imports (script name params) = found e libs imports (Script None name params)
+looked e libs imports (native name kinds token) = option_or (first_of (native_found e libs imports name) (patterns kinds)) (builtin e token kinds)
 
 -- the number of arguments, an object not counted
 abbrev pub params_of : CallShape → ℕ
@@ -54,32 +54,25 @@ params_of (Plain args) = length args
 params_of (ByRef first args) = length args + 1
 params_of (Method object args) = length args
 
--- the key of a script of the type of an object
-abbrev pub typed_key : Bytes → CallShape → Option Key
-typed_key name (Plain args) = None
-typed_key name (ByRef first args) = None
-typed_key name (Method object args) = Some (Typed None name (length args) (display object))
-
--- the scripts of the type of an object
-abbrev pub typed_asks : Bytes → CallShape → List Asked
-typed_asks name (Plain args) = []
-typed_asks name (ByRef first args) = []
-typed_asks name (Method object args) = typed name (length args) (display object) ∷ []
-
 -- the scripts that a call may mean: for a method by the type of its object first
-abbrev pub script_asks : Bytes → CallShape → List Asked
-script_asks name shape = typed_asks name shape ++ script name (params_of shape) ∷ []
+abbrev pub typed_asks : EngineLists → Bytes → CallShape → List Asked
+typed_asks e name (Plain args) = []
+typed_asks e name (ByRef first args) = []
+typed_asks e name (Method object args) = typed name (length args) (display e object) ∷ []
+
+abbrev pub script_asks : EngineLists → Bytes → CallShape → List Asked
+script_asks e name shape = typed_asks e name shape ++ script name (params_of shape) ∷ []
 
 abbrev pub native_ask : Bytes → Option OpToken → CallShape → Asked
 native_ask name token shape = native name (map tag_of (all_args shape)) token
 
 -- the scripts where they are allowed
-abbrev pub allowed_asks : Bytes → Bool → CallShape → List Asked
-allowed_asks name native_only shape = if native_only then [] else script_asks name shape
+abbrev pub allowed_asks : EngineLists → Bytes → Bool → CallShape → List Asked
+allowed_asks e name native_only shape = if native_only then [] else script_asks e name shape
 
 -- all of them in order: scripts, then natives and built-ins
-abbrev pub asks : Bytes → Option OpToken → Bool → CallShape → List Asked
-asks name token native_only shape = allowed_asks name native_only shape ++ native_ask name token shape ∷ []
+abbrev pub asks : EngineLists → Bytes → Option OpToken → Bool → CallShape → List Asked
+asks e name token native_only shape = allowed_asks e name native_only shape ++ native_ask name token shape ∷ []
 
-abbrev pub pick_unqualified : EngineLists → Frame → Bytes → Option OpToken → Bool → CallShape → Option Pick
-pick_unqualified e f name token native_only shape = first_of (looked e f) (asks name token native_only shape)
+abbrev pub pick_unqualified : EngineLists → List ModuleTree → Imports → Bytes → Option OpToken → Bool → CallShape → Option Pick
+pick_unqualified e libs imports name token native_only shape = first_of (looked e libs imports) (asks e name token native_only shape)

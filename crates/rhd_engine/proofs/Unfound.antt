@@ -11,8 +11,9 @@ use Rattle.rhd_value.specs.Same.{text_eq}
 use Rattle.rhd_value.specs.declared.tag.Position.{Position}
 use Rattle.rhd_value.specs.declared.fault.EvalAltResult.{EvalAltResult}
 use Rattle.rhd_value.specs.declared.fault.EvalAltResult.TheVariants.{ErrorFunctionNotFound, ErrorDotExpr, ErrorIndexingType}
-use Rattle.rhd_session.specs.Display.{display, signature}
-use Rattle.rhd_session.specs.NotFound.{wrong_number, get_index, set_index, get_property, set_property, not_found}
+use Rattle.rhd_engine.specs.Engine.{EngineLists}
+use Rattle.rhd_engine.specs.Display.{display, signature}
+use Rattle.rhd_engine.specs.NotFound.{wrong_number, get_index, set_index, get_property, set_property, not_found}
 
 -- a list of a number of elements, by the elements that are read
 pub one_type : (types : List Bytes) (a : Bytes) → 1 ≤ length types → length types < 2 → a ≡ get_or types 0 a → types ≡ a ∷ []
@@ -94,43 +95,43 @@ begins_not prefix name lacks =
     in by (cases_Bool (starts_with nat_eq name prefix))
 
 -- the fault by the tests of the name
-abbrev pub by_tests : Position → Bytes → List Tree → Bool → Bool → Bool → Bool → EvalAltResult
-by_tests pos name args i j g s =
-    if i then get_index pos (map display args)
-    else if j then set_index pos (map display args)
-    else if g then get_property pos (drop 4 name) (map display args)
-    else if s then set_property pos (drop 4 name) (map display args)
-    else ErrorFunctionNotFound (signature name args) pos
+abbrev pub by_tests : EngineLists → Position → Bytes → List Tree → Bool → Bool → Bool → Bool → EvalAltResult
+by_tests e pos name args i j g s =
+    if i then get_index pos (map (display e) args)
+    else if j then set_index pos (map (display e) args)
+    else if g then get_property pos (drop 4 name) (map (display e) args)
+    else if s then set_property pos (drop 4 name) (map (display e) args)
+    else ErrorFunctionNotFound (signature e name args) pos
 
-pub tested : (pos : Position) (name : Bytes) (args : List Tree) (i j g s : Bool) → text_eq name (codes "index$get$") ≡ i → text_eq name (codes "index$set$") ≡ j → starts_with nat_eq name (codes "get$") ≡ g → starts_with nat_eq name (codes "set$") ≡ s
-    → not_found pos name args ≡ by_tests pos name args i j g s
+pub tested : (e : EngineLists) (pos : Position) (name : Bytes) (args : List Tree) (i j g s : Bool) → text_eq name (codes "index$get$") ≡ i → text_eq name (codes "index$set$") ≡ j → starts_with nat_eq name (codes "get$") ≡ g → starts_with nat_eq name (codes "set$") ≡ s
+    → not_found e pos name args ≡ by_tests e pos name args i j g s
 unfolding not_found
-tested pos name args i j g s a b c d = λ k. by_tests pos name args (a k) (b k) (c k) (d k)
+tested e pos name args i j g s a b c d = λ k. by_tests e pos name args (a k) (b k) (c k) (d k)
 
 -- the fault of each row, at what the code has read of the call
-module _ (pos at : Position) (name named : Bytes) (types : List Bytes) (args : List Tree) where
-  pub row_get_index : pos ≡ at → name ≡ named → types ≡ map display args → true ≡ text_eq name (codes "index$get$") → get_index pos types ≡ not_found at named args
-  row_get_index p n t a = (λ k. get_index (p k) (t k)) ∙ sym (tested at named args true _ _ _ (ap (λ (x : Bytes). text_eq x (codes "index$get$")) (sym n) ∙ sym a) refl refl refl)
+module _ (e : EngineLists) (pos at : Position) (name named : Bytes) (types : List Bytes) (args : List Tree) where
+  pub row_get_index : pos ≡ at → name ≡ named → types ≡ map (display e) args → true ≡ text_eq name (codes "index$get$") → get_index pos types ≡ not_found e at named args
+  row_get_index p n t a = (λ k. get_index (p k) (t k)) ∙ sym (tested e at named args true _ _ _ (ap (λ (x : Bytes). text_eq x (codes "index$get$")) (sym n) ∙ sym a) refl refl refl)
 
-  pub row_set_index : pos ≡ at → name ≡ named → types ≡ map display args → false ≡ text_eq name (codes "index$get$") → true ≡ text_eq name (codes "index$set$") → set_index pos types ≡ not_found at named args
+  pub row_set_index : pos ≡ at → name ≡ named → types ≡ map (display e) args → false ≡ text_eq name (codes "index$get$") → true ≡ text_eq name (codes "index$set$") → set_index pos types ≡ not_found e at named args
   row_set_index p n t a b =
       (λ k. set_index (p k) (t k))
-      ∙ sym (tested at named args false true _ _ (ap (λ (x : Bytes). text_eq x (codes "index$get$")) (sym n) ∙ sym a) (ap (λ (x : Bytes). text_eq x (codes "index$set$")) (sym n) ∙ sym b) refl refl)
+      ∙ sym (tested e at named args false true _ _ (ap (λ (x : Bytes). text_eq x (codes "index$get$")) (sym n) ∙ sym a) (ap (λ (x : Bytes). text_eq x (codes "index$set$")) (sym n) ∙ sym b) refl refl)
 
-  pub row_get_property : (property : Bytes) → pos ≡ at → name ≡ named → types ≡ map display args → false ≡ text_eq name (codes "index$get$") → false ≡ text_eq name (codes "index$set$") → StripsPrefix (FindsTextPrefix (codes "get$")) name property
-      → get_property pos property types ≡ not_found at named args
+  pub row_get_property : (property : Bytes) → pos ≡ at → name ≡ named → types ≡ map (display e) args → false ≡ text_eq name (codes "index$get$") → false ≡ text_eq name (codes "index$set$") → StripsPrefix (FindsTextPrefix (codes "get$")) name property
+      → get_property pos property types ≡ not_found e at named args
   row_get_property property p n t a b c =
       (λ k. get_property (p k) ((c.2 ∙ ap (λ (m : ℕ). drop m name) c.1.0 ∙ ap (drop 4) n) k) (t k))
-      ∙ sym (tested at named args false false true _ (ap (λ (x : Bytes). text_eq x (codes "index$get$")) (sym n) ∙ sym a) (ap (λ (x : Bytes). text_eq x (codes "index$set$")) (sym n) ∙ sym b) (begins (codes "get$") named _ (sym n ∙ c.1.1)) refl)
+      ∙ sym (tested e at named args false false true _ (ap (λ (x : Bytes). text_eq x (codes "index$get$")) (sym n) ∙ sym a) (ap (λ (x : Bytes). text_eq x (codes "index$set$")) (sym n) ∙ sym b) (begins (codes "get$") named _ (sym n ∙ c.1.1)) refl)
 
-  pub row_set_property : (property : Bytes) → pos ≡ at → name ≡ named → types ≡ map display args → false ≡ text_eq name (codes "index$get$") → false ≡ text_eq name (codes "index$set$") → ((rest : Bytes) → name ≡ codes "get$" ++ rest → ⊥) → StripsPrefix (FindsTextPrefix (codes "set$")) name property
-      → set_property pos property types ≡ not_found at named args
+  pub row_set_property : (property : Bytes) → pos ≡ at → name ≡ named → types ≡ map (display e) args → false ≡ text_eq name (codes "index$get$") → false ≡ text_eq name (codes "index$set$") → ((rest : Bytes) → name ≡ codes "get$" ++ rest → ⊥) → StripsPrefix (FindsTextPrefix (codes "set$")) name property
+      → set_property pos property types ≡ not_found e at named args
   row_set_property property p n t a b c d =
       (λ k. set_property (p k) ((d.2 ∙ ap (λ (m : ℕ). drop m name) d.1.0 ∙ ap (drop 4) n) k) (t k))
-      ∙ sym (tested at named args false false false true (ap (λ (x : Bytes). text_eq x (codes "index$get$")) (sym n) ∙ sym a) (ap (λ (x : Bytes). text_eq x (codes "index$set$")) (sym n) ∙ sym b) (begins_not (codes "get$") named (λ rest e. c rest (n ∙ e))) (begins (codes "set$") named _ (sym n ∙ d.1.1)))
+      ∙ sym (tested e at named args false false false true (ap (λ (x : Bytes). text_eq x (codes "index$get$")) (sym n) ∙ sym a) (ap (λ (x : Bytes). text_eq x (codes "index$set$")) (sym n) ∙ sym b) (begins_not (codes "get$") named (λ rest h. c rest (n ∙ h))) (begins (codes "set$") named _ (sym n ∙ d.1.1)))
 
-pub row_other : (pos at : Position) (name named : Bytes) (args : List Tree) (text : Bytes) → pos ≡ at → name ≡ named → text ≡ signature named args → false ≡ text_eq name (codes "index$get$") → false ≡ text_eq name (codes "index$set$") → ((rest : Bytes) → name ≡ codes "get$" ++ rest → ⊥) → ((rest : Bytes) → name ≡ codes "set$" ++ rest → ⊥)
-    → ErrorFunctionNotFound text pos ≡ not_found at named args
-row_other pos at name named args text p n t a b c d =
+pub row_other : (e : EngineLists) (pos at : Position) (name named : Bytes) (args : List Tree) (text : Bytes) → pos ≡ at → name ≡ named → text ≡ signature e named args → false ≡ text_eq name (codes "index$get$") → false ≡ text_eq name (codes "index$set$") → ((rest : Bytes) → name ≡ codes "get$" ++ rest → ⊥) → ((rest : Bytes) → name ≡ codes "set$" ++ rest → ⊥)
+    → ErrorFunctionNotFound text pos ≡ not_found e at named args
+row_other e pos at name named args text p n t a b c d =
     (λ k. ErrorFunctionNotFound (t k) (p k))
-    ∙ sym (tested at named args false false false false (ap (λ (x : Bytes). text_eq x (codes "index$get$")) (sym n) ∙ sym a) (ap (λ (x : Bytes). text_eq x (codes "index$set$")) (sym n) ∙ sym b) (begins_not (codes "get$") named (λ rest e. c rest (n ∙ e))) (begins_not (codes "set$") named (λ rest e. d rest (n ∙ e))))
+    ∙ sym (tested e at named args false false false false (ap (λ (x : Bytes). text_eq x (codes "index$get$")) (sym n) ∙ sym a) (ap (λ (x : Bytes). text_eq x (codes "index$set$")) (sym n) ∙ sym b) (begins_not (codes "get$") named (λ rest h. c rest (n ∙ h))) (begins_not (codes "set$") named (λ rest h. d rest (n ∙ h))))

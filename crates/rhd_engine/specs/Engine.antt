@@ -1,12 +1,13 @@
 -- An engine and the state of a run, as plain lists.
-use Rattle.std.specs.Prelude.{ℕ, List, Option}
-use Rattle.rhd_value.specs.Tree.{Bytes, Tree}
+use Rattle.std.specs.Prelude.{List}
+use Rattle.rhd_value.specs.Tree.{Bytes}
 use Rattle.rhd_value.specs.declared.tag.FnId.{FnId}
 use Rattle.rhd_func.specs.Natives.{NativeInfo}
 use Rattle.rhd_module.specs.Tree.{ModuleTree}
-pub use Rattle.rhd_session.specs.declared.builtins.Operator.{Operator}
-use Rattle.rhd_session.specs.declared.limits.Limits.{Limits}
-use Rattle.rhd_session.specs.declared.limits.Printers.{Printers}
+pub use Rattle.rhd_engine.specs.declared.builtins.Operator.{Operator}
+use Rattle.rhd_engine.specs.declared.limits.Limits.{Limits}
+use Rattle.rhd_engine.specs.declared.limits.Printers.{Printers}
+use Rattle.rhd_engine.specs.declared.state.GlobalRuntimeState.{GlobalRuntimeState}
 
 pub record EngineLists : Type 0 where
   pub globals : List ModuleTree  -- whose functions all calls find; registration goes into the first
@@ -15,9 +16,10 @@ pub record EngineLists : Type 0 where
   pub limits : Limits
   pub printers : Printers
 
--- where a call is made
-pub record Frame : Type 0 where
-  pub libs : List ModuleTree  -- oldest first
-  pub source : Option Bytes
-  pub level : ℕ
-  pub tag : Tree
+-- where a call is made: libraries and imports, oldest first, the source, the level and the tag
+abbrev pub Frame : Type 0
+Frame = GlobalRuntimeState
+
+-- modules with their names, oldest first
+abbrev pub Imports : Type 0
+Imports = List (Bytes × ModuleTree)

@@ -5,7 +5,7 @@ use Rattle.rhd_value.specs.declared.tag.FnId.{FnId}
 use Rattle.rhd_func.specs.declared.func.RhaiFunc.{RhaiFunc}
 use Rattle.rhd_func.specs.Funcs.{native_of}
 use Rattle.rhd_module.specs.Tree.{ModuleTree}
-use Rattle.rhd_session.specs.declared.builtins.Operator.{Operator}
+use Rattle.rhd_engine.specs.declared.builtins.Operator.{Operator}
 
 abbrev pub is_below : ℕ → Option FnId → Bool
 is_below natives None = true

@@ -7,7 +7,8 @@ use Rattle.rhd_value.specs.declared.tag.Position.{Position}
 use Rattle.rhd_value.specs.declared.fault.EvalAltResult.{EvalAltResult}
 use Rattle.rhd_value.specs.declared.fault.EvalAltResult.TheVariants.{ErrorFunctionNotFound, ErrorDotExpr, ErrorIndexingType, ErrorParsing}
 use Rattle.rhd_value.specs.declared.fault.ParseErrorType.TheVariants.{MalformedIndexExpr}
-use Rattle.rhd_session.specs.Display.{display, signature}
+use Rattle.rhd_engine.specs.Engine.{EngineLists}
+use Rattle.rhd_engine.specs.Display.{display, signature}
 
 -- a call with another number of arguments than it should have
 abbrev pub wrong_number : Position → List Bytes → Bytes → ℕ → EvalAltResult
@@ -32,11 +33,11 @@ set_property pos p (t0 ∷ t1 ∷ []) = ErrorDotExpr (codes "No writable propert
 set_property pos p types = wrong_number pos types (codes "property setter '" ++ p ++ codes "'") 2
 
 -- an unqualified call, by its name; the name of a property may be empty
-unfoldable pub not_found : Position → Bytes → List Tree → EvalAltResult
-not_found pos name args =
-    let types = map display args in
+unfoldable pub not_found : EngineLists → Position → Bytes → List Tree → EvalAltResult
+not_found e pos name args =
+    let types = map (display e) args in
     if text_eq name (codes "index$get$") then get_index pos types
     else if text_eq name (codes "index$set$") then set_index pos types
     else if starts_with nat_eq name (codes "get$") then get_property pos (drop 4 name) types
     else if starts_with nat_eq name (codes "set$") then set_property pos (drop 4 name) types
-    else ErrorFunctionNotFound (signature name args) pos
+    else ErrorFunctionNotFound (signature e name args) pos

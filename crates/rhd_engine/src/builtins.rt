@@ -4,8 +4,8 @@ ghost use Rattle.std.specs.Prelude.{◌≡◌, [], OnOk, OnErr, length};
 ghost use Rattle.std.specs.Cmp.{partial_equiv_from_equiv};
 ghost use Rattle.std.specs.Map.{lookup};
 ghost use Rattle.rhd_value.specs.Same.{tag_argument};
-ghost use Rattle.rhd_session.specs.Held.{builtins_held};
-ghost use Rattle.rhd_session.specs.Operators.{operator_eq, operator_eq_equiv, operator_input, operator_alike, put_builtin};
+ghost use Rattle.rhd_engine.specs.Held.{builtins_held};
+ghost use Rattle.rhd_engine.specs.Operators.{operator_eq, operator_eq_equiv, operator_input, operator_alike, put_builtin};
 
 use indexmap::IndexMap;
 use rhd_func::Natives;
@@ -70,7 +70,7 @@ pub struct Builtins {
 impl Model for Builtins {
     ghost use Rattle.std.specs.Prelude.{List};
     ghost use Rattle.rhd_value.specs.declared.tag.FnId.{FnId};
-    ghost use Rattle.rhd_session.specs.declared.builtins.Operator.{Operator};
+    ghost use Rattle.rhd_engine.specs.declared.builtins.Operator.{Operator};
 
     ghost Value = { List (Operator × FnId) };
 

@@ -1,13 +1,14 @@
-//! How much a session allows.
+//! How much an engine allows.
 
-/// Limits of a session. Sizes are numbers of elements, entries and bytes.
+/// Limits of calls. The first three bound what a value that a call answers, or the first argument of
+/// a native, holds in all, what stands inside arrays, maps and pointers counted too.
 #[derive(Clone, Copy, PartialEq, Eq, Debug)]
 pub struct Limits {
-    /// The largest array that a call may answer.
+    /// How many elements of arrays.
     pub array: u32,
-    /// The largest object map.
+    /// How many entries of maps.
     pub map: u32,
-    /// The longest text.
+    /// How many bytes of texts.
     pub text: u32,
     /// How many calls may be open at once.
     pub level: u32,

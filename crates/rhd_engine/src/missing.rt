@@ -2,45 +2,14 @@
 
 ghost use Rattle.std.specs.Prelude.{◌≡◌, ◌++◌, IfOk, OnOk, map};
 ghost use Rattle.rhd_func.specs.Shapes.{all_args};
-ghost use Rattle.rhd_session.specs.Display.{display};
-ghost use Rattle.rhd_session.specs.NotFound.{wrong_number, get_index, set_index, get_property, set_property, not_found};
-ghost use Rattle.rhd_session.specs.Plans.{plan_of};
+ghost use Rattle.rhd_engine.specs.Display.{display};
+ghost use Rattle.rhd_engine.specs.NotFound.{wrong_number, get_index, set_index, get_property, set_property, not_found};
+ghost use Rattle.rhd_engine.specs.Of.{lists_of};
 
-use crate::display::signature;
-use crate::plan::{name_of, position_of, shape_of};
-use rhd_func::{CallRequest, CallShape};
+use crate::engine::Engine;
+use rhd_func::CallShape;
 use rhd_value::{Dynamic, EvalAltResult, OutOfMemory, ParseErrorType, Position, Text, Texts};
 use std::alloc::Global;
-
-/// Puts the display types of values last.
-fn push_types(alloc: Global, types: &mut Texts, values: &[Dynamic]) -> Result<(), OutOfMemory>
-    ensures { OnOk result (types.new ≡ types.old ++ map display values.now) }
-{
-    for value in values {
-        types.push(value.type_name(alloc)?)?;
-    }
-    Ok(())
-}
-
-/// The display types of all arguments.
-fn types_of(alloc: Global, shape: &CallShape) -> Result<Texts, OutOfMemory>
-    ensures { IfOk result (λ types. types ≡ map display (all_args shape.now)) }
-{
-    let mut types = Texts::new(alloc);
-    let args = match shape {
-        CallShape::Plain(args) => args,
-        CallShape::ByRef(first, args) => {
-            types.push(first.type_name(alloc)?)?;
-            args
-        }
-        CallShape::Method(object, args) => {
-            types.push(object.type_name(alloc)?)?;
-            args
-        }
-    };
-    push_types(alloc, &mut types, args.as_slice())?;
-    Ok(types)
-}
 
 /// The fault of a call with another number of arguments than it should have.
 fn wrong_number(
@@ -140,26 +109,68 @@ fn set_property(
     }
 }
 
-/// The fault of a call whose function isn't found, by its name: that of an indexer, of a getter or
-/// setter of a property, or else of a function. `get$` and `set$` alone have the empty property.
-pub fn not_found(alloc: Global, call: &CallRequest) -> Result<EvalAltResult, OutOfMemory>
-    ensures { IfOk result (λ fault. fault ≡ not_found (plan_of call.now).pos (plan_of call.now).name (all_args (plan_of call.now).shape)) }
-{
-    let name = name_of(call).as_str();
-    let pos = position_of(call);
-    let types = types_of(alloc, shape_of(call))?;
-    if name == "index$get$" {
-        return get_index(alloc, pos, types.as_slice());
+impl Engine {
+    /// Puts the display types of values last.
+    fn push_display_types(
+        &self,
+        alloc: Global,
+        types: &mut Texts,
+        values: &[Dynamic],
+    ) -> Result<(), OutOfMemory>
+        ensures { OnOk result (types.new ≡ types.old ++ map (display (lists_of info self.now)) values.now) }
+    {
+        for value in values {
+            types.push(self.display_type(alloc, value)?)?;
+        }
+        Ok(())
     }
-    if name == "index$set$" {
-        return set_index(alloc, pos, types.as_slice());
+
+    /// The display types of all arguments.
+    fn display_types(&self, alloc: Global, shape: &CallShape) -> Result<Texts, OutOfMemory>
+        ensures { IfOk result (λ types. types ≡ map (display (lists_of info self.now)) (all_args shape.now)) }
+    {
+        let mut types = Texts::new(alloc);
+        let args = match shape {
+            CallShape::Plain(args) => args,
+            CallShape::ByRef(first, args) => {
+                types.push(self.display_type(alloc, first)?)?;
+                args
+            }
+            CallShape::Method(object, args) => {
+                types.push(self.display_type(alloc, object)?)?;
+                args
+            }
+        };
+        self.push_display_types(alloc, &mut types, args.as_slice())?;
+        Ok(types)
     }
-    if let Some(property) = name.strip_prefix("get$") {
-        return get_property(alloc, pos, property, types.as_slice());
+
+    /// The fault of a call whose function isn't found, by its name: that of an indexer, of a getter or
+    /// setter of a property, or else of a function. `get$` and `set$` alone have the empty property.
+    pub fn not_found(
+        &self,
+        alloc: Global,
+        name: &Text,
+        shape: &CallShape,
+        pos: Position,
+    ) -> Result<EvalAltResult, OutOfMemory>
+        ensures { IfOk result (λ fault. fault ≡ not_found (lists_of info self.now) pos name.now (all_args shape.now)) }
+    {
+        let types = self.display_types(alloc, shape)?;
+        let text = name.as_str();
+        if text == "index$get$" {
+            return get_index(alloc, pos, types.as_slice());
+        }
+        if text == "index$set$" {
+            return set_index(alloc, pos, types.as_slice());
+        }
+        if let Some(property) = text.strip_prefix("get$") {
+            return get_property(alloc, pos, property, types.as_slice());
+        }
+        if let Some(property) = text.strip_prefix("set$") {
+            return set_property(alloc, pos, property, types.as_slice());
+        }
+        let signature = self.call_signature(alloc, name, shape)?;
+        Ok(EvalAltResult::ErrorFunctionNotFound(signature, pos))
     }
-    if let Some(property) = name.strip_prefix("set$") {
-        return set_property(alloc, pos, property, types.as_slice());
-    }
-    let signature = signature(alloc, name_of(call), shape_of(call))?;
-    Ok(EvalAltResult::ErrorFunctionNotFound(signature, pos))
 }

@@ -1,6 +1,6 @@
 use Rattle.std.proofs.Common.{◌∙◌}
-use Rattle.rhd_session.proofs.Unfound.{two_types, is_get_index}
-use Rattle.rhd_session.proofs.missing.get_index.Goals as goal
+use Rattle.rhd_engine.proofs.Unfound.{two_types, is_get_index}
+use Rattle.rhd_engine.proofs.missing.get_index.Goals as goal
 
 pub returns-in_ok-text-in-len2 : goal.returns-in_ok-text-in-len2
 returns-in_ok-text-in-len2 c =

@@ -1,8 +1,8 @@
 use Rattle.std.proofs.Common.{◌≡◌, ◌∙◌, length, arith}
 use Rattle.std.proofs.lemmas.Grind.{common_steps}
-use Rattle.rhd_session.proofs.Unfound.{one_type, is_get_property, other_get_property}
-use Rattle.rhd_session.proofs.missing.get_property.Goals.{in_default-via-then-types-lt1, in_default-via-else-types-lt1+else-types-lt2}
-use Rattle.rhd_session.proofs.missing.get_property.Goals as goal
+use Rattle.rhd_engine.proofs.Unfound.{one_type, is_get_property, other_get_property}
+use Rattle.rhd_engine.proofs.missing.get_property.Goals.{in_default-via-then-types-lt1, in_default-via-else-types-lt1+else-types-lt2}
+use Rattle.rhd_engine.proofs.missing.get_property.Goals as goal
 
 pub returns-in_ok-text-in-len1 : goal.returns-in_ok-text-in-len1
 returns-in_ok-text-in-len1 c =

@@ -1,8 +1,8 @@
 use Rattle.std.proofs.Common.{◌≡◌, ◌∙◌, length, arith}
 use Rattle.std.proofs.lemmas.Grind.{common_steps}
-use Rattle.rhd_session.proofs.Unfound.{three_types, is_set_index, other_set_index}
-use Rattle.rhd_session.proofs.missing.set_index.Goals.{in_default-via-then-types-lt3, in_default-via-else-types-lt3+else-types-lt4}
-use Rattle.rhd_session.proofs.missing.set_index.Goals as goal
+use Rattle.rhd_engine.proofs.Unfound.{three_types, is_set_index, other_set_index}
+use Rattle.rhd_engine.proofs.missing.set_index.Goals.{in_default-via-then-types-lt3, in_default-via-else-types-lt3+else-types-lt4}
+use Rattle.rhd_engine.proofs.missing.set_index.Goals as goal
 
 pub returns-in_ok-text-in-len3 : goal.returns-in_ok-text-in-len3
 returns-in_ok-text-in-len3 c =

@@ -1,8 +1,8 @@
 use Rattle.std.proofs.Common.{◌≡◌, ◌∙◌, length, arith}
 use Rattle.std.proofs.lemmas.Grind.{common_steps}
-use Rattle.rhd_session.proofs.Unfound.{two_types, is_set_property, other_set_property}
-use Rattle.rhd_session.proofs.missing.set_property.Goals.{in_default-via-then-types-lt2, in_default-via-else-types-lt2+else-types-lt3}
-use Rattle.rhd_session.proofs.missing.set_property.Goals as goal
+use Rattle.rhd_engine.proofs.Unfound.{two_types, is_set_property, other_set_property}
+use Rattle.rhd_engine.proofs.missing.set_property.Goals.{in_default-via-then-types-lt2, in_default-via-else-types-lt2+else-types-lt3}
+use Rattle.rhd_engine.proofs.missing.set_property.Goals as goal
 
 pub returns-in_ok-text-in-len2 : goal.returns-in_ok-text-in-len2
 returns-in_ok-text-in-len2 c =

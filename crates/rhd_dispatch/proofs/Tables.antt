@@ -1,34 +1,17 @@
--- How the table of built-in operators is put into, and that what it has is held.
-use Rattle.std.proofs.Common.{◌≡◌, ℕ, Bool, true, false, cond, List, [], ◌∷◌, length, map, get_or, refl, sym, ap, ◌∙◌, arith}
+-- What natives say of themselves, and the built-in of two kinds.
+use Rattle.std.proofs.Common.{◌≡◌, ℕ, Bool, false, List, [], ◌∷◌, length, map, get_or, refl, sym, ap, ◌∙◌, arith}
 use Rattle.std.proofs.lemmas.Option.{slice_get-map}
 use Rattle.std.specs.Option.{option_map_or}
-use Rattle.std.specs.Prelude.{Option, Some, None, nat_lt, slice_get, option_map}
+use Rattle.std.specs.Prelude.{Option, Some, None, slice_get, option_map}
 use Rattle.std.specs.Map.{lookup}
 use Rattle.rhd_value.specs.declared.tag.FnId.{FnId}
-use Rattle.indexmap.specs.IndexMap.{insert_entry}
 use Rattle.rhd_value.specs.declared.tag.TypeTag.{TypeTag}
 use Rattle.rhd_names.specs.declared.token.OpToken.{OpToken}
 use Rattle.rhd_func.specs.Natives.{NativeInfo, says}
-use Rattle.rhd_session.specs.declared.pick.Pick.{Pick}
-use Rattle.rhd_session.specs.Asks.{builtin, builtin_pick}
-use Rattle.rhd_session.specs.Engine.{EngineLists, Operator}
-use Rattle.rhd_session.specs.Held.{builtins_held}
-use Rattle.rhd_session.specs.Operators.{operator_eq, put_builtin}
-use Rattle.rhd_session.proofs.HeldLaws.{parts}
-
-pub put_is : (o : Operator) (id : FnId) (bs : List (Operator × FnId)) → insert_entry operator_eq bs o id ≡ put_builtin o id bs
-put_is o id [] = refl
-put_is o id (b ∷ bs) = rw (put_is o id bs)
-
-held_step : (n : ℕ) (o : Operator) (b : Operator × FnId) (bs : List (Operator × FnId)) (id : FnId) (same : Bool) → builtins_held n (b ∷ bs) ≡ true → (builtins_held n bs ≡ true → lookup (operator_eq o) bs ≡ Some id → nat_lt id.0 n ≡ true)
-    → cond same (Some b.1) (lookup (operator_eq o) bs) ≡ Some id → nat_lt id.0 n ≡ true
-held_step n o b bs id true all ih e = let q : b.1 ≡ id = cc in ap (λ (x : FnId). nat_lt x.0 n) (sym q) ∙ (parts (nat_lt b.1.0 n) (builtins_held n bs) all).0
-held_step n o b bs id false all ih e = ih (parts (nat_lt b.1.0 n) (builtins_held n bs) all).1 e
-
--- what the table has for an operator is held
-pub table_held : (n : ℕ) (o : Operator) (bs : List (Operator × FnId)) (id : FnId) → builtins_held n bs ≡ true → lookup (operator_eq o) bs ≡ Some id → nat_lt id.0 n ≡ true
-table_held n o [] id all e = absurd cc
-table_held n o (b ∷ bs) id all e = held_step n o b bs id (operator_eq o b.0) all (table_held n o bs id) e
+use Rattle.rhd_call.specs.declared.pick.Pick.{Pick}
+use Rattle.rhd_engine.specs.Engine.{EngineLists, Operator}
+use Rattle.rhd_engine.specs.Operators.{operator_eq}
+use Rattle.rhd_dispatch.specs.Asks.{builtin, builtin_pick}
 
 -- what the native of a number says
 pub says_known : {N : Type 0} (view : N → NativeInfo) (items : List N) (id : FnId) (native : N) (test : NativeInfo → Bool) (b : Bool) → slice_get items id.0 ≡ Some native → b ≡ test (view native) → b ≡ says test (map view items) id

@@ -1,4 +1,4 @@
--- The natives that modules name stay held, and what a key finds is held.
+-- The natives that modules name stay held, and what a module has is held.
 use Rattle.std.proofs.Common.{◌≡◌, ◌<◌, ℕ, ◌+◌, Bool, true, false, cond, ◌&&◌, List, [], ◌∷◌, ◌++◌, length, map, refl, sym, ap, ◌∙◌}
 use Rattle.std.specs.Prelude.{zero, suc, Option, Some, None, Result, Ok, Err, OnOk, OnErr, slice_get, slice_set, reverse, option_map}
 use Rattle.std.specs.List.{list_all, enumerate_from}
@@ -9,7 +9,6 @@ use Rattle.std.proofs.lemmas.Bool.{ltb-true, lt-ltb}
 use Rattle.std.proofs.lemmas.List.{reverse-append, append-nil}
 use Rattle.std.proofs.lemmas.List.Folds.{list_all-append}
 use Rattle.rhd_value.specs.declared.tag.FnId.{FnId}
-use Rattle.rhd_value.specs.Firsts.{first_of}
 use Rattle.rhd_func.specs.declared.func.RhaiFunc.{RhaiFunc}
 use Rattle.rhd_func.specs.Funcs.{native_of}
 use Rattle.rhd_module.specs.declared.key.Key.{Key}
@@ -18,12 +17,8 @@ use Rattle.rhd_module.specs.Keys.{key_eq}
 use Rattle.rhd_module.specs.Tree.{ModuleTree, Pairs}
 use Rattle.rhd_module.specs.Shown.{own_decl}
 use Rattle.rhd_module.specs.Registered.{put, with_decl}
-use Rattle.rhd_session.specs.Held.{is_below, func_held, names_held, all_held}
-use Rattle.rhd_session.specs.declared.pick.Layer.{Layer}
-use Rattle.rhd_session.specs.declared.pick.Layer.TheVariants.{Library, Global}
-use Rattle.rhd_session.specs.declared.pick.Pick.{Pick}
-use Rattle.rhd_session.specs.Engine.{EngineLists, Frame}
-use Rattle.rhd_session.specs.Searched.{Place, own_place, global_modules, pick_at, found}
+use Rattle.rhd_engine.specs.Held.{is_below, func_held, names_held, all_held}
+use Rattle.rhd_engine.specs.Registered.{in_first}
 
 abbrev is_held : ℕ → Declaration → Bool
 is_held n d = func_held n d.func
@@ -85,63 +80,29 @@ all_set n [] i m all h = refl
 all_set n (x ∷ ms) zero m all h = both (names_held n m) (all_held n ms) h (parts (names_held n x) (all_held n ms) all).1
 all_set n (x ∷ ms) (suc i) m all h = both (names_held n x) (all_held n (slice_set ms i m)) (parts (names_held n x) (all_held n ms) all).0 (all_set n ms i m (parts (names_held n x) (all_held n ms) all).1 h)
 
--- What a key finds.
+-- a held native is put into the first module
+pub first_held : (n : ℕ) (k : Key) (d : Declaration) (ms : List ModuleTree) → func_held n d.func ≡ true → all_held n ms ≡ true → all_held n (in_first (with_decl k d) ms) ≡ true
+first_held n k d [] h all = refl
+first_held n k d (m ∷ ms) h all = let p = parts (names_held n m) (all_held n ms) all in both (names_held n (with_decl k d m)) (all_held n ms) (stays_held n k d m h p.0) p.1
+
+-- whether or not it is
+pub first_either : {E : Type 0} (r : Result (Unit {0}) E) (n : ℕ) (k : Key) (d : Declaration) (old new : List ModuleTree) → OnOk r (new ≡ in_first (with_decl k d) old) → OnErr r (new ≡ old)
+    → func_held n d.func ≡ true → all_held n old ≡ true → all_held n new ≡ true
+first_either (Ok u) n k d old new ok err h all = ap (all_held n) ok ∙ first_held n k d old h all
+first_either (Err e) n k d old new ok err h all = ap (all_held n) err ∙ all
+
+-- What a key finds in a module.
 
 found_step : (n : ℕ) (key : Key) (p : Key × Declaration) (ps : Pairs) (d : Declaration) (same : Bool) → pairs_held n (p ∷ ps) ≡ true → (pairs_held n ps ≡ true → lookup (key_eq key) ps ≡ Some d → is_held n d ≡ true)
     → cond same (Some p.1) (lookup (key_eq key) ps) ≡ Some d → is_held n d ≡ true
 found_step n key p ps d true all ih e = let q : p.1 ≡ d = cc in ap (is_held n) (sym q) ∙ (parts (is_held n p.1) (pairs_held n ps) all).0
 found_step n key p ps d false all ih e = ih (parts (is_held n p.1) (pairs_held n ps) all).1 e
 
-found_held : (n : ℕ) (key : Key) (ps : Pairs) (d : Declaration) → pairs_held n ps ≡ true → lookup (key_eq key) ps ≡ Some d → is_held n d ≡ true
+pub found_held : (n : ℕ) (key : Key) (ps : Pairs) (d : Declaration) → pairs_held n ps ≡ true → lookup (key_eq key) ps ≡ Some d → is_held n d ≡ true
 found_held n key [] d all e = absurd cc
 found_held n key (p ∷ ps) d all e = found_step n key p ps d (key_eq key p.0) all (found_held n key ps d) e
 
-there_held : (n : ℕ) (m : ModuleTree) (key : Key) (d : Declaration) → names_held n m ≡ true → own_decl m key ≡ Some d → func_held n d.func ≡ true
+pub there_held : (n : ℕ) (m : ModuleTree) (key : Key) (d : Declaration) → names_held n m ≡ true → own_decl m key ≡ Some d → func_held n d.func ≡ true
 unfolding own_decl
 there_held n m key d all e = found_held n key m.own.eager d all e
 
--- numbered modules, each of which names held natives
-abbrev numbered_held : ℕ → List (ℕ × ModuleTree) → Bool
-numbered_held n ys = list_all (λ y. names_held n y.1) ys
-
-enumerated : (n k : ℕ) (ms : List ModuleTree) → numbered_held n (enumerate_from k ms) ≡ all_held n ms
-enumerated n k [] = refl
-enumerated n k (m ∷ ms) = ap (λ (b : Bool). names_held n m && b) (enumerated n (k + 1) ms)
-
-commutes : (a b : Bool) → (b && (a && true)) ≡ (a && b)
-commutes true true = refl
-commutes true false = refl
-commutes false true = refl
-commutes false false = refl
-
-reversed : (n : ℕ) (ys : List (ℕ × ModuleTree)) → numbered_held n (reverse ys) ≡ numbered_held n ys
-reversed n [] = refl
-reversed n (y ∷ ys) =
-    ap (numbered_held n) (reverse-append (y ∷ []) ys) ∙ list_all-append (λ (z : ℕ × ModuleTree). names_held n z.1) (reverse ys) (y ∷ [])
-    ∙ ap (λ (b : Bool). b && (names_held n y.1 && true)) (reversed n ys) ∙ commutes (names_held n y.1) (numbered_held n ys)
-
-pick_held : (n : ℕ) (layer : Layer) (o : Option Declaration) (pick : Pick) → ((d : Declaration) → o ≡ Some d → func_held n d.func ≡ true) → option_map (λ d. record { layer = layer; func = d.func }) o ≡ Some pick → func_held n pick.func ≡ true
-pick_held n layer None pick h e = absurd cc
-pick_held n layer (Some d) pick h e = let same : record { layer = layer; func = d.func } ≡ pick = cc in ap (λ (p : Pick). func_held n p.func) (sym same) ∙ h d refl
-
-first_held : (n : ℕ) (layer : ℕ → Layer) (key : Key) (pick : Pick) (ys : List (ℕ × ModuleTree)) (more : List Place) → numbered_held n ys ≡ true
-    → (first_of (pick_at key) more ≡ Some pick → func_held n pick.func ≡ true)
-    → first_of (pick_at key) (map (own_place layer) ys ++ more) ≡ Some pick → func_held n pick.func ≡ true
-first_held n layer key pick [] more all rest e = rest e
-first_held n layer key pick ((i, m) ∷ ys) more all rest e =
-    let own = parts (names_held n m) (numbered_held n ys) all in
-    let by : (o : Option Pick) → pick_at key (own_place layer (i, m)) ≡ o → option_or o (first_of (pick_at key) (map (own_place layer) ys ++ more)) ≡ Some pick → func_held n pick.func ≡ true =
-    elim [
-      | None ↦ (λ q r. first_held n layer key pick ys more own.1 rest r)
-      | Some p ↦ (λ q r. let same : p ≡ pick = cc in pick_held n (layer i) (own_decl m key) pick (λ d h. there_held n m key d own.0 h) (q ∙ ap Some same))
-    ] in
-    by (pick_at key (own_place layer (i, m))) refl e
-
-none_held : (n : ℕ) (key : Key) (pick : Pick) → first_of (pick_at key) [] ≡ Some pick → func_held n pick.func ≡ true
-none_held n key pick e = absurd cc
-
--- what a key finds is held
-pub found_is_held : (n : ℕ) (e : EngineLists) (f : Frame) (key : Key) (pick : Pick) → all_held n e.globals ≡ true → all_held n f.libs ≡ true → found e f key ≡ Some pick → func_held n pick.func ≡ true
-found_is_held n e f key pick globals libs is =
-    first_held n Library key pick (reverse (enumerate_from 0 f.libs)) (global_modules e) (reversed n (enumerate_from 0 f.libs) ∙ enumerated n 0 f.libs ∙ libs)
-    (λ r. first_held n Global key pick (enumerate_from 0 e.globals) [] (enumerated n 0 e.globals ∙ globals) (none_held n key pick) (ap (first_of (pick_at key)) (append-nil (global_modules e)) ∙ r)) is

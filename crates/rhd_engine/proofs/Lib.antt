@@ -1,0 +1,4 @@
+pub mod HeldLaws
+pub mod Tables
+pub mod Unfound
+pub mod NotFoundSamples
