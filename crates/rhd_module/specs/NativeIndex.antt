@@ -7,7 +7,7 @@ use Rattle.rhd_value.specs.Same.{text_eq}
 use Rattle.rhd_value.specs.declared.tag.TypeTag.{TypeTag}
 use Rattle.rhd_module.specs.declared.key.Key.{Key}
 use Rattle.rhd_module.specs.declared.key.Key.TheVariants.{Script, Typed, Native}
-use Rattle.rhd_module.specs.declared.natives.Natives.{Natives}
+use Rattle.rhd_module.specs.declared.native_index.NativeIndex.{NativeIndex}
 use Rattle.rhd_module.specs.Tree.{Pairs, ModuleTree}
 use Rattle.rhd_module.specs.Shown.{shown}
 use Rattle.rhd_module.specs.Matching.{key_matches}
@@ -32,11 +32,11 @@ abbrev pub place_at : Bytes → Pairs → ℕ → List ℕ
 place_at name ps place = if option_map_or (λ p. is_native_of name p.0) (slice_get ps place) false then place ∷ [] else []
 
 -- the places noted under a name
-abbrev pub noted : Natives → Bytes → List ℕ
+abbrev pub noted : NativeIndex → Bytes → List ℕ
 noted natives name = option_map_or (λ v. v.items) (get_by_text natives.places name) []
 
 -- under each name stand the places of its natives
-abbrev pub IsIndex : Natives → Pairs → Type 0
+abbrev pub IsIndex : NativeIndex → Pairs → Type 0
 IsIndex natives ps = (name : Bytes) → noted natives name ≡ places_from 0 name ps
 
 -- the declaration at a place has a native's key of this name, without a path, whose types match

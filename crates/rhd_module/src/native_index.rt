@@ -2,7 +2,7 @@
 
 ghost use Rattle.std.specs.Prelude.{◌≡◌, ℕ, List, ◌++◌, [], ◌∷◌, OnOk, OnErr, if◌then◌else◌};
 ghost use Rattle.rhd_value.specs.Same.{text_eq};
-ghost use Rattle.rhd_module.specs.Natives.{noted};
+ghost use Rattle.rhd_module.specs.NativeIndex.{noted};
 
 use indexmap::IndexMap;
 use rhd_value::{OutOfMemory, Text};
@@ -10,15 +10,15 @@ use std::alloc::Global;
 
 /// The places of natives by their names.
 #[derive(Drop)]
-pub(crate) struct Natives {
+pub(crate) struct NativeIndex {
     places: IndexMap<String, Vec<usize>>,
 }
 
-impl Natives {
-    pub fn new(alloc: Global) -> Natives
+impl NativeIndex {
+    pub fn new(alloc: Global) -> NativeIndex
         ensures { (name : List ℕ) → noted result name ≡ [] }
     {
-        Natives {
+        NativeIndex {
             places: IndexMap::new(alloc),
         }
     }

@@ -2,7 +2,7 @@ use Rattle.std.proofs.Common.{rules}
 use Rattle.std.specs.HashMap.{get_by_text}
 use Rattle.std.proofs.lemmas.Map.Text.{hash_map_updates_text}
 use Rattle.rhd_module.proofs.Noted.{one_more_than, same_as, on_err}
-use Rattle.rhd_module.proofs.natives.Natives.note.Goals as goal
+use Rattle.rhd_module.proofs.native_index.NativeIndex.note.Goals as goal
 
 pub returns-in_err-push-in-Some-clause-err : goal.returns-in_err-push-in-Some-clause-err
 returns-in_err-push-in-Some-clause-err c =

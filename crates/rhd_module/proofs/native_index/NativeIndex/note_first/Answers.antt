@@ -3,7 +3,7 @@ use Rattle.std.specs.HashMap.{get_by_text}
 use Rattle.std.proofs.lemmas.Map.Text.{hash_map_updates_text}
 use Rattle.std.proofs.lemmas.Result.{IfOk-at_ok}
 use Rattle.rhd_module.proofs.Noted.{one_more}
-use Rattle.rhd_module.proofs.natives.Natives.note_first.Goals as goal
+use Rattle.rhd_module.proofs.native_index.NativeIndex.note_first.Goals as goal
 
 pub returns-clause-ok : goal.returns-clause-ok
 returns-clause-ok c =
