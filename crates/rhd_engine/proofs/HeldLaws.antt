@@ -1,6 +1,6 @@
 -- The natives that modules name stay held, and what a module has is held.
 use Rattle.std.proofs.Common.{◌≡◌, ◌<◌, ℕ, ◌+◌, Bool, true, false, cond, ◌&&◌, List, [], ◌∷◌, ◌++◌, length, map, refl, sym, ap, ◌∙◌}
-use Rattle.std.specs.Prelude.{zero, suc, Option, Some, None, Result, Ok, Err, OnOk, OnErr, slice_get, slice_set, reverse, option_map}
+use Rattle.std.specs.Prelude.{zero, suc, Option, Some, None, Result, Ok, Err, OnOk, OnErr, slice_get, slice_set, if◌then◌else◌}
 use Rattle.std.specs.List.{list_all, enumerate_from}
 use Rattle.std.specs.Map.{lookup}
 use Rattle.std.specs.Option.{option_or}
@@ -11,12 +11,15 @@ use Rattle.std.proofs.lemmas.List.Folds.{list_all-append}
 use Rattle.rhd_value.specs.declared.tag.FnId.{FnId}
 use Rattle.rhd_func.specs.declared.func.RhaiFunc.{RhaiFunc}
 use Rattle.rhd_func.specs.Funcs.{native_of}
+use Rattle.rhd_func.specs.Natives.{NativeInfo}
+use Rattle.rhd_func.specs.declared.func.RhaiFunc.TheVariants as funcs
+use Rattle.rhd_value.specs.Tree.{Bytes}
 use Rattle.rhd_module.specs.declared.key.Key.{Key}
 use Rattle.rhd_module.specs.declared.declaration.Declaration.{Declaration}
 use Rattle.rhd_module.specs.Keys.{key_eq}
 use Rattle.rhd_module.specs.Tree.{ModuleTree, Pairs}
 use Rattle.rhd_module.specs.Shown.{own_decl}
-use Rattle.rhd_module.specs.Registered.{put, with_decl}
+use Rattle.rhd_module.specs.Registered.{put, with_decl, native_decl, pure_by_name}
 use Rattle.rhd_engine.specs.Held.{is_below, func_held, names_held, all_held}
 use Rattle.rhd_engine.specs.Registered.{in_first}
 
@@ -90,6 +93,25 @@ pub first_either : {E : Type 0} (r : Result (Unit {0}) E) (n : ℕ) (k : Key) (d
     → func_held n d.func ≡ true → all_held n old ≡ true → all_held n new ≡ true
 first_either (Ok u) n k d old new ok err h all = ap (all_held n) ok ∙ first_held n k d old h all
 first_either (Err e) n k d old new ok err h all = ap (all_held n) err ∙ all
+
+-- as many modules as before
+pub first_count : {E : Type 0} (r : Result (Unit {0}) E) (k : Key) (d : Declaration) (old new : List ModuleTree) → OnOk r (new ≡ in_first (with_decl k d) old) → OnErr r (new ≡ old) → length new ≡ length old
+first_count (Ok u) k d old new ok err = ap length ok ∙ same_count old
+  where
+    same_count : (ms : List ModuleTree) → length (in_first (with_decl k d) ms) ≡ length ms
+    same_count [] = refl
+    same_count (m ∷ ms) = refl
+first_count (Err e) k d old new ok err = ap length err
+
+-- the native of a declaration that is registered
+native_number : (name : Bytes) (info : NativeInfo) (id : FnId) → native_of (native_decl name info id).func ≡ Some id
+native_number name info id =
+    let by : (b : Bool) → native_of (if b then funcs.Method id info.has_context (pure_by_name name (length info.types)) false else funcs.Pure id info.has_context (pure_by_name name (length info.types)) false) ≡ Some id = elim [ true ↦ refl | false ↦ refl ]
+    in by info.is_method
+
+-- it is held
+pub native_held : {N : Type 0} (view : N → NativeInfo) (items : List N) (name : Bytes) (id : FnId) (native : N) → slice_get items id.0 ≡ Some native → func_held (length items) (native_decl name (view native) id).func ≡ true
+native_held view items name id native some = holds_number items (native_decl name (view native) id).func id native (native_number name (view native) id) some
 
 -- What a key finds in a module.
 

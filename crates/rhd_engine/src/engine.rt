@@ -2,10 +2,6 @@
 
 ghost use Rattle.std.specs.Prelude.{◌≡◌, ◌≤◌, ◌<◌, true, [], ◌∷◌, IfOk, length};
 ghost use Rattle.rhd_engine.specs.Held.{all_held, builtins_held};
-ghost use Rattle.rhd_engine.specs.Of.{lists_of};
-ghost use Rattle.rhd_engine.specs.Registered.{Registered};
-ghost use Rattle.rhd_engine.specs.Start.{start_lists};
-ghost use Rattle.rhd_func.specs.Infos.{infos_of};
 
 use crate::builtins::Builtins;
 use crate::limits::{Limits, Printers};
@@ -33,6 +29,11 @@ pub struct Engine {
 }
 
 impl Engine {
+    ghost use Rattle.rhd_func.specs.Infos.{infos_of};
+    ghost use Rattle.rhd_engine.specs.Of.{lists_of};
+    ghost use Rattle.rhd_engine.specs.Registered.{Registered};
+    ghost use Rattle.rhd_engine.specs.Start.{start_lists};
+
     /// An engine with an empty global namespace. Its built-ins are held by the natives.
     pub fn new(
         alloc: Global,
@@ -47,7 +48,9 @@ impl Engine {
         ensures lists { IfOk result (λ engine. lists_of info engine ≡ start_lists (infos_of info natives) limits builtins printers) }
     {
         let mut globals = ModuleList::new(alloc);
-        globals.push(SharedModule::new(alloc, Module::new(alloc))?)?;
+        let empty = Module::new(alloc);
+        let namespace = SharedModule::new(alloc, empty)?;
+        globals.push(namespace)?;
         Ok(Engine {
             natives,
             globals,
@@ -102,7 +105,9 @@ impl Engine {
                 length: self.natives.len() as u64,
             });
         };
-        self.globals.register_in_first(alloc, name, native, id)?;
-        Ok(())
+        match self.globals.register_in_first(alloc, name, native, id) {
+            Ok(()) => Ok(()),
+            Err(OutOfMemory) => Err(DeclFault::OutOfMemory),
+        }
     }
 }

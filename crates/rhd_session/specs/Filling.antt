@@ -5,8 +5,10 @@ use Rattle.rhd_func.specs.declared.request.CallRequest.{CallRequest}
 use Rattle.rhd_func.specs.declared.request.Carry.{Carry}
 use Rattle.rhd_call.specs.declared.pick.Pick.{Pick}
 use Rattle.rhd_call.specs.declared.node.CallNode.{CallNode}
+use Rattle.rhd_call.specs.declared.reply.Reply.{Reply}
+use Rattle.rhd_call.specs.declared.reply.Reply.TheVariants.{Called}
 use Rattle.rhd_call.specs.End.{End}
-use Rattle.rhd_call.specs.Seen.{Seen, begun_node, cut_end}
+use Rattle.rhd_call.specs.Seen.{Seen, seen, begun_node, cut_end}
 
 -- a call that is begun and not yet ended: its node shows what it shows where the budget is spent within the call
 abbrev pub begun_call : CallRequest → ℕ → Seen
@@ -35,3 +37,8 @@ joined s carry child = record s { carries = s.carries ++ carry ∷ []; children 
 -- the same call, closed where the budget was spent within the child that it waits for
 abbrev pub closed : Seen → Pick → Carry → CallNode → Seen
 closed s pick carry child = picking (joined s carry child) pick
+
+-- the node of this call is begun at level 1, and nothing more
+abbrev pub IsBegunFor : CallRequest → Reply → Type 0
+IsBegunFor request (Called node) = seen node ≡ begun_call request 1
+IsBegunFor request reply = ⊥
