@@ -1,4 +1,4 @@
-//! Tests of what no contract says: that calls succeed, and that the tables say what is meant.
+//! Tests against tables that stand here once more, and that calls succeed.
 
 use crate::{
     OpToken, is_anonymous_fn, is_reserved_keyword_or_symbol, is_valid_function_name,
@@ -6,70 +6,192 @@ use crate::{
 };
 use std::test::Fail;
 
-/// For each text: whether it is an identifier, a function's name, reserved, and anonymous.
-#[test]
-fn names(rt: HostRuntime) {
-    let table = [
-        ("f", (true, true, false, false)),
-        ("_a9", (true, true, false, false)),
-        ("Z_", (true, true, false, false)),
-        ("", (false, false, false, false)),
-        ("__", (false, false, false, false)),
-        ("9a", (false, false, false, false)),
-        ("_9a", (false, false, false, false)),
-        ("a-b", (false, false, false, false)),
-        ("ä", (false, false, false, false)),
-        ("fn", (true, false, false, false)),
-        ("curry", (true, false, true, false)),
-        ("Curry", (true, true, false, false)),
-        ("++", (false, false, true, false)),
-        ("+", (false, false, false, false)),
-        ("anon$", (false, false, false, true)),
-        ("anon$7f", (false, false, false, true)),
-        ("get$anon$", (false, false, false, false)),
-    ];
-    for (name, want) in table {
-        let found = (
-            is_valid_identifier(name),
-            is_valid_function_name(name),
-            is_reserved_keyword_or_symbol(name),
-            is_anonymous_fn(name),
-        );
-        assert!(rt; found == want, "{name}");
-    }
+/// The tokens that are no assignments, with their texts.
+const TOKENS: [(&str, OpToken); 63] = [
+    ("true", OpToken::True),
+    ("false", OpToken::False),
+    ("let", OpToken::Let),
+    ("const", OpToken::Const),
+    ("if", OpToken::If),
+    ("else", OpToken::Else),
+    ("switch", OpToken::Switch),
+    ("do", OpToken::Do),
+    ("while", OpToken::While),
+    ("until", OpToken::Until),
+    ("loop", OpToken::Loop),
+    ("for", OpToken::For),
+    ("in", OpToken::In),
+    ("fn", OpToken::Fn),
+    ("private", OpToken::Private),
+    ("import", OpToken::Import),
+    ("export", OpToken::Export),
+    ("as", OpToken::As),
+    ("return", OpToken::Return),
+    ("throw", OpToken::Throw),
+    ("break", OpToken::Break),
+    ("continue", OpToken::Continue),
+    ("try", OpToken::Try),
+    ("catch", OpToken::Catch),
+    ("global", OpToken::Global),
+    ("+", OpToken::Plus),
+    ("-", OpToken::Minus),
+    ("*", OpToken::Multiply),
+    ("/", OpToken::Divide),
+    ("%", OpToken::Modulo),
+    ("**", OpToken::PowerOf),
+    ("<<", OpToken::LeftShift),
+    (">>", OpToken::RightShift),
+    ("&", OpToken::Ampersand),
+    ("|", OpToken::Pipe),
+    ("^", OpToken::XOr),
+    ("==", OpToken::EqualsTo),
+    ("!=", OpToken::NotEqualsTo),
+    ("<", OpToken::LessThan),
+    ("<=", OpToken::LessThanEqualsTo),
+    (">", OpToken::GreaterThan),
+    (">=", OpToken::GreaterThanEqualsTo),
+    ("&&", OpToken::And),
+    ("||", OpToken::Or),
+    ("=", OpToken::Equals),
+    ("!", OpToken::Bang),
+    ("..", OpToken::ExclusiveRange),
+    ("..=", OpToken::InclusiveRange),
+    ("??", OpToken::DoubleQuestion),
+    ("(", OpToken::LeftParen),
+    (")", OpToken::RightParen),
+    ("{", OpToken::LeftBrace),
+    ("}", OpToken::RightBrace),
+    ("[", OpToken::LeftBracket),
+    ("]", OpToken::RightBracket),
+    (",", OpToken::Comma),
+    (";", OpToken::SemiColon),
+    (":", OpToken::Colon),
+    ("::", OpToken::DoubleColon),
+    (".", OpToken::Period),
+    ("?.", OpToken::Elvis),
+    ("?[", OpToken::QuestionBracket),
+    ("=>", OpToken::DoubleArrow),
+];
+
+/// The tokens that are assignments, with their texts.
+const ASSIGNMENTS: [(&str, OpToken); 11] = [
+    ("+=", OpToken::PlusAssign),
+    ("-=", OpToken::MinusAssign),
+    ("*=", OpToken::MultiplyAssign),
+    ("/=", OpToken::DivideAssign),
+    ("%=", OpToken::ModuloAssign),
+    ("**=", OpToken::PowerOfAssign),
+    ("<<=", OpToken::LeftShiftAssign),
+    (">>=", OpToken::RightShiftAssign),
+    ("&=", OpToken::AndAssign),
+    ("|=", OpToken::OrAssign),
+    ("^=", OpToken::XOrAssign),
+];
+
+/// The reserved words and the reserved symbols.
+const RESERVED: [&str; 48] = [
+    "type_of",
+    "is_shared",
+    "is_def_fn",
+    "is_def_var",
+    "print",
+    "debug",
+    "Fn",
+    "eval",
+    "call",
+    "curry",
+    "this",
+    "var",
+    "static",
+    "goto",
+    "exit",
+    "match",
+    "case",
+    "public",
+    "protected",
+    "new",
+    "use",
+    "with",
+    "module",
+    "package",
+    "super",
+    "spawn",
+    "thread",
+    "go",
+    "sync",
+    "async",
+    "await",
+    "yield",
+    "void",
+    "null",
+    "nil",
+    "default",
+    "===",
+    "!==",
+    "->",
+    "<-",
+    ":=",
+    "~",
+    "@",
+    "$",
+    "#",
+    "++",
+    "--",
+    "?",
+];
+
+/// Texts that are neither tokens nor reserved, and whether a function may be named so.
+const OTHERS: [(&str, bool); 12] = [
+    ("", false),
+    ("f", true),
+    ("True", true),
+    ("curry_", true),
+    ("_a9", true),
+    ("_9a", false),
+    ("__", false),
+    ("a-b", false),
+    ("====", false),
+    ("get$x", false),
+    ("anon$7f", false),
+    ("ä", false),
+];
+
+/// The token of a text, whether the text is reserved, and whether a function may be named so.
+fn facts(text: &str) -> (Option<OpToken>, bool, bool) {
+    (
+        lookup_symbol_from_syntax(text),
+        is_reserved_keyword_or_symbol(text),
+        is_valid_function_name(text),
+    )
 }
 
-/// For each text its token, and whether that is an assignment.
 #[test]
-fn tokens(rt: HostRuntime) {
-    let table = [
-        ("true", Some(OpToken::True), false),
-        ("**=", Some(OpToken::PowerOfAssign), true),
-        ("**", Some(OpToken::PowerOf), false),
-        ("=", Some(OpToken::Equals), false),
-        ("<=", Some(OpToken::LessThanEqualsTo), false),
-        ("<<=", Some(OpToken::LeftShiftAssign), true),
-        ("?.", Some(OpToken::Elvis), false),
-        ("?", None, false),
-        ("===", None, false),
-        ("True", None, false),
-        ("", None, false),
-    ];
-    for (text, token, assigns) in table {
-        let found = lookup_symbol_from_syntax(text);
-        assert!(rt; found == token, "{text}");
+fn tables(rt: HostRuntime) {
+    for (text, token) in TOKENS {
         assert!(rt;
-            found.is_some_and(|t| t.is_op_assignment()) == assigns,
+            facts(text) == (Some(token), false, false) && !token.is_op_assignment(),
             "{text}"
         );
+    }
+    for (text, token) in ASSIGNMENTS {
+        assert!(rt;
+            facts(text) == (Some(token), false, false) && token.is_op_assignment(),
+            "{text}"
+        );
+    }
+    for text in RESERVED {
+        assert!(rt; facts(text) == (None, true, false), "{text}");
+    }
+    for (text, named) in OTHERS {
+        assert!(rt; facts(text) == (None, false, named), "{text}");
     }
 }
 
 #[test]
 fn properties(rt: HostRuntime) -> Result<(), Fail> {
     let getter = make_getter(rt.alloc(), "x")?;
-    assert!(rt; getter.as_str() == "get$x");
+    assert!(rt; getter.as_str() == "get$x" && !is_valid_identifier(getter.as_str()));
     let setter = make_setter(rt.alloc(), "")?;
-    assert!(rt; setter.as_str() == "set$");
+    assert!(rt; setter.as_str() == "set$" && !is_anonymous_fn(setter.as_str()));
     Ok(())
 }
