@@ -1,4 +1,4 @@
--- The properties of a function, by its variant. Those that only a native can have are asked of what the natives say of themselves.
+-- The properties of a function, by its variant. What the natives say of themselves is at hand; none of these variants asks for it.
 use Rattle.std.specs.Prelude.{Bool, true, false, List, Option, Some, None}
 use Rattle.rhd_value.specs.declared.tag.FnId.{FnId}
 use Rattle.rhd_func.specs.Natives.{NativeInfo}

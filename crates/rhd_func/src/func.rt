@@ -86,6 +86,9 @@ impl SharedDef {
 ///
 /// `func` is the number of its native. `has_context`: it is handed the context of the call.
 /// `is_pure`: it may be called on a constant. `is_volatile`: it may answer otherwise the next time.
+///
+/// What may depend on a native is asked with the table of natives beside it. A function that holds
+/// its own answers, as these variants do, answers without the table.
 #[derive(Drop)]
 pub enum RhaiFunc {
     /// A native that takes all its arguments by value.
