@@ -1,0 +1,84 @@
+-- The parts of a pick: its scripts, its native and its built-in.
+use Rattle.std.proofs.Common.{◌≡◌, Bool, false, List, [], ◌∷◌, ◌++◌, length, refl, sym, ap, ◌∙◌}
+use Rattle.std.specs.Prelude.{Option, Some, None}
+use Rattle.std.specs.Option.{option_or}
+use Rattle.rhd_value.specs.Tree.{Bytes, Tree}
+use Rattle.rhd_value.specs.Firsts.{first_of}
+use Rattle.rhd_value.specs.declared.tag.TypeTag.{TypeTag}
+use Rattle.rhd_names.specs.declared.token.OpToken.{OpToken}
+use Rattle.rhd_func.specs.declared.request.CallShape.{CallShape}
+use Rattle.rhd_func.specs.declared.request.CallShape.TheVariants.{Plain, ByRef, Method}
+use Rattle.rhd_module.specs.declared.key.Key.{Key}
+use Rattle.rhd_module.specs.declared.key.Key.TheVariants.{Script, Typed, Native}
+use Rattle.rhd_module.specs.Tree.{ModuleTree}
+use Rattle.rhd_call.specs.declared.pick.Pick.{Pick}
+use Rattle.rhd_engine.specs.Engine.{EngineLists, Imports}
+use Rattle.rhd_engine.specs.Display.{display}
+use Rattle.rhd_dispatch.specs.Searched.{found}
+use Rattle.rhd_dispatch.specs.Patterns.{patterns}
+use Rattle.rhd_dispatch.specs.Asks.{Asked, script, native, looked, params_of, typed_asks, allowed_asks, native_ask, native_found, builtin, pick_unqualified}
+use Rattle.rhd_dispatch.proofs.Firsts.{or_none, of_append}
+use Rattle.rhd_dispatch.proofs.PatternWalk.{exact_found}
+
+-- The pick is the script's, or else the native's or the built-in's.
+
+pick_parts : (e : EngineLists) (libs : List ModuleTree) (imports : Imports) (name : Bytes) (token : Option OpToken) (native_only : Bool) (shape : CallShape) →
+    pick_unqualified e libs imports name token native_only shape ≡ option_or (first_of (looked e libs imports) (allowed_asks e name native_only shape)) (looked e libs imports (native_ask name token shape))
+pick_parts e libs imports name token native_only shape =
+    of_append (looked e libs imports) (allowed_asks e name native_only shape) (native_ask name token shape ∷ [])
+    ∙ ap (option_or (first_of (looked e libs imports) (allowed_asks e name native_only shape))) (or_none (looked e libs imports (native_ask name token shape)))
+
+pub script_is_pick : (e : EngineLists) (libs : List ModuleTree) (imports : Imports) (name same : Bytes) (token : Option OpToken) (native_only : Bool) (shape : CallShape) (o : Option Pick) (pick : Pick) → same ≡ name
+    → o ≡ first_of (looked e libs imports) (allowed_asks e same native_only shape) → o ≡ Some pick → ◌≡◌ {A = Option Pick} (Some pick) (pick_unqualified e libs imports name token native_only shape)
+script_is_pick e libs imports name same token native_only shape o pick n first some =
+    let asked : first_of (looked e libs imports) (allowed_asks e name native_only shape) ≡ Some pick = ap (λ (t : Bytes). first_of (looked e libs imports) (allowed_asks e t native_only shape)) (sym n) ∙ sym first ∙ some in
+    sym (pick_parts e libs imports name token native_only shape ∙ ap (λ (x : Option Pick). option_or x (looked e libs imports (native_ask name token shape))) asked)
+
+pub native_is_pick : (e : EngineLists) (libs : List ModuleTree) (imports : Imports) (name same later : Bytes) (token : Option OpToken) (native_only : Bool) (shape : CallShape) (o last : Option Pick) → same ≡ name → later ≡ same
+    → o ≡ first_of (looked e libs imports) (allowed_asks e same native_only shape) → o ≡ None → last ≡ looked e libs imports (native_ask later token shape) → last ≡ pick_unqualified e libs imports name token native_only shape
+native_is_pick e libs imports name same later token native_only shape o last n k first none answered =
+    let asked : first_of (looked e libs imports) (allowed_asks e name native_only shape) ≡ None = ap (λ (t : Bytes). first_of (looked e libs imports) (allowed_asks e t native_only shape)) (sym n) ∙ sym first ∙ none in
+    answered ∙ ap (λ (t : Bytes). looked e libs imports (native_ask t token shape)) (k ∙ n)
+    ∙ sym (pick_parts e libs imports name token native_only shape ∙ ap (λ (x : Option Pick). option_or x (looked e libs imports (native_ask name token shape))) asked)
+
+-- The scripts of a call: those of an object's type, and then the others.
+
+-- the script of the type of an object, by its key
+pub typed_asked : (e : EngineLists) (libs : List ModuleTree) (imports : Imports) (name : Bytes) (object : Tree) (args : List Tree) (shape : CallShape) (key : Key) (o : Option Pick) → shape ≡ Method object args
+    → key ≡ Typed None name (length args) (display e object) → o ≡ found e libs imports key → o ≡ first_of (looked e libs imports) (typed_asks e name shape)
+typed_asked e libs imports name object args shape key o s k is =
+    is ∙ ap (found e libs imports) k ∙ sym (or_none (found e libs imports (Typed None name (length args) (display e object)))) ∙ ap (λ (t : CallShape). first_of (looked e libs imports) (typed_asks e name t)) (sym s)
+
+script_parts : (e : EngineLists) (libs : List ModuleTree) (imports : Imports) (name : Bytes) (native_only : Bool) (shape : CallShape) → native_only ≡ false
+    → first_of (looked e libs imports) (allowed_asks e name native_only shape) ≡ option_or (first_of (looked e libs imports) (typed_asks e name shape)) (found e libs imports (Script None name (params_of shape)))
+script_parts e libs imports name native_only shape only =
+    ap (λ (b : Bool). first_of (looked e libs imports) (allowed_asks e name b shape)) only ∙ of_append (looked e libs imports) (typed_asks e name shape) (script name (params_of shape) ∷ [])
+    ∙ ap (option_or (first_of (looked e libs imports) (typed_asks e name shape))) (or_none (found e libs imports (Script None name (params_of shape))))
+
+pub typed_first : (e : EngineLists) (libs : List ModuleTree) (imports : Imports) (name : Bytes) (native_only : Bool) (shape : CallShape) (o : Option Pick) (pick : Pick) → native_only ≡ false
+    → o ≡ first_of (looked e libs imports) (typed_asks e name shape) → o ≡ Some pick → ◌≡◌ {A = Option Pick} (Some pick) (first_of (looked e libs imports) (allowed_asks e name native_only shape))
+typed_first e libs imports name native_only shape o pick only is some =
+    sym (script_parts e libs imports name native_only shape only ∙ ap (λ (x : Option Pick). option_or x (found e libs imports (Script None name (params_of shape)))) (sym is ∙ some))
+
+pub script_second : (e : EngineLists) (libs : List ModuleTree) (imports : Imports) (name : Bytes) (native_only : Bool) (shape : CallShape) (o last : Option Pick) → native_only ≡ false
+    → o ≡ first_of (looked e libs imports) (typed_asks e name shape) → o ≡ None → last ≡ found e libs imports (Script None name (params_of shape)) → last ≡ first_of (looked e libs imports) (allowed_asks e name native_only shape)
+script_second e libs imports name native_only shape o last only is none h =
+    h ∙ sym (script_parts e libs imports name native_only shape only ∙ ap (λ (x : Option Pick). option_or x (found e libs imports (Script None name (params_of shape)))) (sym is ∙ none))
+
+-- The native of a call: of the exact kinds, of another pattern, or else the built-in.
+
+pub exact_first : (e : EngineLists) (libs : List ModuleTree) (imports : Imports) (name : Bytes) (token : Option OpToken) (kinds same : List TypeTag) (key : Key) (o : Option Pick) (pick : Pick) → key ≡ Native None name kinds → kinds ≡ same
+    → o ≡ found e libs imports key → o ≡ Some pick → ◌≡◌ {A = Option Pick} (Some pick) (looked e libs imports (native name same token))
+exact_first e libs imports name token kinds same key o pick by k is some =
+    let h : native_found e libs imports name same ≡ Some pick = ap (native_found e libs imports name) (sym k) ∙ ap (found e libs imports) (sym by) ∙ sym is ∙ some in
+    sym (ap (λ (x : Option Pick). option_or x (builtin e token same)) (exact_found (native_found e libs imports name) 16 same pick h))
+
+pub pattern_second : (e : EngineLists) (libs : List ModuleTree) (imports : Imports) (name : Bytes) (token : Option OpToken) (kinds same : List TypeTag) (o : Option Pick) (pick : Pick) → kinds ≡ same
+    → o ≡ first_of (native_found e libs imports name) (patterns kinds) → o ≡ Some pick → ◌≡◌ {A = Option Pick} (Some pick) (looked e libs imports (native name same token))
+pattern_second e libs imports name token kinds same o pick k is some =
+    sym (ap (λ (x : Option Pick). option_or x (builtin e token same)) (ap (λ (ts : List TypeTag). first_of (native_found e libs imports name) (patterns ts)) (sym k) ∙ sym is ∙ some))
+
+pub builtin_last : (e : EngineLists) (libs : List ModuleTree) (imports : Imports) (name : Bytes) (token : Option OpToken) (kinds same : List TypeTag) (o last : Option Pick) → kinds ≡ same
+    → o ≡ first_of (native_found e libs imports name) (patterns kinds) → o ≡ None → last ≡ builtin e token same → last ≡ looked e libs imports (native name same token)
+builtin_last e libs imports name token kinds same o last k is none built =
+    built ∙ sym (ap (λ (x : Option Pick). option_or x (builtin e token same)) (ap (λ (ts : List TypeTag). first_of (native_found e libs imports name) (patterns ts)) (sym k) ∙ sym is ∙ none))
