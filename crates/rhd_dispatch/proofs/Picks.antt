@@ -41,30 +41,6 @@ native_is_pick e libs imports name same later token native_only shape o last n k
     answered ∙ ap (λ (t : Bytes). looked e libs imports (native_ask t token shape)) (k ∙ n)
     ∙ sym (pick_parts e libs imports name token native_only shape ∙ ap (λ (x : Option Pick). option_or x (looked e libs imports (native_ask name token shape))) asked)
 
--- The scripts of a call: those of an object's type, and then the others.
-
--- the script of the type of an object, by its key
-pub typed_asked : (e : EngineLists) (libs : List ModuleTree) (imports : Imports) (name : Bytes) (object : Tree) (args : List Tree) (shape : CallShape) (key : Key) (o : Option Pick) → shape ≡ Method object args
-    → key ≡ Typed None name (length args) (display e object) → o ≡ found e libs imports key → o ≡ first_of (looked e libs imports) (typed_asks e name shape)
-typed_asked e libs imports name object args shape key o s k is =
-    is ∙ ap (found e libs imports) k ∙ sym (or_none (found e libs imports (Typed None name (length args) (display e object)))) ∙ ap (λ (t : CallShape). first_of (looked e libs imports) (typed_asks e name t)) (sym s)
-
-script_parts : (e : EngineLists) (libs : List ModuleTree) (imports : Imports) (name : Bytes) (native_only : Bool) (shape : CallShape) → native_only ≡ false
-    → first_of (looked e libs imports) (allowed_asks e name native_only shape) ≡ option_or (first_of (looked e libs imports) (typed_asks e name shape)) (found e libs imports (Script None name (params_of shape)))
-script_parts e libs imports name native_only shape only =
-    ap (λ (b : Bool). first_of (looked e libs imports) (allowed_asks e name b shape)) only ∙ of_append (looked e libs imports) (typed_asks e name shape) (script name (params_of shape) ∷ [])
-    ∙ ap (option_or (first_of (looked e libs imports) (typed_asks e name shape))) (or_none (found e libs imports (Script None name (params_of shape))))
-
-pub typed_first : (e : EngineLists) (libs : List ModuleTree) (imports : Imports) (name : Bytes) (native_only : Bool) (shape : CallShape) (o : Option Pick) (pick : Pick) → native_only ≡ false
-    → o ≡ first_of (looked e libs imports) (typed_asks e name shape) → o ≡ Some pick → ◌≡◌ {A = Option Pick} (Some pick) (first_of (looked e libs imports) (allowed_asks e name native_only shape))
-typed_first e libs imports name native_only shape o pick only is some =
-    sym (script_parts e libs imports name native_only shape only ∙ ap (λ (x : Option Pick). option_or x (found e libs imports (Script None name (params_of shape)))) (sym is ∙ some))
-
-pub script_second : (e : EngineLists) (libs : List ModuleTree) (imports : Imports) (name : Bytes) (native_only : Bool) (shape : CallShape) (o last : Option Pick) → native_only ≡ false
-    → o ≡ first_of (looked e libs imports) (typed_asks e name shape) → o ≡ None → last ≡ found e libs imports (Script None name (params_of shape)) → last ≡ first_of (looked e libs imports) (allowed_asks e name native_only shape)
-script_second e libs imports name native_only shape o last only is none h =
-    h ∙ sym (script_parts e libs imports name native_only shape only ∙ ap (λ (x : Option Pick). option_or x (found e libs imports (Script None name (params_of shape)))) (sym is ∙ none))
-
 -- The native of a call: of the exact kinds, of another pattern, or else the built-in.
 
 pub exact_first : (e : EngineLists) (libs : List ModuleTree) (imports : Imports) (name : Bytes) (token : Option OpToken) (kinds same : List TypeTag) (key : Key) (o : Option Pick) (pick : Pick) → key ≡ Native None name kinds → kinds ≡ same
