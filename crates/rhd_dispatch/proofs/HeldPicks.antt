@@ -1,9 +1,8 @@
 -- The native of a function that is picked is held.
-use Rattle.std.proofs.Common.{◌≡◌, ℕ, ◌+◌, Bool, true, false, ◌&&◌, List, [], ◌∷◌, ◌++◌, length, map, refl, sym, ap, ◌∙◌, ◌⊎◌, inl, inr}
+use Rattle.std.proofs.Common.{◌≡◌, ℕ, ◌+◌, Bool, true, false, ◌&&◌, List, [], ◌∷◌, ◌++◌, map, refl, sym, ap, ◌∙◌, inl, inr}
 use Rattle.std.specs.Prelude.{Option, Some, None, IfSome, reverse, option_map}
 use Rattle.std.specs.List.{list_all, enumerate_from}
 use Rattle.std.specs.Map.{lookup}
-use Rattle.std.specs.Option.{option_or}
 use Rattle.std.proofs.lemmas.List.{reverse-append, append-nil}
 use Rattle.std.proofs.lemmas.List.Folds.{list_all-append}
 use Rattle.rhd_value.specs.Tree.{Bytes}

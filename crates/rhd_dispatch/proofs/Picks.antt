@@ -1,22 +1,20 @@
 -- The parts of a pick: its scripts, its native and its built-in.
-use Rattle.std.proofs.Common.{◌≡◌, Bool, false, List, [], ◌∷◌, ◌++◌, length, refl, sym, ap, ◌∙◌}
+use Rattle.std.proofs.Common.{◌≡◌, Bool, List, [], ◌∷◌, sym, ap, ◌∙◌}
 use Rattle.std.specs.Prelude.{Option, Some, None}
 use Rattle.std.specs.Option.{option_or}
-use Rattle.rhd_value.specs.Tree.{Bytes, Tree}
+use Rattle.rhd_value.specs.Tree.{Bytes}
 use Rattle.rhd_value.specs.Firsts.{first_of}
 use Rattle.rhd_value.specs.declared.tag.TypeTag.{TypeTag}
 use Rattle.rhd_names.specs.declared.token.OpToken.{OpToken}
 use Rattle.rhd_func.specs.declared.request.CallShape.{CallShape}
-use Rattle.rhd_func.specs.declared.request.CallShape.TheVariants.{Plain, ByRef, Method}
 use Rattle.rhd_module.specs.declared.key.Key.{Key}
-use Rattle.rhd_module.specs.declared.key.Key.TheVariants.{Script, Typed, Native}
+use Rattle.rhd_module.specs.declared.key.Key.TheVariants.{Native}
 use Rattle.rhd_module.specs.Tree.{ModuleTree}
 use Rattle.rhd_call.specs.declared.pick.Pick.{Pick}
 use Rattle.rhd_engine.specs.Engine.{EngineLists, Imports}
-use Rattle.rhd_engine.specs.Display.{display}
 use Rattle.rhd_dispatch.specs.Searched.{found}
 use Rattle.rhd_dispatch.specs.Patterns.{patterns}
-use Rattle.rhd_dispatch.specs.Asks.{Asked, script, native, looked, params_of, typed_asks, allowed_asks, native_ask, native_found, builtin, pick_unqualified}
+use Rattle.rhd_dispatch.specs.Asks.{native, looked, allowed_asks, native_ask, native_found, builtin, pick_unqualified}
 use Rattle.rhd_dispatch.proofs.Firsts.{or_none, of_append}
 use Rattle.rhd_dispatch.proofs.PatternWalk.{exact_found}
 

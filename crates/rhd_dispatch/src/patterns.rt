@@ -33,14 +33,14 @@ fn find_from<L: Look>(
         return look.find(alloc, kinds);
     }
     let exact = kinds[place];
-    let found = find_from(alloc, look, kinds, place + 1)?;
-    if found.is_some() {
-        return Ok(found);
+    let kept = find_from(alloc, look, kinds, place + 1)?;
+    if kept.is_some() {
+        return Ok(kept);
     }
     kinds[place] = TypeTag::Dynamic;
-    let found = find_from(alloc, look, kinds, place + 1)?;
+    let changed = find_from(alloc, look, kinds, place + 1)?;
     kinds[place] = exact;
-    Ok(found)
+    Ok(changed)
 }
 
 /// The same where there is nothing for exactly these types: they aren't looked up again.
@@ -64,13 +64,13 @@ pub(crate) fn find_others<L: Look>(
     if place >= kinds.len() {
         return Ok(None);
     }
-    let exact = kinds[place];
-    let found = find_others(alloc, look, kinds, place + 1)?;
-    if found.is_some() {
-        return Ok(found);
+    let kind = kinds[place];
+    let others = find_others(alloc, look, kinds, place + 1)?;
+    if others.is_some() {
+        return Ok(others);
     }
     kinds[place] = TypeTag::Dynamic;
-    let found = find_from(alloc, look, kinds, place + 1)?;
-    kinds[place] = exact;
-    Ok(found)
+    let changed = find_from(alloc, look, kinds, place + 1)?;
+    kinds[place] = kind;
+    Ok(changed)
 }

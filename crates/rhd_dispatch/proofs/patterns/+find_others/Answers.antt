@@ -1,9 +1,6 @@
-use Rattle.std.proofs.Common.{◌≡◌, ◌≤◌, ◌<◌, ◌-◌, ◌+◌, length, take, drop, ap, sym, ◌∙◌, List, arith, slice_set}
-use Rattle.rhd_value.specs.declared.tag.TypeTag.{TypeTag}
-use Rattle.rhd_value.specs.declared.tag.TypeTag.TheVariants.{Dynamic}
+use Rattle.std.proofs.Common.{◌≤◌, ◌<◌, ◌-◌, length, ap, sym, ◌∙◌, arith}
 use Rattle.rhd_module.specs.Matching.{types_match}
-use Rattle.rhd_dispatch.specs.Walks.{first_match}
-use Rattle.rhd_dispatch.proofs.PatternWalk.{walk_prunes, walk_missed_last, walk_missed_over, walk_found, walk_passed, put_back}
+use Rattle.rhd_dispatch.proofs.PatternWalk.{walk_prunes, walk_missed_last, walk_missed_over, walk_found, walk_changed, back_changed}
 use Rattle.rhd_dispatch.proofs.patterns.+find_others.Goals as goal
 
 pub returns-then-not-may_match-clause-found : goal.returns-then-not-may_match-clause-found
@@ -24,19 +21,16 @@ returns-then-is_some-clause-found g m c =
     let look = g.L.Look.look c.args.look.now in
     let small : c.args.place < 16 = omega arith in
     let within : c.args.place < length c.args.kinds.now.items = omega (arith, c.len.ensures) in
-    walk_found look c.args.kinds.now.items c.args.place c.index-exact.result.now c.in_ok-found.found small within c.index-exact.ensures c.in_ok-found.ensures.found (sym c.is_some.ensures ∙ c.if-is_some.true)
+    walk_found look c.args.kinds.now.items c.args.place c.index-kind.result.now c.in_ok-others.others small within c.index-kind.ensures c.in_ok-others.ensures.found (sym c.is_some.ensures ∙ c.if-is_some.true)
 
 pub returns-clause-found : goal.returns-clause-found
 returns-clause-found g m c =
-    let look = g.L.Look.look c.args.look.now in
     let small : c.args.place < 16 = omega arith in
     let within : c.args.place < length c.args.kinds.now.items = omega (arith, c.len.ensures) in
-    let same = ap (λ (ks : List TypeTag). slice_set ks c.args.place Dynamic) c.in_ok-found.ensures.kept in
-    walk_passed look c.args.kinds.now.items c.args.place c.index-exact.result.now c.in_ok-found.found c.in_ok-found-2.found small within c.index-exact.ensures c.in_ok-found.ensures.found (sym c.is_some.ensures ∙ c.if-is_some.false)
-    (c.in_ok-found-2.ensures.found ∙ ap (λ (ks : List TypeTag). first_match look (take (c.args.place + 1) ks) (16 - (c.args.place + 1)) (drop (c.args.place + 1) ks)) same)
+    walk_changed (g.L.Look.look c.args.look.now) c.args.kinds.now.items _ c.args.place c.index-kind.result.now c.in_ok-others.others c.in_ok-changed.changed small within c.index-kind.ensures c.in_ok-others.ensures.kept
+    c.in_ok-others.ensures.found (sym c.is_some.ensures ∙ c.if-is_some.false) c.in_ok-changed.ensures.found
 
 pub returns-clause-kept : goal.returns-clause-kept
 returns-clause-kept g m c =
     let within : c.args.place < length c.args.kinds.now.items = omega (arith, c.len.ensures) in
-    ap (λ (ks : List TypeTag). slice_set ks c.args.place c.index-exact.result.now) (c.in_ok-found-2.ensures.kept ∙ ap (λ (ks : List TypeTag). slice_set ks c.args.place Dynamic) c.in_ok-found.ensures.kept)
-    ∙ put_back c.args.kinds.now.items c.args.place c.index-exact.result.now within c.index-exact.ensures
+    back_changed c.args.kinds.now.items _ _ c.args.place c.index-kind.result.now within c.index-kind.ensures c.in_ok-others.ensures.kept c.in_ok-changed.ensures.kept

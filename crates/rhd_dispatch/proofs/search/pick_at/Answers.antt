@@ -6,7 +6,6 @@ use Rattle.rhd_call.specs.declared.pick.Pick.{Pick}
 use Rattle.rhd_dispatch.proofs.Places.{found_there}
 use Rattle.rhd_dispatch.proofs.search.pick_at.Goals as goal
 
-
 pub returns-in_ok-dup-in-Some : goal.returns-in_ok-dup-in-Some
 returns-in_ok-dup-in-Some c =
     let pick : RhaiFunc → Option Pick = λ func. Some (record { layer = c.args.layer; func = func; source = None }) in

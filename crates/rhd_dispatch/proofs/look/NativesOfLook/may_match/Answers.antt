@@ -1,4 +1,4 @@
-use Rattle.std.proofs.Common.{◌≡◌, Bool, List, ap, sym, ◌∙◌}
+use Rattle.std.proofs.Common.{Bool, List, ap, sym, ◌∙◌}
 use Rattle.std.specs.List.{list_any}
 use Rattle.rhd_module.specs.Matching.{may_match}
 use Rattle.rhd_module.specs.Tree.{ModuleTree}
