@@ -1,61 +1,18 @@
--- The walk over the places of a pattern, and where no pattern is found.
-use Rattle.std.proofs.Common.{◌≡◌, ◌≤◌, ◌<◌, ℕ, ◌+◌, ◌-◌, Bool, true, false, cond, ◌&&◌, ◌||◌, ◌==◌, List, [], ◌∷◌, ◌++◌, length, map, take, drop, get_or, set, refl, sym, ap, ◌∙◌, arith, append_assoc}
-use Rattle.std.specs.Prelude.{zero, suc, Option, Some, None, reverse, option_map, is_some}
-use Rattle.std.specs.List.{list_any, enumerate_from}
-use Rattle.std.specs.Map.{lookup}
+-- The walk over the places of a pattern, over any look-up, and where no pattern is found.
+use Rattle.std.proofs.Common.{◌≡◌, ◌≤◌, ◌<◌, ℕ, ◌+◌, ◌-◌, Bool, true, false, ◌&&◌, ◌||◌, ◌==◌, List, [], ◌∷◌, ◌++◌, length, map, take, drop, get_or, set, refl, sym, ap, ◌∙◌, arith, append_assoc}
+use Rattle.std.specs.Prelude.{zero, suc, Option, Some, None, is_some}
 use Rattle.std.specs.Option.{option_or}
-use Rattle.std.proofs.lemmas.List.{reverse-append, take-append-drop, length-drop, take_more, take_more_set, drop-set-lt}
+use Rattle.std.proofs.lemmas.List.{take-append-drop, length-drop, take_more, take_more_set, drop-set-lt}
 use Rattle.std.proofs.Math.Seq.{drop-cons}
-use Rattle.rhd_value.specs.Tree.{Bytes}
 use Rattle.rhd_value.specs.Firsts.{first_of}
-use Rattle.rhd_value.specs.Same.{tag_eq, tag_eq-Decides, text_eq}
+use Rattle.rhd_value.specs.Same.{tag_eq, tag_eq-Decides}
 use Rattle.rhd_value.specs.declared.tag.TypeTag.{TypeTag}
 use Rattle.rhd_value.specs.declared.tag.TypeTag.TheVariants.{Dynamic}
-use Rattle.rhd_module.specs.declared.key.Key.{Key}
-use Rattle.rhd_module.specs.declared.key.Key.TheVariants.{Native}
-use Rattle.rhd_module.specs.declared.declaration.Declaration.{Declaration}
-use Rattle.rhd_module.specs.Keys.{key_eq, key_eq-Decides}
-use Rattle.rhd_module.specs.Matching.{types_match, key_matches, may_match}
-use Rattle.rhd_module.specs.Shown.{own_decl}
-use Rattle.rhd_module.specs.Tree.{ModuleTree, Pairs}
-use Rattle.std.proofs.lemmas.Slice.Eq.{bytes_eq-Decides}
-use Rattle.rhd_session.specs.declared.pick.Layer.{Layer}
-use Rattle.rhd_session.specs.declared.pick.Layer.TheVariants.{Library, Global}
-use Rattle.rhd_session.specs.declared.pick.Pick.{Pick}
-use Rattle.rhd_session.specs.Asks.{native, looked, native_found, builtin}
-use Rattle.rhd_names.specs.declared.token.OpToken.{OpToken}
-use Rattle.rhd_session.specs.Engine.{EngineLists, Frame}
-use Rattle.rhd_session.specs.Patterns.{patterns_to, patterns}
-use Rattle.rhd_session.specs.Searched.{own_place, pick_at, found}
-use Rattle.rhd_session.specs.Walks.{first_match, matched, native_in}
-
--- Lists of questions.
-
-pub of_append : {A B : Type 0} (f : A → Option B) (xs ys : List A) → first_of f (xs ++ ys) ≡ option_or (first_of f xs) (first_of f ys)
-of_append f [] ys = refl
-of_append {B = B} f (x ∷ xs) ys =
-    let by : (o : Option B) → option_or o (first_of f (xs ++ ys)) ≡ option_or (option_or o (first_of f xs)) (first_of f ys) = elim [ None ↦ of_append f xs ys | Some y ↦ refl ]
-    in by (f x)
-
-of_map : {A B C : Type 0} (f : B → Option C) (g : A → B) (xs : List A) → first_of f (map g xs) ≡ first_of (λ x. f (g x)) xs
-of_map f g [] = refl
-of_map f g (x ∷ xs) = ap (option_or (f (g x))) (of_map f g xs)
-
-or_parts : {A : Type 0} (a b : Option A) → option_or a b ≡ None → (a ≡ None) × (b ≡ None)
-or_parts None b h = (refl, h)
-or_parts (Some x) b h = absurd cc
-
-or_nones : {A : Type 0} (a b : Option A) → a ≡ None → b ≡ None → option_or a b ≡ None
-or_nones a b p q = (λ i. option_or (p i) (q i))
-
-or_found : {A : Type 0} (a b : Option A) (x : A) → a ≡ Some x → option_or a b ≡ Some x
-or_found a b x p = ap (λ (o : Option _). option_or o b) p
-
-none_reverse : {A B : Type 0} (f : A → Option B) (xs : List A) → first_of f xs ≡ None → first_of f (reverse xs) ≡ None
-none_reverse f [] h = refl
-none_reverse f (x ∷ xs) h =
-    let p = or_parts (f x) (first_of f xs) h in
-    ap (first_of f) (reverse-append (x ∷ []) xs) ∙ of_append f (reverse xs) (x ∷ []) ∙ or_nones (first_of f (reverse xs)) (option_or (f x) None) (none_reverse f xs p.1) (or_nones (f x) None p.0 refl)
+use Rattle.rhd_module.specs.Matching.{types_match}
+use Rattle.rhd_call.specs.declared.pick.Pick.{Pick}
+use Rattle.rhd_dispatch.specs.Patterns.{patterns_to}
+use Rattle.rhd_dispatch.specs.Walks.{first_match}
+use Rattle.rhd_dispatch.proofs.Firsts.{or_none, or_nones, or_found, of_append, of_map}
 
 -- One place more.
 
@@ -70,10 +27,6 @@ unfolding patterns_to
 walk_step look chosen n t ts =
     of_append (λ types. look (chosen ++ types)) (map (λ p. t ∷ p) (patterns_to n ts)) (map (λ p. Dynamic ∷ p) (patterns_to n ts))
     ∙ (λ i. option_or (chosen_next look chosen t (patterns_to n ts) i) (chosen_next look chosen Dynamic (patterns_to n ts) i))
-
-or_none : {A : Type 0} (o : Option A) → option_or o None ≡ o
-or_none None = refl
-or_none (Some a) = refl
 
 -- the last place
 pub walk_ends : (look : List TypeTag → Option Pick) (chosen : List TypeTag) (n : ℕ) (ts : List TypeTag) → (n ≡ 0) → first_match look chosen n ts ≡ look (chosen ++ ts)
@@ -139,56 +92,10 @@ prefix_matches (suc n) (k ∷ kinds) types h =
     let e : suc n - 1 ≡ n = omega arith in
     (λ i. (same_tag k i || ((suc n == 0) && tag_eq k Dynamic)) && types_match (e i) (take n kinds ++ types) kinds) ∙ prefix_matches n kinds types (omega arith)
 
-any_parts : (a b : Bool) → (a || b) ≡ false → (a ≡ false) × (b ≡ false)
-any_parts true b h = absurd cc
-any_parts false b h = (refl, h)
-
-same_text : (t : Bytes) → text_eq t t ≡ true
-same_text t = (bytes_eq-Decides t t).1 refl
-
-own_matches : (n : ℕ) (name : Bytes) (kinds types : List TypeTag) → types_match n types kinds ≡ true → key_matches n name kinds (Native None name types) ≡ true
-own_matches n name kinds types m = ap (λ (b : Bool). b && types_match n types kinds) (same_text name) ∙ m
-
-no_entry : (n : ℕ) (name : Bytes) (kinds types : List TypeTag) (ps : Pairs) → types_match n types kinds ≡ true → list_any (λ p. key_matches n name kinds p.0) ps ≡ false → lookup (key_eq (Native None name types)) ps ≡ None
-no_entry n name kinds types [] m h = refl
-no_entry n name kinds types (p ∷ ps) m h =
-    let r = any_parts (key_matches n name kinds p.0) (list_any (λ q. key_matches n name kinds q.0) ps) h in
-    let by : (b : Bool) → key_eq (Native None name types) p.0 ≡ b → cond b (Some p.1) (lookup (key_eq (Native None name types)) ps) ≡ None =
-    elim [
-      | true ↦ (λ e.
-          let same : Native None name types ≡ p.0 = (key_eq-Decides (Native None name types) p.0).0 e in
-          let q : true ≡ false = sym (own_matches n name kinds types m) ∙ ap (key_matches n name kinds) same ∙ r.0 in
-          absurd cc)
-      | false ↦ (λ e. no_entry n name kinds types ps m r.1)
-    ] in
-    by (key_eq (Native None name types) p.0) refl
-
-no_own : (layer : Layer) (n : ℕ) (name : Bytes) (kinds types : List TypeTag) (k : ℕ) (m : ModuleTree) → types_match n types kinds ≡ true → may_match m n name kinds ≡ false → pick_at (Native None name types) (own_place (λ i. layer) (k, m)) ≡ None
-unfolding own_decl
-no_own layer n name kinds types k m matches h = ap (option_map (λ (d : Declaration). record { layer = layer; func = d.func })) (no_entry n name kinds types m.own.eager matches h)
-
-no_place : (layer : ℕ → Layer) (n : ℕ) (name : Bytes) (kinds types : List TypeTag) (k : ℕ) (ms : List ModuleTree) → types_match n types kinds ≡ true → list_any (λ m. may_match m n name kinds) ms ≡ false
-    → first_of (λ y. pick_at (Native None name types) (own_place layer y)) (enumerate_from k ms) ≡ None
-no_place layer n name kinds types k [] matches h = refl
-no_place layer n name kinds types k (m ∷ ms) matches h =
-    let r = any_parts (may_match m n name kinds) (list_any (λ x. may_match x n name kinds) ms) h in
-    or_nones (pick_at (Native None name types) (own_place layer (k, m))) (first_of (λ y. pick_at (Native None name types) (own_place layer y)) (enumerate_from (k + 1) ms))
-    (no_own (layer k) n name kinds types k m matches r.0) (no_place layer n name kinds types (k + 1) ms matches r.1)
-
-not_found : (libs : List ModuleTree) (m : ModuleTree) (n : ℕ) (name : Bytes) (kinds types : List TypeTag) → types_match n types kinds ≡ true → matched libs (m ∷ []) n name kinds ≡ false → native_in libs m name types ≡ None
-not_found libs m n name kinds types matches h =
-    let r = any_parts (list_any (λ x. may_match x n name kinds) (m ∷ [])) (list_any (λ x. may_match x n name kinds) libs) h in
-    let key = Native None name types in
-    of_append (pick_at key) (map (own_place Library) (reverse (enumerate_from 0 libs))) (own_place Global (0, m) ∷ [])
-    ∙ or_nones (first_of (pick_at key) (map (own_place Library) (reverse (enumerate_from 0 libs)))) (first_of (pick_at key) (own_place Global (0, m) ∷ []))
-    (of_map (pick_at key) (own_place Library) (reverse (enumerate_from 0 libs)) ∙ none_reverse (λ y. pick_at key (own_place Library y)) (enumerate_from 0 libs) (no_place Library n name kinds types 0 libs matches r.1))
-    (no_place Global n name kinds types 0 (m ∷ []) matches r.0)
-
--- no pattern is found where no module may have one
-pub walk_prunes : (libs : List ModuleTree) (m : ModuleTree) (name : Bytes) (kinds : List TypeTag) (place n : ℕ) → place ≤ length kinds → matched libs (m ∷ []) place name kinds ≡ false → first_match (native_in libs m name) (take place kinds) n (drop place kinds) ≡ None
-walk_prunes libs m name kinds place n within h =
-    none_matches (native_in libs m name) (take place kinds) n (drop place kinds)
-    (λ types matches. not_found libs m place name kinds (take place kinds ++ types) (prefix_matches place kinds types within ∙ matches) h)
+-- no pattern is found where the test says that nothing may match
+pub walk_prunes : (look : List TypeTag → Option Pick) (kinds : List TypeTag) (place n : ℕ) → place ≤ length kinds → ((types : List TypeTag) → types_match place types kinds ≡ true → look types ≡ None) → first_match look (take place kinds) n (drop place kinds) ≡ None
+walk_prunes look kinds place n within h =
+    none_matches look (take place kinds) n (drop place kinds) (λ types matches. h (take place kinds ++ types) (prefix_matches place kinds types within ∙ matches))
 
 -- the places that a walk has passed
 pub walk_last : (look : List TypeTag → Option Pick) (kinds : List TypeTag) (place : ℕ) (o : Option Pick) → 16 ≤ place → o ≡ look kinds → o ≡ first_match look (take place kinds) (16 - place) (drop place kinds)
@@ -221,38 +128,31 @@ pub walk_found : (look : List TypeTag → Option Pick) (kinds : List TypeTag) (p
 walk_found look kinds place t None small within is h some = absurd cc
 walk_found look kinds place t (Some pick) small within is h some = sym (on_by look kinds place t small within is ∙ ap (λ (o : Option Pick). option_or o (first_match look (take (place + 1) (set kinds place Dynamic)) (16 - (place + 1)) (drop (place + 1) (set kinds place Dynamic)))) (sym h))
 
-pub walk_passed : (look : List TypeTag → Option Pick) (kinds : List TypeTag) (place : ℕ) (t : TypeTag) (o last : Option Pick) → place < 16 → place < length kinds → t ≡ get_or kinds place t
+walk_passed : (look : List TypeTag → Option Pick) (kinds : List TypeTag) (place : ℕ) (t : TypeTag) (o last : Option Pick) → place < 16 → place < length kinds → t ≡ get_or kinds place t
     → o ≡ first_match look (take (place + 1) kinds) (16 - (place + 1)) (drop (place + 1) kinds) → is_some o ≡ false
     → last ≡ first_match look (take (place + 1) (set kinds place Dynamic)) (16 - (place + 1)) (drop (place + 1) (set kinds place Dynamic)) → last ≡ first_match look (take place kinds) (16 - place) (drop place kinds)
 walk_passed look kinds place t (Some pick) last small within is h none e = absurd cc
 walk_passed look kinds place t None last small within is h none e = e ∙ sym (on_by look kinds place t small within is ∙ ap (λ (o : Option Pick). option_or o (first_match look (take (place + 1) (set kinds place Dynamic)) (16 - (place + 1)) (drop (place + 1) (set kinds place Dynamic)))) (sym h))
 
 -- a type is put back
-pub put_back : (kinds : List TypeTag) (place : ℕ) (t : TypeTag) → place < length kinds → t ≡ get_or kinds place t → set (set kinds place Dynamic) place t ≡ kinds
+put_back : (kinds : List TypeTag) (place : ℕ) (t : TypeTag) → place < length kinds → t ≡ get_or kinds place t → set (set kinds place Dynamic) place t ≡ kinds
 put_back [] place t h is = absurd (omega arith)
 put_back (k ∷ kinds) zero t h is = ap (λ (x : TypeTag). x ∷ kinds) is
 put_back (k ∷ kinds) (suc place) t h is = ap (λ (ks : List TypeTag). k ∷ ks) (put_back kinds place t (omega arith) is)
 
--- what the native ask gives, by the walk in one global module
-in_engine : (e : EngineLists) (f : Frame) (m : ModuleTree) (name : Bytes) (types : List TypeTag) → e.globals ≡ m ∷ [] → native_in f.libs m name types ≡ native_found e f name types
-in_engine e f m name types one = (λ i. first_of (pick_at (Native None name types)) (map (own_place Library) (reverse (enumerate_from 0 f.libs)) ++ map (own_place Global) (enumerate_from 0 (sym one i))))
+-- the same where a call gave the types back before that place was changed
+pub walk_changed : (look : List TypeTag → Option Pick) (kinds same : List TypeTag) (place : ℕ) (t : TypeTag) (o last : Option Pick) → place < 16 → place < length kinds → t ≡ get_or kinds place t → same ≡ kinds
+    → o ≡ first_match look (take (place + 1) kinds) (16 - (place + 1)) (drop (place + 1) kinds) → is_some o ≡ false
+    → last ≡ first_match look (take (place + 1) (set same place Dynamic)) (16 - (place + 1)) (drop (place + 1) (set same place Dynamic)) → last ≡ first_match look (take place kinds) (16 - place) (drop place kinds)
+walk_changed look kinds same place t o last small within is k h none e =
+    walk_passed look kinds place t o last small within is h none (e ∙ ap (λ (ks : List TypeTag). first_match look (take (place + 1) (set ks place Dynamic)) (16 - (place + 1)) (drop (place + 1) (set ks place Dynamic))) k)
 
-pub walked : (e : EngineLists) (f : Frame) (m : ModuleTree) (name : Bytes) (kinds same : List TypeTag) → e.globals ≡ m ∷ [] → kinds ≡ same → first_match (native_in f.libs m name) [] 16 kinds ≡ first_of (native_found e f name) (patterns same)
-walked e f m name kinds same one k = (λ i. first_of (λ types. in_engine e f m name types one i) (patterns_to 16 (k i)))
+pub back_changed : (kinds same last : List TypeTag) (place : ℕ) (t : TypeTag) → place < length kinds → t ≡ get_or kinds place t → same ≡ kinds → last ≡ set same place Dynamic → set last place t ≡ kinds
+back_changed kinds same last place t within is k e = ap (λ (ks : List TypeTag). set ks place t) (e ∙ ap (λ (ks : List TypeTag). set ks place Dynamic) k) ∙ put_back kinds place t within is
 
-pub looked_declared : (e : EngineLists) (f : Frame) (m : ModuleTree) (name : Bytes) (token : Option OpToken) (kinds same : List TypeTag) (o : Option Pick) (pick : Pick) → e.globals ≡ m ∷ [] → kinds ≡ same
-    → o ≡ first_match (native_in f.libs m name) [] 16 kinds → o ≡ Some pick → ◌≡◌ {A = Option Pick} (Some pick) (looked e f (native name same token))
-looked_declared e f m name token kinds same o pick one k is some =
-    sym (ap (λ (x : Option Pick). option_or x (builtin e token same)) (sym (walked e f m name kinds same one k) ∙ sym is ∙ some))
+-- nothing is asked again at the last place, where there is nothing for the exact types
+pub walk_missed_last : (look : List TypeTag → Option Pick) (kinds : List TypeTag) (place : ℕ) → 16 ≤ place → look kinds ≡ None → ◌≡◌ {A = Option Pick} None (first_match look (take place kinds) (16 - place) (drop place kinds))
+walk_missed_last look kinds place h missed = walk_last look kinds place None h (sym missed)
 
-pub looked_built : (e : EngineLists) (f : Frame) (m : ModuleTree) (name : Bytes) (token : Option OpToken) (kinds same : List TypeTag) (o last : Option Pick) → e.globals ≡ m ∷ [] → kinds ≡ same
-    → o ≡ first_match (native_in f.libs m name) [] 16 kinds → o ≡ None → last ≡ builtin e token kinds → last ≡ looked e f (native name same token)
-looked_built e f m name token kinds same o last one k is none built =
-    built ∙ ap (builtin e token) k ∙ sym (ap (λ (x : Option Pick). option_or x (builtin e token same)) (sym (walked e f m name kinds same one k) ∙ sym is ∙ none))
-
--- the exact kinds are the first pattern
-pub looked_exact : (e : EngineLists) (f : Frame) (name : Bytes) (token : Option OpToken) (kinds same : List TypeTag) (key : Key) (o : Option Pick) (pick : Pick) → key ≡ Native None name kinds → kinds ≡ same
-    → o ≡ found e f key → o ≡ Some pick → ◌≡◌ {A = Option Pick} (Some pick) (looked e f (native name same token))
-looked_exact e f name token kinds same key o pick by k is some =
-    let h : native_found e f name same ≡ Some pick = ap (native_found e f name) (sym k) ∙ ap (found e f) (sym by) ∙ sym is ∙ some in
-    sym (ap (λ (x : Option Pick). option_or x (builtin e token same)) (exact_found (native_found e f name) 16 same pick h))
+pub walk_missed_over : (look : List TypeTag → Option Pick) (kinds : List TypeTag) (place : ℕ) → length kinds ≤ place → look kinds ≡ None → ◌≡◌ {A = Option Pick} None (first_match look (take place kinds) (16 - place) (drop place kinds))
+walk_missed_over look kinds place h missed = walk_over look kinds place None h (sym missed)

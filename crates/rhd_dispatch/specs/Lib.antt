@@ -1,3 +1,4 @@
 pub mod Searched
 pub mod Patterns
 pub mod Asks
+pub mod Walks

@@ -1,5 +1,5 @@
 use Rattle.std.proofs.Common.{◌-◌}
-use Rattle.rhd_session.proofs.patterns.+find_from.Given as goal
+use Rattle.rhd_dispatch.proofs.patterns.+find_from.Given as goal
 
 abbrev pub decreases-find_from : goal.decreases-find_from
-decreases-find_from l = 16 - l.place
+decreases-find_from g l = 16 - l.place

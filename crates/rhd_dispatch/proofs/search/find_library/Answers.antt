@@ -1,6 +1,6 @@
 use Rattle.std.proofs.Common.{◌≡◌, ◌<◌, ◌≤◌, ◌+◌, ◌-◌, length, arith}
-use Rattle.rhd_session.proofs.Places.{library_found, library_passed}
-use Rattle.rhd_session.proofs.search.find_library.Goals as goal
+use Rattle.rhd_dispatch.proofs.Places.{library_found, library_passed}
+use Rattle.rhd_dispatch.proofs.search.find_library.Goals as goal
 
 pub returns-in-Some : goal.returns-in-Some
 returns-in-Some c =

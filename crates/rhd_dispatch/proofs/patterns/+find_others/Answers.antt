@@ -1,0 +1,36 @@
+use Rattle.std.proofs.Common.{◌≤◌, ◌<◌, ◌-◌, length, ap, sym, ◌∙◌, arith}
+use Rattle.rhd_module.specs.Matching.{types_match}
+use Rattle.rhd_dispatch.proofs.PatternWalk.{walk_prunes, walk_missed_last, walk_missed_over, walk_found, walk_changed, back_changed}
+use Rattle.rhd_dispatch.proofs.patterns.+find_others.Goals as goal
+
+pub returns-then-not-may_match-clause-found : goal.returns-then-not-may_match-clause-found
+returns-then-not-may_match-clause-found g m c =
+    sym (walk_prunes (g.L.Look.look c.args.look.now) c.args.kinds.now.items c.args.place (16 - c.args.place) c.requires.within
+    (λ types matches. c.may_match.ensures c.if-not-may_match.true types (ap (types_match c.args.place types) c.deref.ensures.value ∙ matches)))
+
+pub returns-then-place-ge-MOST_CHANGED-clause-found : goal.returns-then-place-ge-MOST_CHANGED-clause-found
+returns-then-place-ge-MOST_CHANGED-clause-found g m c = walk_missed_last (g.L.Look.look c.args.look.now) c.args.kinds.now.items c.args.place c.if-place-ge-MOST_CHANGED.true c.requires.missed
+
+pub returns-then-place-len-clause-found : goal.returns-then-place-len-clause-found
+returns-then-place-len-clause-found g m c =
+    let past : length c.args.kinds.now.items ≤ c.args.place = omega (arith, c.len.ensures, c.if-place-len.true) in
+    walk_missed_over (g.L.Look.look c.args.look.now) c.args.kinds.now.items c.args.place past c.requires.missed
+
+pub returns-then-is_some-clause-found : goal.returns-then-is_some-clause-found
+returns-then-is_some-clause-found g m c =
+    let look = g.L.Look.look c.args.look.now in
+    let small : c.args.place < 16 = omega arith in
+    let within : c.args.place < length c.args.kinds.now.items = omega (arith, c.len.ensures) in
+    walk_found look c.args.kinds.now.items c.args.place c.index-kind.result.now c.in_ok-others.others small within c.index-kind.ensures c.in_ok-others.ensures.found (sym c.is_some.ensures ∙ c.if-is_some.true)
+
+pub returns-clause-found : goal.returns-clause-found
+returns-clause-found g m c =
+    let small : c.args.place < 16 = omega arith in
+    let within : c.args.place < length c.args.kinds.now.items = omega (arith, c.len.ensures) in
+    walk_changed (g.L.Look.look c.args.look.now) c.args.kinds.now.items _ c.args.place c.index-kind.result.now c.in_ok-others.others c.in_ok-changed.changed small within c.index-kind.ensures c.in_ok-others.ensures.kept
+    c.in_ok-others.ensures.found (sym c.is_some.ensures ∙ c.if-is_some.false) c.in_ok-changed.ensures.found
+
+pub returns-clause-kept : goal.returns-clause-kept
+returns-clause-kept g m c =
+    let within : c.args.place < length c.args.kinds.now.items = omega (arith, c.len.ensures) in
+    back_changed c.args.kinds.now.items _ _ c.args.place c.index-kind.result.now within c.index-kind.ensures c.in_ok-others.ensures.kept c.in_ok-changed.ensures.kept

@@ -1,0 +1,66 @@
+//! Look-ups of natives by their types.
+
+ghost use Rattle.std.specs.Prelude.{◌≡◌, false, true, List, Option, None, IfOk};
+ghost use Rattle.std.specs.List.{list_any};
+ghost use Rattle.rhd_value.specs.declared.tag.TypeTag.{TypeTag};
+ghost use Rattle.rhd_module.specs.Matching.{types_match, may_match as may_have};
+ghost use Rattle.rhd_call.specs.declared.pick.Pick.{Pick};
+ghost use Rattle.rhd_dispatch.specs.Walks.{native_in};
+
+use crate::keys::native_key_of;
+use crate::search::find;
+use rhd_call::Pick;
+use rhd_engine::{Engine, GlobalRuntimeState};
+use rhd_module::SharedModule;
+use rhd_value::{OutOfMemory, Text, TypeTag, Types};
+use std::alloc::Global;
+
+/// A look-up of natives, and a test that saves look-ups.
+pub(crate) trait Look {
+    /// What there is for a list of types.
+    ghost look: { Self → List TypeTag → Option Pick };
+
+    /// What there is for these types.
+    fn find(&self, alloc: Global, types: &[TypeTag]) -> Result<Option<Pick>, OutOfMemory>
+        ensures { IfOk result (λ pick. pick ≡ look self.now types.now) };
+
+    /// False only where there is nothing for any types each of which is its kind, or, behind the first
+    /// `place` ones, `Dynamic`.
+    fn may_match(&self, place: usize, kinds: &[TypeTag]) -> bool
+        ensures { result ≡ false → (types : List TypeTag) → types_match place types kinds.now ≡ true → look self.now types ≡ None };
+}
+
+/// The look-up of natives of one name in libraries and global modules.
+#[derive(Clone, Copy)]
+pub(crate) struct NativesOf<'a> {
+    pub engine: &'a Engine,
+    pub state: &'a GlobalRuntimeState,
+    pub name: &'a Text,
+}
+
+/// Whether some module may have a native of this name for these kinds, where the types before a place
+/// are exact.
+fn any_may_match(modules: &[SharedModule], place: usize, name: &Text, kinds: &[TypeTag]) -> bool
+    ensures { result ≡ list_any (λ m. may_have m place name.now kinds.now) modules.now }
+{
+    for shared in modules {
+        if shared.module().may_match(place, name, kinds) {
+            return true;
+        }
+    }
+    false
+}
+
+impl Look for NativesOf<'_> {
+    ghost look = { λ s types. native_in s.state.now.lib s.engine.now.globals s.name.now types };
+
+    fn find(&self, alloc: Global, types: &[TypeTag]) -> Result<Option<Pick>, OutOfMemory> {
+        let key = native_key_of(self.name.dup(alloc)?, Types::from_slice(alloc, types)?);
+        find(alloc, self.engine, self.state, &key)
+    }
+
+    fn may_match(&self, place: usize, kinds: &[TypeTag]) -> bool {
+        any_may_match(self.engine.global_modules(), place, self.name, kinds)
+            || any_may_match(self.state.lib.as_slice(), place, self.name, kinds)
+    }
+}
