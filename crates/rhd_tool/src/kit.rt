@@ -104,15 +104,18 @@ impl PluginFunc for KitFn {
 }
 
 /// How many natives the kit has.
-pub(crate) const KIT_LEN: usize = 20;
+pub const KIT_LEN: usize = 20;
 
 /// Puts the kit's natives into an empty table, in the order of their numbers. Where memory ran out,
-/// goes on with the expression `$give_up`, which is to leave the function.
+/// goes on with the expression `$give_up`, which is to leave the function. The function that calls it
+/// names `Natives` and `PluginFunc`: a box is made where it is put into a table, and no function hands
+/// one out.
+#[macro_export]
 macro_rules! kit {
     ($alloc:expr, $natives:ident, $give_up:expr) => {
-        while $natives.len() < KIT_LEN {
+        while $natives.len() < $crate::KIT_LEN {
             let number = $natives.len() as u32;
-            let Ok(made) = Box::new($alloc, KitFn::new(number)) else {
+            let Ok(made) = Box::new($alloc, $crate::KitFn::new(number)) else {
                 $give_up
             };
             let native: Box<dyn PluginFunc> = made;
@@ -122,5 +125,3 @@ macro_rules! kit {
         }
     };
 }
-
-pub(crate) use kit;

@@ -8,7 +8,7 @@ mod runs;
 mod searches;
 mod texts;
 
-use crate::kit::{KIT_LEN, KitFn, kit};
+use crate::kit;
 use crate::sink::Sink;
 use crate::source::Source;
 use crate::tool::{ToolEnd, run_tool};

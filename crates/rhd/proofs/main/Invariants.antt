@@ -1,5 +1,5 @@
 use Rattle.std.proofs.Common.{◌≤◌, ◌-◌, length}
-use Rattle.rhd_tool.proofs.main.Given as goal
+use Rattle.rhd.proofs.main.Given as goal
 
 abbrev pub invariant-loop-natives : goal.invariant-loop-natives
 invariant-loop-natives l = length l.natives.items.items ≤ 20

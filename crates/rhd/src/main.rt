@@ -1,27 +1,12 @@
-//! Reads a session text, and prints the replies.
+//! The program: reads a session text, and prints the replies.
 #![tactic(auto)]
-
-mod kit;
-mod plan_bodies;
-mod reading;
-mod sink;
-mod source;
-mod table_host;
-#[cfg(test)]
-mod tests;
-mod tool;
-mod values;
-mod writing;
 
 ghost use Rattle.std.specs.Prelude.{◌≡◌, ◌≢◌};
 ghost use Rattle.std.specs.IoError.{error_kind};
 ghost use Rattle.std.specs.declared.io.ErrorKind.TheVariants.{OutOfMemory};
 
-use crate::kit::{KIT_LEN, KitFn, kit};
-use crate::sink::Writing;
-use crate::source::Reading;
-use crate::tool::run_tool;
 use rhd_func::{Natives, PluginFunc};
+use rhd_tool::{Reading, Writing, kit, run_tool};
 use std::alloc::{AllocError, Global};
 use std::process::ExitCode;
 use std::{env, io, mem};
