@@ -2,3 +2,4 @@ pub mod Natives
 pub mod Funcs
 pub mod Shapes
 pub mod GivenBack
+pub mod Infos

@@ -2,8 +2,11 @@
 
 ghost use Rattle.std.specs.Prelude.{◌≡◌, IfOk};
 ghost use Rattle.rhd_func.specs.Funcs.{is_pure, is_volatile, is_method, has_context, is_script, native_of};
+ghost use Rattle.rhd_func.specs.Infos.{infos_in};
 
 use crate::access::{EnvId, FnAccess};
+use crate::natives::Natives;
+use crate::request::dup_text;
 use rhd_value::{FnId, OutOfMemory, Text, Texts};
 use std::alloc::{AllocFailed, Global};
 use std::marker::Model;
@@ -23,6 +26,21 @@ pub struct ScriptFuncDef {
     pub this_type: Option<Text>,
     pub access: FnAccess,
     pub body: BodyId,
+}
+
+impl ScriptFuncDef {
+    /// An equal definition.
+    pub fn dup(&self, alloc: Global) -> Result<ScriptFuncDef, OutOfMemory>
+        ensures { IfOk result (λ def. def ≡ self.now) }
+    {
+        Ok(ScriptFuncDef {
+            name: self.name.dup(alloc)?,
+            params: self.params.dup(alloc)?,
+            this_type: dup_text(alloc, &self.this_type)?,
+            access: self.access,
+            body: self.body,
+        })
+    }
 }
 
 /// A definition with several owners. Contracts see the definition itself.
@@ -94,8 +112,8 @@ pub enum RhaiFunc {
 impl RhaiFunc {
     /// Whether it may be called on a constant. One that takes all its arguments by value always
     /// may. Of a script nothing of this kind is said.
-    pub fn is_pure(&self) -> bool
-        ensures { result ≡ is_pure self.now }
+    pub fn is_pure(&self, natives: &Natives) -> bool
+        ensures { result ≡ is_pure (infos_in info natives.now.items.items) self.now }
     {
         match self {
             RhaiFunc::Pure { .. } => true,
@@ -105,8 +123,8 @@ impl RhaiFunc {
     }
 
     /// Whether it may answer otherwise the next time. A script always may.
-    pub fn is_volatile(&self) -> bool
-        ensures { result ≡ is_volatile self.now }
+    pub fn is_volatile(&self, natives: &Natives) -> bool
+        ensures { result ≡ is_volatile (infos_in info natives.now.items.items) self.now }
     {
         match self {
             RhaiFunc::Pure { is_volatile, .. } => *is_volatile,
@@ -116,8 +134,8 @@ impl RhaiFunc {
     }
 
     /// Whether it is a native that takes its first argument by reference.
-    pub fn is_method(&self) -> bool
-        ensures { result ≡ is_method self.now }
+    pub fn is_method(&self, natives: &Natives) -> bool
+        ensures { result ≡ is_method (infos_in info natives.now.items.items) self.now }
     {
         match self {
             RhaiFunc::Pure { .. } => false,
@@ -127,8 +145,8 @@ impl RhaiFunc {
     }
 
     /// Whether it is a native that is handed the context of the call. A script always is.
-    pub fn has_context(&self) -> bool
-        ensures { result ≡ has_context self.now }
+    pub fn has_context(&self, natives: &Natives) -> bool
+        ensures { result ≡ has_context (infos_in info natives.now.items.items) self.now }
     {
         match self {
             RhaiFunc::Pure { has_context, .. } => *has_context,

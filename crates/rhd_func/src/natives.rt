@@ -3,6 +3,7 @@
 ghost use Rattle.std.specs.Prelude.{◌≡◌, ◌<◌, ◌+◌, ◌^◌, ◌++◌, ◌∷◌, [], IfOk, IfErr, OnOk, length, slice_get, Some};
 ghost use Rattle.std.specs.Option.{option_copied};
 ghost use Rattle.rhd_func.specs.Natives.{StartAllowed, ResumeAllowed};
+ghost use Rattle.rhd_func.specs.GivenBack.{GivesBack};
 
 use crate::native::PluginFunc;
 use crate::request::{CallDone, Carry, NativeCallContext, NativeStep};
@@ -23,7 +24,8 @@ fn call_box(
     first: Option<Dynamic>,
     args: Values,
 ) -> Result<NativeStep, OutOfMemory>
-    ensures { IfOk result (λ step. allows_call native.now (option_copied ctx.entry) first args step) }
+    ensures step { IfOk result (λ step. allows_call native.now (option_copied ctx.entry) first args step) }
+    ensures back { IfOk result (GivesBack first) }
 {
     native.call(alloc, ctx, first, args)
 }
@@ -36,7 +38,8 @@ fn resume_box(
     carry: Carry,
     done: CallDone,
 ) -> Result<NativeStep, OutOfMemory>
-    ensures { IfOk result (λ step. allows_resume native.now (option_copied ctx.entry) carry done step) }
+    ensures step { IfOk result (λ step. allows_resume native.now (option_copied ctx.entry) carry done step) }
+    ensures back { IfOk result (GivesBack carry.first) }
 {
     native.resume(alloc, ctx, carry, done)
 }
@@ -82,7 +85,7 @@ impl Natives {
         self.items.len()
     }
 
-    /// Calls the native of a number.
+    /// Calls the native of a number. A first argument is given back exactly where one was given.
     pub fn start(
         &self,
         alloc: Global,
@@ -92,12 +95,14 @@ impl Natives {
         args: Values,
     ) -> Result<NativeStep, OutOfMemory>
         requires { id.0 < length self.now.items.items }
-        ensures { IfOk result (StartAllowed allows_call self.now.items.items id (option_copied ctx.entry) first args) }
+        ensures step { IfOk result (StartAllowed allows_call self.now.items.items id (option_copied ctx.entry) first args) }
+        ensures back { IfOk result (GivesBack first) }
     {
         call_box(&self.items[id.0 as usize], alloc, ctx, first, args)
     }
 
-    /// Goes on with the native of a number.
+    /// Goes on with the native of a number. A first argument is given back exactly where the carry has
+    /// one.
     pub fn resume(
         &self,
         alloc: Global,
@@ -107,7 +112,8 @@ impl Natives {
         done: CallDone,
     ) -> Result<NativeStep, OutOfMemory>
         requires { id.0 < length self.now.items.items }
-        ensures { IfOk result (ResumeAllowed allows_resume self.now.items.items id (option_copied ctx.entry) carry done) }
+        ensures step { IfOk result (ResumeAllowed allows_resume self.now.items.items id (option_copied ctx.entry) carry done) }
+        ensures back { IfOk result (GivesBack carry.first) }
     {
         resume_box(&self.items[id.0 as usize], alloc, ctx, carry, done)
     }

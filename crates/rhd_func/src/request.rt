@@ -6,6 +6,26 @@ use rhd_names::OpToken;
 use rhd_value::{Dynamic, EvalAltResult, OutOfMemory, Position, Text, TypeTag, Values};
 use std::alloc::Global;
 
+/// An equal text, where there is one.
+pub(crate) fn dup_text(alloc: Global, text: &Option<Text>) -> Result<Option<Text>, OutOfMemory>
+    ensures { IfOk result (λ made. made ≡ text.now) }
+{
+    match text {
+        Some(text) => Ok(Some(text.dup(alloc)?)),
+        None => Ok(None),
+    }
+}
+
+/// An equal value, where there is one.
+fn dup_first(alloc: Global, first: &Option<Dynamic>) -> Result<Option<Dynamic>, OutOfMemory>
+    ensures { IfOk result (λ made. made ≡ first.now) }
+{
+    match first {
+        Some(first) => Ok(Some(first.dup(alloc)?)),
+        None => Ok(None),
+    }
+}
+
 /// The arguments of a call.
 #[derive(Drop)]
 pub enum CallShape {
@@ -90,12 +110,8 @@ impl Carry {
     pub fn dup(&self, alloc: Global) -> Result<Carry, OutOfMemory>
         ensures { IfOk result (λ carry. carry ≡ self.now) }
     {
-        let first = match &self.first {
-            Some(first) => Some(first.dup(alloc)?),
-            None => None,
-        };
         Ok(Carry {
-            first,
+            first: dup_first(alloc, &self.first)?,
             kept: self.kept.dup(alloc)?,
         })
     }
@@ -107,6 +123,25 @@ pub struct CallDone {
     pub answer: Result<Dynamic, EvalAltResult>,
     /// The first argument by reference, as it is after the call.
     pub first: Option<Dynamic>,
+}
+
+impl CallDone {
+    /// An equal one.
+    pub fn dup(&self, alloc: Global) -> Result<CallDone, OutOfMemory>
+        ensures { IfOk result (λ done. done ≡ self.now) }
+    {
+        let first = dup_first(alloc, &self.first)?;
+        match &self.answer {
+            Ok(answer) => Ok(CallDone {
+                answer: Ok(answer.dup(alloc)?),
+                first,
+            }),
+            Err(fault) => Ok(CallDone {
+                answer: Err(fault.dup(alloc)?),
+                first,
+            }),
+        }
+    }
 }
 
 /// What a function made of its call so far. A first argument that was given is given back.
@@ -127,6 +162,28 @@ pub enum NativeStep {
     },
 }
 
+impl NativeStep {
+    /// An equal step.
+    pub fn dup(&self, alloc: Global) -> Result<NativeStep, OutOfMemory>
+        ensures { IfOk result (λ step. step ≡ self.now) }
+    {
+        match self {
+            NativeStep::Done { answer, first } => Ok(NativeStep::Done {
+                answer: answer.dup(alloc)?,
+                first: dup_first(alloc, first)?,
+            }),
+            NativeStep::Failed { fault, first } => Ok(NativeStep::Failed {
+                fault: fault.dup(alloc)?,
+                first: dup_first(alloc, first)?,
+            }),
+            NativeStep::Ask { request, carry } => Ok(NativeStep::Ask {
+                request: request.dup(alloc)?,
+                carry: carry.dup(alloc)?,
+            }),
+        }
+    }
+}
+
 /// What the host answers to a call that no function answers.
 #[derive(Drop)]
 pub enum HostAnswer {
@@ -134,6 +191,19 @@ pub enum HostAnswer {
     Nothing,
     Value(Dynamic),
     Fault(EvalAltResult),
+}
+
+impl HostAnswer {
+    /// An equal answer.
+    pub fn dup(&self, alloc: Global) -> Result<HostAnswer, OutOfMemory>
+        ensures { IfOk result (λ answer. answer ≡ self.now) }
+    {
+        match self {
+            HostAnswer::Nothing => Ok(HostAnswer::Nothing),
+            HostAnswer::Value(value) => Ok(HostAnswer::Value(value.dup(alloc)?)),
+            HostAnswer::Fault(fault) => Ok(HostAnswer::Fault(fault.dup(alloc)?)),
+        }
+    }
 }
 
 /// What a native may know of the call.
@@ -151,4 +221,20 @@ pub struct NativeCallContext {
     pub level: u32,
     /// The tag of the run.
     pub tag: Dynamic,
+}
+
+impl NativeCallContext {
+    /// An equal context.
+    pub fn dup(&self, alloc: Global) -> Result<NativeCallContext, OutOfMemory>
+        ensures { IfOk result (λ ctx. ctx ≡ self.now) }
+    {
+        Ok(NativeCallContext {
+            name: self.name.dup(alloc)?,
+            source: dup_text(alloc, &self.source)?,
+            call_source: dup_text(alloc, &self.call_source)?,
+            pos: self.pos,
+            level: self.level,
+            tag: self.tag.dup(alloc)?,
+        })
+    }
 }

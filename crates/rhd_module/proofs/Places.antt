@@ -10,12 +10,12 @@ use Rattle.rhd_value.specs.declared.tag.TypeTag.{TypeTag}
 use Rattle.rhd_module.specs.declared.key.Key.{Key}
 use Rattle.rhd_module.specs.declared.key.Key.TheVariants.{Script, Typed, Native}
 use Rattle.rhd_module.specs.declared.declaration.Declaration.{Declaration}
-use Rattle.rhd_module.specs.declared.natives.Natives.{Natives}
+use Rattle.rhd_module.specs.declared.native_index.NativeIndex.{NativeIndex}
 use Rattle.rhd_module.specs.Keys.{key_eq}
 use Rattle.rhd_module.specs.Tree.{Pairs}
 use Rattle.rhd_module.specs.Registered.{put}
 use Rattle.rhd_module.specs.Matching.{types_match, key_matches}
-use Rattle.rhd_module.specs.Natives.{is_native_of, places_from, place_at, noted, IsIndex}
+use Rattle.rhd_module.specs.NativeIndex.{is_native_of, places_from, place_at, noted, IsIndex}
 
 behind : (own : Bool) (n : ℕ) (xs ys : List ℕ) → cond own (n ∷ (xs ++ ys)) (xs ++ ys) ≡ cond own (n ∷ xs) xs ++ ys
 behind true n xs ys = refl
@@ -56,13 +56,13 @@ take_put k d [] e = refl
 take_put k d (p ∷ ps) e = take_put_step k d p ps (key_eq k p.0) refl (take_put k d ps) e
 
 -- an index stays the index once an equal key's declaration is put
-pub index_put_there : (natives : Natives) (k : Key) (d : Declaration) (ps : Pairs) → IsIndex natives ps → is_none (lookup (key_eq k) ps) ≡ false → IsIndex natives (put k d ps)
+pub index_put_there : (natives : NativeIndex) (k : Key) (d : Declaration) (ps : Pairs) → IsIndex natives ps → is_none (lookup (key_eq k) ps) ≡ false → IsIndex natives (put k d ps)
 index_put_there natives k d ps index there name =
     index name ∙ sym (append-nil (places_from 0 name ps)) ∙ ap (λ (b : Bool). places_from 0 name ps ++ cond (b && is_native_of name k) (length ps ∷ []) []) (sym there)
     ∙ sym (places_put 0 (length ps) name k d ps (omega arith))
 
 -- an index that notes a new key's place is the index once the key is put
-pub index_put_last : (old new : Natives) (k : Key) (d : Declaration) (ps : Pairs) → IsIndex old ps → is_none (lookup (key_eq k) ps) ≡ true
+pub index_put_last : (old new : NativeIndex) (k : Key) (d : Declaration) (ps : Pairs) → IsIndex old ps → is_none (lookup (key_eq k) ps) ≡ true
     → ((name : Bytes) → noted new name ≡ noted old name ++ place_at name (put k d ps) (length ps)) → IsIndex new (put k d ps)
 index_put_last old new k d ps index absent notes name =
     notes name ∙ ap (λ (o : Option (Key × Declaration)). noted old name ++ cond (option_map_or (λ p. is_native_of name p.0) o false) (length ps ∷ []) []) (slice_last k d ps absent)
@@ -104,7 +104,7 @@ own_matches n name kinds (Native None other types) e = text_turned other name (f
 own_matches n name kinds (Native (Some path) other types) e = absurd cc
 
 -- a search at the places of a name finds what a search of all declarations does
-pub matches_at_places : (natives : Natives) (ps : Pairs) (n : ℕ) (name : Bytes) (kinds : List TypeTag) → IsIndex natives ps
+pub matches_at_places : (natives : NativeIndex) (ps : Pairs) (n : ℕ) (name : Bytes) (kinds : List TypeTag) → IsIndex natives ps
     → list_any (λ place. option_map_or (λ p. key_matches n name kinds p.0) (slice_get ps place) false) (noted natives name) ≡ list_any (λ p. key_matches n name kinds p.0) ps
 matches_at_places natives ps n name kinds index =
     ap (list_any (λ place. option_map_or (λ p. key_matches n name kinds p.0) (slice_get ps place) false)) (index name)

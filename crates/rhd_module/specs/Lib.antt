@@ -4,5 +4,5 @@ pub mod Shown
 pub mod Registered
 pub mod FirstDeclarations
 pub mod Matching
-pub mod Natives
+pub mod NativeIndex
 pub mod Scripts

@@ -6,14 +6,14 @@ use Rattle.rhd_module.specs.declared.key.Key.TheVariants.{Script, Typed, Native}
 use Rattle.rhd_module.specs.Tree.{Pairs}
 
 -- a script's key, with a type of its object or without one
-abbrev pub is_script : Key → Bool
-is_script (Script path name params) = true
-is_script (Typed path name params this_type) = true
-is_script (Native path name types) = false
+abbrev pub is_script_key : Key → Bool
+is_script_key (Script path name params) = true
+is_script_key (Typed path name params this_type) = true
+is_script_key (Native path name types) = false
 
 -- some declaration is a script's
 abbrev pub has_script : Pairs → Bool
-has_script ps = list_any (λ p. is_script p.0) ps
+has_script ps = list_any (λ p. is_script_key p.0) ps
 
 -- without the note no declaration is a script's
 abbrev pub AreNoted : Bool → Pairs → Type 0

@@ -6,8 +6,8 @@ ghost use Rattle.std.specs.Cmp.{partial_equiv_from_equiv};
 ghost use Rattle.std.specs.Hash as fed;
 ghost use Rattle.rhd_module.specs.Keys.{path_eq, key_eq, key_eq_equiv, key_name, key_params, key_input, key_alike};
 ghost use Rattle.rhd_module.specs.Matching.{types_match, key_matches};
-ghost use Rattle.rhd_module.specs.Natives.{native_name};
-ghost use Rattle.rhd_module.specs.Scripts.{is_script};
+ghost use Rattle.rhd_module.specs.NativeIndex.{native_name};
+ghost use Rattle.rhd_module.specs.Scripts.{is_script_key};
 
 use rhd_value::{OutOfMemory, Text, Texts, TypeTag, Types};
 use std::alloc::Global;
@@ -146,7 +146,7 @@ impl Key {
 
     /// Whether it is that of a script.
     pub(crate) fn is_script(&self) -> bool
-        ensures { result ≡ is_script self.now }
+        ensures { result ≡ is_script_key self.now }
     {
         match self {
             Key::Script { .. } => true,

@@ -6,7 +6,7 @@ mod fault;
 mod key;
 mod law;
 mod module;
-mod natives;
+mod native_index;
 mod registration;
 mod shared;
 

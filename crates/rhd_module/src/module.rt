@@ -5,18 +5,18 @@ ghost use Rattle.std.specs.Map.{lookup};
 ghost use Rattle.std.specs.Option.{option_copied, option_map};
 ghost use Rattle.rhd_module.specs.Tree.{empty_module};
 ghost use Rattle.rhd_module.specs.Shown.{own_decl};
-ghost use Rattle.rhd_module.specs.Registered.{put, with_decl, script_key, script_decl};
+ghost use Rattle.rhd_module.specs.Registered.{put, with_decl, native_key, native_decl, script_key, script_decl};
 ghost use Rattle.rhd_module.specs.Keys.{key_eq};
 ghost use Rattle.rhd_module.specs.Matching.{may_match};
-ghost use Rattle.rhd_module.specs.Natives.{noted, place_at, matches_at};
+ghost use Rattle.rhd_module.specs.NativeIndex.{noted, place_at, matches_at};
 
 use crate::declaration::Declaration;
 use crate::key::Key;
-use crate::natives::Natives;
-use crate::registration::{script_declaration, script_key};
+use crate::native_index::NativeIndex;
+use crate::registration::{native_declaration, native_key, script_declaration, script_key};
 use indexmap::IndexMap;
-use rhd_func::{RhaiFunc, SharedDef};
-use rhd_value::{OutOfMemory, Text, TypeTag};
+use rhd_func::{PluginFunc, RhaiFunc, SharedDef};
+use rhd_value::{FnId, OutOfMemory, Text, TypeTag};
 use std::alloc::{AllocError, Global};
 use std::marker::Model;
 
@@ -25,14 +25,14 @@ use std::marker::Model;
 pub struct Module {
     declarations: IndexMap<Key, Declaration>,
     /// Where the natives of a name stand among the declarations.
-    natives: Natives,
+    natives: NativeIndex,
     /// Whether a script was ever declared: if not, a search for one ends at once.
     scripts: bool,
 }
 
 impl Model for Module {
     ghost use Rattle.rhd_module.specs.Tree.{ModuleTree};
-    ghost use Rattle.rhd_module.specs.Natives.{IsIndex};
+    ghost use Rattle.rhd_module.specs.NativeIndex.{IsIndex};
     ghost use Rattle.rhd_module.specs.Scripts.{AreNoted};
 
     ghost Value = { ModuleTree };
@@ -59,7 +59,7 @@ fn put(
 
 /// Notes the place of a declaration under its name, if it is a native's without a path.
 fn note_place(
-    natives: &mut Natives,
+    natives: &mut NativeIndex,
     declarations: &IndexMap<Key, Declaration>,
     place: usize,
 ) -> Result<(), OutOfMemory>
@@ -82,13 +82,13 @@ impl Module {
     {
         Module {
             declarations: IndexMap::new(alloc),
-            natives: Natives::new(alloc),
+            natives: NativeIndex::new(alloc),
             scripts: false,
         }
     }
 
     /// Puts a declaration under a key: an equal key keeps its place, else it goes last.
-    pub fn set_fn(&mut self, key: Key, declaration: Declaration) -> Result<(), OutOfMemory>
+    pub(crate) fn set_fn(&mut self, key: Key, declaration: Declaration) -> Result<(), OutOfMemory>
         ensures ok { OnOk result (self.new ≡ with_decl key declaration self.old) }
         ensures err { OnErr result (self.new ≡ self.old) }
     {
@@ -141,6 +141,21 @@ impl Module {
             Some((key, _declaration)) => key.matches(exact, name, kinds),
             None => false,
         }
+    }
+
+    /// Declares a native under a name: an equal key keeps its place, else it goes last.
+    pub fn set_native_fn(
+        &mut self,
+        alloc: Global,
+        name: &Text,
+        native: &Box<dyn PluginFunc>,
+        id: FnId,
+    ) -> Result<(), OutOfMemory>
+        ensures ok { OnOk result (self.new ≡ with_decl (native_key name.now (info native.now)) (native_decl name.now (info native.now) id) self.old) }
+        ensures err { OnErr result (self.new ≡ self.old) }
+    {
+        let key = native_key(alloc, name, native)?;
+        self.set_fn(key, native_declaration(name, native, id))
     }
 
     /// Declares a script under its key: an equal key keeps its place, else it goes last.

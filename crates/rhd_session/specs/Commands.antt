@@ -7,13 +7,14 @@ use Rattle.rhd_func.specs.Natives.{NativeInfo, info_of}
 use Rattle.rhd_module.specs.declared.fault.DeclFault.{DeclFault}
 use Rattle.rhd_module.specs.declared.fault.DeclFault.TheVariants.{UnknownNumber}
 use Rattle.rhd_module.specs.Tree.{ModuleTree, empty_module}
-use Rattle.rhd_module.specs.Registered.{with_decl, native_key, native_decl, script_key, script_decl}
-use Rattle.rhd_session.specs.declared.command.Command.{Command}
-use Rattle.rhd_session.specs.declared.command.Command.TheVariants as commands
-use Rattle.rhd_session.specs.declared.reply.Reply.{Reply}
-use Rattle.rhd_session.specs.declared.command.ModuleId.{ModuleId}
-use Rattle.rhd_session.specs.declared.reply.Reply.TheVariants.{Done, Made}
-use Rattle.rhd_session.specs.Engine.{Frame}
+use Rattle.rhd_module.specs.Registered.{with_decl, script_key, script_decl}
+use Rattle.rhd_engine.specs.Registered.{with_native}
+use Rattle.rhd_call.specs.declared.command.Command.{Command}
+use Rattle.rhd_call.specs.declared.command.Command.TheVariants as commands
+use Rattle.rhd_call.specs.declared.reply.Reply.{Reply}
+use Rattle.rhd_call.specs.declared.command.ModuleId.{ModuleId}
+use Rattle.rhd_call.specs.declared.reply.Reply.TheVariants.{Done, Made}
+use Rattle.rhd_engine.specs.Engine.{Frame}
 use Rattle.rhd_session.specs.World.{World}
 
 -- only a call declares nothing
@@ -42,7 +43,7 @@ operands w f commands.NewModule = []
 operands w f (commands.Script m def) = module_operand w m ∷ []
 operands w f (commands.RegisterFn name id) = native_operand w id ∷ []
 operands w f (commands.PushLib m) = module_operand w m ∷ []
-operands w f commands.PopLib = pop_operand f.libs
+operands w f commands.PopLib = pop_operand f.lib
 operands w f (commands.Call request) = []
 
 abbrev pub unknown_of : ℕ × ℕ → Option DeclFault
@@ -58,16 +59,11 @@ pub record Change : Type 0 where
   pub world : World
   pub frame : Frame
 
--- the first of the global modules with another in its place
-abbrev pub in_first : (ModuleTree → ModuleTree) → List ModuleTree → List ModuleTree
-in_first change [] = []
-in_first change (m ∷ ms) = change m ∷ ms
-
 -- a native is registered for all calls
 abbrev pub registered : World → Frame → Bytes → FnId → NativeInfo → Change
 registered w f name id info = record {
   reply = Done;
-  world = record w { engine = record w.engine { globals = in_first (with_decl (native_key name info) (native_decl name info id)) w.engine.globals } };
+  world = record w { engine = with_native name id info w.engine };
   frame = f;
 }
 
@@ -77,7 +73,7 @@ changed w f id m = record { reply = Done; world = record w { modules = slice_set
 
 -- only the libraries change
 abbrev pub with_libs : World → Frame → List ModuleTree → Change
-with_libs w f libs = record { reply = Done; world = w; frame = record f { libs = libs } }
+with_libs w f libs = record { reply = Done; world = w; frame = record f { lib = libs } }
 
 -- a list without its last element
 abbrev pub but_last : {A : Type 0} → List A → List A
@@ -90,5 +86,5 @@ change w f commands.NewModule = Some (record { reply = Made (record { 0 = length
 change w f (commands.Script m def) = option_map (λ old. changed w f m (with_decl (script_key def) (script_decl def) old)) (slice_get w.modules m.0)
 change w f (commands.RegisterFn name id) = option_map (registered w f name id) (info_of w.engine.natives id)
 change w f (commands.PushLib m) = option_map (λ added. with_libs w f (f.libs ++ added ∷ [])) (slice_get w.modules m.0)
-change w f commands.PopLib = Some (with_libs w f (but_last f.libs))
+change w f commands.PopLib = Some (with_libs w f (but_last f.lib))
 change w f (commands.Call request) = None

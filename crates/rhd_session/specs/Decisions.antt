@@ -9,53 +9,53 @@ use Rattle.rhd_func.specs.declared.request.CallShape.TheVariants.{Plain, ByRef, 
 use Rattle.rhd_func.specs.declared.request.CallRequest.{CallRequest}
 use Rattle.rhd_func.specs.Funcs.{is_pure, is_script}
 use Rattle.rhd_func.specs.Shapes.{given, pos_of}
-use Rattle.rhd_session.specs.Engine.{EngineLists, Frame}
-use Rattle.rhd_session.specs.declared.pick.Pick.{Pick}
-use Rattle.rhd_session.specs.Asks.{Asked, asks, pick_unqualified}
+use Rattle.rhd_engine.specs.Engine.{EngineLists, Frame}
+use Rattle.rhd_call.specs.declared.pick.Pick.{Pick}
+use Rattle.rhd_dispatch.specs.Asks.{Asked, asks, pick_unqualified}
 use Rattle.rhd_session.specs.Plans.{Search, by_name, Plan, plan_of}
-use Rattle.rhd_session.specs.Received.{received, manner_of, first_received, is_read_only}
-use Rattle.rhd_session.specs.Ends.{End}
-use Rattle.rhd_session.specs.Ends.{failed, missing_end}
+use Rattle.rhd_session.specs.Received.{received, convention_of, first_received, is_read_only}
+use Rattle.rhd_call.specs.End.{End, failed}
+use Rattle.rhd_session.specs.Ends.{missing_end}
 
 pub data Decision : Type 0 where
   ends : Option Pick → End → Decision  -- nothing runs
   asks_host : Plan → Decision
   runs : Plan → Pick → Decision
 
-abbrev pub asks_by : Plan → Search → List Asked
-asks_by plan (by_name token native_only) = asks plan.name token native_only plan.shape
+abbrev pub asks_by : EngineLists → Plan → Search → List Asked
+asks_by e plan (by_name token native_only) = asks e plan.name token native_only plan.shape
 
 -- what a call asks for, in order
-abbrev pub asks_of : CallRequest → List Asked
-asks_of call = asks_by (plan_of call) (plan_of call).search
+abbrev pub asks_of : EngineLists → CallRequest → List Asked
+asks_of e call = asks_by e (plan_of call) (plan_of call).search
 
 abbrev pub pick_by : EngineLists → Frame → Plan → Search → Option Pick
-pick_by e f plan (by_name token native_only) = pick_unqualified e f plan.name token native_only plan.shape
+pick_by e f plan (by_name token native_only) = pick_unqualified e f.lib f.imports plan.name token native_only plan.shape
 
 -- the pick of a call of one function
 abbrev pub pick_of : EngineLists → Frame → Plan → Option Pick
 pick_of e f plan = pick_by e f plan plan.search
 
 -- A native or built-in that isn't pure receives a read-only first argument.
-abbrev pub is_on_constant : Plan → Pick → Bool
-is_on_constant plan pick = not (is_script pick.func) && (not (is_pure pick.func) && is_read_only (first_received (received (manner_of pick.func) plan.shape)))
+abbrev pub is_on_constant : EngineLists → Plan → Pick → Bool
+is_on_constant e plan pick = not (is_script pick.func) && (not (is_pure e.natives pick.func) && is_read_only (first_received (received (convention_of e.natives pick.func) plan.shape)))
 
 -- how a call ends whose function isn't for a constant
 abbrev pub constant_end : Plan → End
 constant_end plan = failed plan.given (ErrorNonPureMethodCallOnConstant plan.name plan.pos)
 
 -- the function of a pick runs, unless it isn't for a constant
-abbrev pub picked : Plan → Pick → Decision
-picked plan pick = if is_on_constant plan pick then ends (Some pick) (constant_end plan) else runs plan pick
+abbrev pub picked : EngineLists → Plan → Pick → Decision
+picked e plan pick = if is_on_constant e plan pick then ends (Some pick) (constant_end plan) else runs plan pick
 
 -- without a pick: the host is asked where scripts are allowed
-abbrev pub unpicked : Plan → Search → Decision
-unpicked plan (by_name token false) = asks_host plan
-unpicked plan (by_name token true) = ends None (missing_end plan)
+abbrev pub unpicked : EngineLists → Plan → Search → Decision
+unpicked e plan (by_name token false) = asks_host plan
+unpicked e plan (by_name token true) = ends None (missing_end e plan)
 
-abbrev pub decided : Plan → Option Pick → Decision
-decided plan None = unpicked plan plan.search
-decided plan (Some pick) = picked plan pick
+abbrev pub decided : EngineLists → Plan → Option Pick → Decision
+decided e plan None = unpicked e plan plan.search
+decided e plan (Some pick) = picked e plan pick
 
 -- The level is above the limit.
 abbrev pub too_deep : EngineLists → ℕ → CallRequest → Option EvalAltResult
@@ -80,19 +80,19 @@ abbrev pub locked_argument : Plan → Search → Option EvalAltResult
 locked_argument plan (by_name token native_only) = option_map (λ n. ErrorDataRace (locked_text plan.name n) plan.pos) (locked_place plan.shape)
 
 -- the causes of a refusal in their order, each with how the call then ends
-abbrev pub causes : EngineLists → ℕ → CallRequest → List (Option End)
-causes e level call =
+abbrev pub causes : EngineLists → Frame → ℕ → CallRequest → List (Option End)
+causes e f level call =
     option_map (failed (given call)) (too_deep e level call)
     ∷ option_map (failed (given call)) (locked_argument (plan_of call) (plan_of call).search)
     ∷ []
 
 -- the first of them that holds
-abbrev pub refusal : EngineLists → ℕ → CallRequest → Option End
-refusal e level call = first_some (causes e level call)
+abbrev pub refusal : EngineLists → Frame → ℕ → CallRequest → Option End
+refusal e f level call = first_some (causes e f level call)
 
 abbrev pub unless_refused : Option End → Decision → Decision
 unless_refused None decision = decision
 unless_refused (Some end) decision = ends None end
 
 unfoldable pub decision : EngineLists → Frame → ℕ → CallRequest → Decision
-decision e f level call = unless_refused (refusal e level call) (decided (plan_of call) (pick_of e f (plan_of call)))
+decision e f level call = unless_refused (refusal e f level call) (decided e (plan_of call) (pick_of e f (plan_of call)))

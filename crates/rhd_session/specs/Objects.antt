@@ -1,5 +1,5 @@
--- What the natives of a table say of themselves and may do, and what bodies and a host may do, by the relations of their traits. A box is a vtable and a value.
-use Rattle.std.specs.Prelude.{Bool, List, Option, map}
+-- What the natives of a table, bodies and a host may do, by the relations of their traits. A box is a vtable and a value.
+use Rattle.std.specs.Prelude.{Bool, List, Option}
 use Rattle.rhd_value.specs.Tree.{Bytes, Tree}
 use Rattle.rhd_func.specs.declared.func.ScriptFuncDef.{ScriptFuncDef}
 use Rattle.rhd_func.specs.declared.natives.Natives.{Natives}
@@ -8,12 +8,8 @@ use Rattle.rhd_func.specs.declared.request.CallDone.{CallDone}
 use Rattle.rhd_func.specs.declared.request.HostAnswer.{HostAnswer}
 use Rattle.rhd_func.specs.declared.request.NativeStep.{NativeStep}
 use Rattle.rhd_func.specs.declared.request.NativeCallContext.{NativeCallContext}
-use Rattle.rhd_func.specs.Natives.{NativeInfo, StartAllowed, ResumeAllowed}
+use Rattle.rhd_func.specs.Natives.{StartAllowed, ResumeAllowed}
 use Rattle.rhd_session.specs.World.{Objects}
-
--- what the natives of a table say of themselves
-unfoldable pub infos_of : {X : Type 0} {F : X → Type 0} → ((x : X) × F x → NativeInfo) → Natives X F → List NativeInfo
-infos_of info natives = map (λ b. info (b.vtable, b.value)) natives.items.items
 
 -- a native's relations hold where its number is held
 unfoldable pub objects_of : {X : Type 0} {F : X → Type 0} {H B : Type 0} →

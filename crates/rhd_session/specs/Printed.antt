@@ -9,11 +9,12 @@ use Rattle.rhd_value.specs.declared.tag.Position.{Position}
 use Rattle.rhd_value.specs.declared.fault.EvalAltResult.{EvalAltResult}
 use Rattle.rhd_value.specs.declared.fault.EvalAltResult.TheVariants.{ErrorMismatchOutputType}
 use Rattle.rhd_func.specs.Funcs.{is_script}
-use Rattle.rhd_session.specs.declared.limits.Printers.{Printers}
-use Rattle.rhd_session.specs.declared.pick.Layer.{Layer}
-use Rattle.rhd_session.specs.declared.pick.Layer.TheVariants.{Library, Global, Builtin}
-use Rattle.rhd_session.specs.declared.pick.Pick.{Pick}
-use Rattle.rhd_session.specs.Display.{display}
+use Rattle.rhd_engine.specs.declared.limits.Printers.{Printers}
+use Rattle.rhd_call.specs.declared.pick.Layer.{Layer}
+use Rattle.rhd_call.specs.declared.pick.Layer.TheVariants.{Library, Global, Builtin}
+use Rattle.rhd_call.specs.declared.pick.Pick.{Pick}
+use Rattle.rhd_engine.specs.Engine.{EngineLists}
+use Rattle.rhd_engine.specs.Display.{display}
 use Rattle.rhd_session.specs.Plans.{Plan}
 
 -- whether the printer of a name is set; no other name has one
@@ -30,10 +31,10 @@ abbrev pub printer : Printers → Plan → Pick → Option Bool
 printer printers plan pick = if is_script pick.func || is_builtin pick.layer then None else printer_named printers plan.name
 
 -- a printer that is set takes a text alone
-abbrev pub no_text : Option Bool → Position → Tree → Option EvalAltResult
-no_text (Some true) pos v = where_holds (is_none (text_in v.kind)) (ErrorMismatchOutputType (codes "string") (display v) pos)
-no_text (Some false) pos v = None
-no_text None pos v = None
+abbrev pub no_text : EngineLists → Option Bool → Position → Tree → Option EvalAltResult
+no_text e (Some true) pos v = where_holds (is_none (text_in v.kind)) (ErrorMismatchOutputType (codes "string") (display e v) pos)
+no_text e (Some false) pos v = None
+no_text e None pos v = None
 
 -- and prints it, without marks
 abbrev pub printed_text : Option Bool → Tree → Option Bytes
@@ -42,6 +43,6 @@ printed_text (Some false) v = None
 printed_text None v = None
 
 -- with a printer, set or not, the call answers unit
-abbrev pub said : Option Bool → Tree → Tree
-said (Some set) v = plain unit
-said None v = v
+abbrev pub answer_after_printing : Option Bool → Tree → Tree
+answer_after_printing (Some set) v = plain unit
+answer_after_printing None v = v

@@ -6,22 +6,23 @@ use Rattle.rhd_func.specs.declared.func.RhaiFunc.{RhaiFunc}
 use Rattle.rhd_func.specs.declared.request.CallShape.{CallShape}
 use Rattle.rhd_func.specs.declared.request.CallShape.TheVariants.{Plain, ByRef, Method}
 use Rattle.rhd_func.specs.Funcs.{is_method, is_script}
+use Rattle.rhd_func.specs.Natives.{NativeInfo}
 
--- how a function takes its first argument
-pub data Manner : Type 0 where
-  native_method : Manner
-  other_native : Manner
-  script : Manner
+-- the calling convention of a function: how it takes its first argument
+pub data Convention : Type 0 where
+  native_method : Convention
+  other_native : Convention
+  script : Convention
 
-abbrev pub manner_of : RhaiFunc → Manner
-manner_of func = if is_script func then script else if is_method func then native_method else other_native
+abbrev pub convention_of : List NativeInfo → RhaiFunc → Convention
+convention_of natives func = if is_script func then script else if is_method natives func then native_method else other_native
 
 pub record Received : Type 0 where
   pub first : Option Tree  -- for a script, the object
   pub args : List Tree
 
 -- the table of functions and shapes
-abbrev pub received : Manner → CallShape → Received
+abbrev pub received : Convention → CallShape → Received
 received native_method (Plain []) = record { first = None; args = [] }
 received native_method (Plain (a ∷ args)) = record { first = Some a; args = args }
 received native_method (ByRef a args) = record { first = Some a; args = args }
@@ -45,7 +46,7 @@ abbrev pub is_read_only : Option Tree → Bool
 is_read_only v = option_map_or (λ t. t.marks.read_only) v false
 
 -- whether the function has the first argument by reference, or the object, itself and no copy
-abbrev pub has_the_given : Manner → CallShape → Bool
+abbrev pub has_the_given : Convention → CallShape → Bool
 has_the_given native_method (Plain args) = false
 has_the_given native_method (ByRef a args) = true
 has_the_given native_method (Method object args) = true
@@ -55,5 +56,5 @@ has_the_given script (ByRef a args) = false
 has_the_given script (Method object args) = true
 
 -- the first argument after the call: what the function gave back, if it had it itself, else what was given
-abbrev pub first_after : Manner → CallShape → Option Tree → Option Tree → Option Tree
-first_after manner shape given back = if has_the_given manner shape then back else given
+abbrev pub first_after : Convention → CallShape → Option Tree → Option Tree → Option Tree
+first_after convention shape given back = if has_the_given convention shape then back else given

@@ -6,22 +6,22 @@ use Rattle.rhd_func.specs.declared.request.HostAnswer.{HostAnswer}
 use Rattle.rhd_func.specs.declared.request.NativeStep.{NativeStep}
 use Rattle.rhd_func.specs.Shapes.{all_args, is_method_shape}
 use Rattle.rhd_func.specs.declared.request.NativeStep.TheVariants.{Ask}
-use Rattle.rhd_session.specs.Engine.{Frame}
+use Rattle.rhd_engine.specs.Engine.{EngineLists, Frame}
 use Rattle.rhd_session.specs.World.{World, Objects, Moment, one_begun}
-use Rattle.rhd_session.specs.declared.node.CallNode.{CallNode}
-use Rattle.rhd_session.specs.declared.pick.Pick.{Pick}
+use Rattle.rhd_call.specs.declared.node.CallNode.{CallNode}
+use Rattle.rhd_call.specs.declared.pick.Pick.{Pick}
 use Rattle.rhd_session.specs.Plans.{Plan}
-use Rattle.rhd_session.specs.Received.{Received, received, manner_of}
-use Rattle.rhd_session.specs.Ends.{End}
+use Rattle.rhd_session.specs.Received.{Received, received, convention_of}
+use Rattle.rhd_call.specs.End.{End}
 use Rattle.rhd_session.specs.Ends.{end_of, host_end}
 use Rattle.rhd_session.specs.Decisions.{ends, asks_host, runs, decision}
 use Rattle.rhd_session.specs.Entered.{context, entered}
-use Rattle.rhd_session.specs.Seen.{seen, begun_node, unbegun_node, cut_end, done_of}
+use Rattle.rhd_call.specs.Seen.{seen, begun_node, unbegun_node, cut_end, done_of}
 use Rattle.rhd_session.specs.Steps.{Starts, Resumes}
 
 -- what is received by the function of a plan
-abbrev pub received_by : Plan → Pick → Received
-received_by plan pick = received (manner_of pick.func) plan.shape
+abbrev pub received_by : EngineLists → Plan → Pick → Received
+received_by e plan pick = received (convention_of e.natives pick.func) plan.shape
 
 -- Below, a call is asked for in a frame and at a level. The moments are those before and after it, and the
 -- truth value at the end says whether the budget was spent in it.
@@ -44,13 +44,13 @@ mutual
         before.begun < w.engine.limits.budget →
         decision w.engine f level call ≡ asks_host plan →
         o.host_answers before.host plan.name (all_args plan.shape) (is_method_shape plan.shape) answer host →
-        seen node ≡ begun_node call level None [] [] (host_end plan answer) →
+        seen node ≡ begun_node call level None [] [] (host_end w.engine plan answer) →
         Runs o w f level call node before (record (one_begun before) { host = host }) false
     -- the picked function runs to its last step, and each of its requests is answered by a child
     finished : {f : Frame} {level : ℕ} {call : CallRequest} {node : CallNode} {before started after : Moment H B} {plan : Plan} {pick : Pick} {first last : NativeStep} {carries : List Carry} {children : List CallNode} {end : End} →
         before.begun < w.engine.limits.budget →
         decision w.engine f level call ≡ runs plan pick →
-        Starts o (context f level plan) pick.func (received_by plan pick) (one_begun before) first started →
+        Starts o w.engine.natives (context f level plan pick) pick.func (received_by w.engine plan pick) (one_begun before) first started →
         Steps o w f level plan pick first carries children last started after →
         end_of w.engine plan pick last ≡ Some end →
         seen node ≡ begun_node call level (Some pick) carries children end →
@@ -59,9 +59,9 @@ mutual
     cut_short : {f : Frame} {level : ℕ} {call waited : CallRequest} {node child : CallNode} {before started mid after : Moment H B} {plan : Plan} {pick : Pick} {first : NativeStep} {carries : List Carry} {carry : Carry} {children : List CallNode} →
         before.begun < w.engine.limits.budget →
         decision w.engine f level call ≡ runs plan pick →
-        Starts o (context f level plan) pick.func (received_by plan pick) (one_begun before) first started →
+        Starts o w.engine.natives (context f level plan pick) pick.func (received_by w.engine plan pick) (one_begun before) first started →
         Steps o w f level plan pick first carries children (Ask waited carry) started mid →
-        Runs o w (entered f level) (level + 1) waited child mid after true →
+        Runs o w (entered w f level pick) (level + 1) waited child mid after true →
         seen node ≡ begun_node call level (Some pick) (carries ++ carry ∷ []) (children ++ child ∷ []) (cut_end call) →
         Runs o w f level call node before after true
 
@@ -71,8 +71,8 @@ mutual
         Steps o w f level plan pick step [] [] step before before
     one_more : {f : Frame} {level : ℕ} {plan : Plan} {pick : Pick} {first next : NativeStep} {waited : CallRequest} {carry : Carry} {child : CallNode} {carries more_carries : List Carry} {children more_children : List CallNode} {before mid answered after : Moment H B} →
         Steps o w f level plan pick first carries children (Ask waited carry) before mid →
-        Runs o w (entered f level) (level + 1) waited child mid answered false →
-        Resumes o (context f level plan) pick.func carry (done_of child) answered next after →
+        Runs o w (entered w f level pick) (level + 1) waited child mid answered false →
+        Resumes o w.engine.natives (context f level plan pick) pick.func carry (done_of child) answered next after →
         more_carries ≡ carries ++ carry ∷ [] →
         more_children ≡ children ++ child ∷ [] →
         Steps o w f level plan pick first more_carries more_children next before after

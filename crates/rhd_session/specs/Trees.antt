@@ -1,53 +1,24 @@
--- Trees of calls: which calls stand in a tree, how many of them were begun, and where the budget was spent.
-use Rattle.std.specs.Prelude.{◌≡◌, ℕ, ◌+◌, Bool, true, if◌then◌else◌, List, [], ◌∷◌, ◌++◌}
-use Rattle.std.specs.List.{All, Contains}
-use Rattle.rhd_session.specs.declared.node.CallNode.{CallNode, CallNode'}
-use Rattle.rhd_session.specs.declared.node.Nodes.{Nodes, Nodes', Row_of-CallNode, end_of-CallNode, more_of-CallNode}
-use Rattle.rhd_session.specs.Engine.{Frame}
+-- In which frame, at which level and between which moments each call of a tree runs.
+use Rattle.std.specs.Prelude.{Bool, Option, None, Some}
+use Rattle.rhd_call.specs.declared.node.CallNode.{CallNode}
+use Rattle.rhd_call.specs.Seen.{Seen, seen}
+use Rattle.rhd_call.specs.Trees.{InTree, is_root, is_below}
+use Rattle.rhd_call.specs.declared.pick.Pick.{Pick}
+use Rattle.rhd_engine.specs.Engine.{Frame}
 use Rattle.rhd_session.specs.World.{World, Objects, Moment}
 use Rattle.rhd_session.specs.Entered.{entered}
-use Rattle.rhd_session.specs.Seen.{seen, unbegun_node, cut_end}
 use Rattle.rhd_session.specs.Runs.{Runs}
 
--- A call stands in a tree where it is the root, or stands in the tree of one of the root's children.
-pub data InTree (node : CallNode) : CallNode → Type 0 where
-  is_root : InTree node node
-  is_below : {root child : CallNode} → Contains (seen root).children child → InTree node child → InTree node root
+-- the frame that the function of a node enters, if it has one
+abbrev pub entered_by : World → Frame → Seen → Option Pick → Frame
+entered_by w f s None = f
+entered_by w f s (Some pick) = entered w f s.level pick
 
 -- the frame in which a call of a tree is asked for, where the root is asked for in this one
-abbrev pub frame_at : {node root : CallNode} → Frame → InTree node root → Frame
-frame_at f is_root = f
-frame_at f (is_below {root = root} among inner) = frame_at (entered f (seen root).level) inner
+abbrev pub frame_at : {node root : CallNode} → World → Frame → InTree node root → Frame
+frame_at w f is_root = f
+frame_at w f (is_below {root = root} among inner) = frame_at w (entered_by w f (seen root) (seen root).pick) inner
 
 -- the node's call runs in this frame at its level, between some moments
 abbrev pub RunsAt : {H B : Type 0} → Objects H B → World → Frame → CallNode → Type 0
 RunsAt {H} {B} o w f node = (before : Moment H B) × (after : Moment H B) × (cut : Bool) × Runs o w f (seen node).level (seen node).call node before after cut
-
--- every call of a tree was begun
-abbrev pub AllBegun : CallNode → Type 0
-AllBegun root = (node : CallNode) → InTree node root → (seen node).begun ≡ true
-
--- The budget was spent in a tree: its last call isn't begun, and each call above that one ends with it.
-pub data CutTree : CallNode → Type 0 where
-  cut_here : {node : CallNode} →
-      seen node ≡ unbegun_node (seen node).call (seen node).level →
-      CutTree node
-  cut_below : {node last : CallNode} (earlier : List CallNode) →
-      (seen node).begun ≡ true →
-      (seen node).end ≡ cut_end (seen node).call →
-      (seen node).children ≡ earlier ++ last ∷ [] →
-      All AllBegun earlier →
-      CutTree last →
-      CutTree node
-
-abbrev mutual
-  -- how many calls of a tree were begun
-  pub begun_in : CallNode → ℕ
-  begun_in (CallNode' call level begun pick carries children answer whose after printed refused) = (if begun then 1 else 0) + begun_in_nodes children
-
-  pub begun_in_nodes : Nodes → ℕ
-  begun_in_nodes (Nodes' shape row) = begun_in_row row
-
-  pub begun_in_row : {m : _} → Row_of-CallNode m → ℕ
-  begun_in_row end_of-CallNode = 0
-  begun_in_row (more_of-CallNode node rest) = begun_in node + begun_in_row rest

@@ -9,7 +9,7 @@ use Rattle.rhd_func.specs.declared.request.HostAnswer.{HostAnswer}
 use Rattle.rhd_func.specs.declared.request.NativeStep.{NativeStep}
 use Rattle.rhd_func.specs.declared.request.NativeCallContext.{NativeCallContext}
 use Rattle.rhd_module.specs.Tree.{ModuleTree}
-use Rattle.rhd_session.specs.Engine.{EngineLists}
+use Rattle.rhd_engine.specs.Engine.{EngineLists}
 
 pub record World : Type 0 where
   pub engine : EngineLists

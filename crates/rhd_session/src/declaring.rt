@@ -1,22 +1,15 @@
 //! How a session carries out the commands that declare something.
 
-ghost use Rattle.std.specs.Prelude.{◌≡◌, ◌≤◌, ◌<◌, ◌+◌, ◌^◌, true, IfOk, OnErr, IfSome, length};
-ghost use Rattle.std.specs.Option.{option_map};
-ghost use Rattle.rhd_func.specs.Natives.{info_of};
+ghost use Rattle.std.specs.Prelude.{◌≡◌, ◌≤◌, ◌<◌, ◌+◌, ◌^◌, IfOk, OnErr, length};
 ghost use Rattle.rhd_module.specs.declared.fault.DeclFault.TheVariants.{UnknownNumber};
-ghost use Rattle.rhd_module.specs.Registered.{native_key, native_decl};
-ghost use Rattle.rhd_session.specs.declared.command.Command.TheVariants as commands;
-ghost use Rattle.rhd_session.specs.declared.reply.Reply.TheVariants.{Refused};
-ghost use Rattle.rhd_session.specs.Held.{func_held};
-ghost use Rattle.rhd_session.specs.Answered.{Applied};
+ghost use Rattle.rhd_call.specs.declared.command.Command.TheVariants as commands;
+ghost use Rattle.rhd_call.specs.declared.reply.Reply.TheVariants.{Refused};
+ghost use Rattle.rhd_session.specs.Answered.{Declares};
 
-use crate::command::ModuleId;
-use crate::reply::Reply;
 use crate::session::Session;
+use rhd_call::{ModuleId, Reply};
 use rhd_func::SharedDef;
-use rhd_module::{
-    DeclFault, Declaration, Key, Module, SharedModule, native_declaration, native_key,
-};
+use rhd_module::{DeclFault, Module, SharedModule};
 use rhd_value::{FnId, OutOfMemory, Text};
 use std::alloc::Global;
 
@@ -36,7 +29,7 @@ impl Session {
     /// Makes an empty module.
     pub(crate) fn new_module(&mut self, alloc: Global) -> Result<Reply, OutOfMemory>
         requires { length (modules_of self.old) < 2 ^ 32 }
-        ensures applied { IfOk result (λ reply. Applied (world_of info self.old) (frame_of self.old) commands.NewModule reply (world_of info self.new) (frame_of self.new)) }
+        ensures applied { IfOk result (λ reply. Declares (world_of info self.old) (frame_of self.old) commands.NewModule reply (world_of info self.new) (frame_of self.new)) }
         ensures failed { OnErr result (world_of info self.new ≡ world_of info self.old) }
         ensures frame { frame_of self.new ≡ frame_of self.old }
         ensures natives { natives_of self.new ≡ natives_of self.old }
@@ -56,7 +49,7 @@ impl Session {
         id: ModuleId,
         def: &SharedDef,
     ) -> Result<Reply, OutOfMemory>
-        ensures applied { IfOk result (λ reply. Applied (world_of info self.old) (frame_of self.old) (commands.Script id def.now) reply (world_of info self.new) (frame_of self.new)) }
+        ensures applied { IfOk result (λ reply. Declares (world_of info self.old) (frame_of self.old) (commands.Script id def.now) reply (world_of info self.new) (frame_of self.new)) }
         ensures failed { OnErr result (world_of info self.new ≡ world_of info self.old) }
         ensures frame { frame_of self.new ≡ frame_of self.old }
         ensures natives { natives_of self.new ≡ natives_of self.old }
@@ -72,24 +65,6 @@ impl Session {
         Ok(Reply::Done)
     }
 
-    /// How the native of a number is declared under a name; none where it isn't held.
-    #[tactic(auto, unfolding(crate::specs::Of::world_of, crate::specs::Objects::infos_of))]
-    fn declared(
-        &self,
-        alloc: Global,
-        name: &Text,
-        id: FnId,
-    ) -> Result<Option<(Key, Declaration)>, OutOfMemory>
-        ensures declared { IfOk result (λ found. found ≡ option_map (λ i. (native_key name.now i, native_decl name.now i id)) (info_of (world_of info self.now).engine.natives id)) }
-        ensures held { IfOk result (λ found. IfSome found (λ d. func_held (length (natives_of self.now).items.items) d.1.func ≡ true)) }
-    {
-        let Some(native) = self.natives.get(id) else {
-            return Ok(None);
-        };
-        let key = native_key(alloc, name, native)?;
-        Ok(Some((key, native_declaration(name, native, id))))
-    }
-
     /// Registers a native under a name, in the place of an equal declaration's.
     pub(crate) fn register_fn(
         &mut self,
@@ -97,23 +72,23 @@ impl Session {
         name: &Text,
         id: FnId,
     ) -> Result<Reply, OutOfMemory>
-        ensures applied { IfOk result (λ reply. Applied (world_of info self.old) (frame_of self.old) (commands.RegisterFn name.now id) reply (world_of info self.new) (frame_of self.new)) }
+        ensures applied { IfOk result (λ reply. Declares (world_of info self.old) (frame_of self.old) (commands.RegisterFn name.now id) reply (world_of info self.new) (frame_of self.new)) }
         ensures failed { OnErr result (world_of info self.new ≡ world_of info self.old) }
         ensures frame { frame_of self.new ≡ frame_of self.old }
         ensures natives { natives_of self.new ≡ natives_of self.old }
         ensures begun { calls_begun_of self.new ≡ calls_begun_of self.old }
         ensures count { modules_of self.new ≡ modules_of self.old }
     {
-        let Some((key, declaration)) = self.declared(alloc, name, id)? else {
-            return Ok(refused(id.0, self.natives.len()));
-        };
-        self.global.set_fn(key, declaration)?;
-        Ok(Reply::Done)
+        match self.engine.register_fn(alloc, name, id) {
+            Ok(()) => Ok(Reply::Done),
+            Err(DeclFault::OutOfMemory) => Err(OutOfMemory),
+            Err(fault) => Ok(Reply::Refused(fault)),
+        }
     }
 
     /// Puts a module last among the libraries.
     pub(crate) fn push_lib(&mut self, alloc: Global, id: ModuleId) -> Result<Reply, OutOfMemory>
-        ensures applied { IfOk result (λ reply. Applied (world_of info self.old) (frame_of self.old) (commands.PushLib id) reply (world_of info self.new) (frame_of self.new)) }
+        ensures applied { IfOk result (λ reply. Declares (world_of info self.old) (frame_of self.old) (commands.PushLib id) reply (world_of info self.new) (frame_of self.new)) }
         ensures world { world_of info self.new ≡ world_of info self.old }
         ensures failed { OnErr result (frame_of self.new ≡ frame_of self.old) }
         ensures natives { natives_of self.new ≡ natives_of self.old }
@@ -125,18 +100,18 @@ impl Session {
             return Ok(refused(id.0, self.modules.len()));
         }
         let library = self.modules[at].dup(alloc)?;
-        self.libraries.push(library)?;
+        self.state.lib.push(library)?;
         Ok(Reply::Done)
     }
 
     /// Takes the last library off.
     pub(crate) fn pop_lib(&mut self) -> Reply
-        ensures applied { Applied (world_of info self.old) (frame_of self.old) commands.PopLib result (world_of info self.new) (frame_of self.new) }
+        ensures applied { Declares (world_of info self.old) (frame_of self.old) commands.PopLib result (world_of info self.new) (frame_of self.new) }
         ensures natives { natives_of self.new ≡ natives_of self.old }
         ensures begun { calls_begun_of self.new ≡ calls_begun_of self.old }
         ensures count { modules_of self.new ≡ modules_of self.old }
     {
-        let Some(_library) = self.libraries.pop() else {
+        let Some(_library) = self.state.lib.pop() else {
             return refused(0, 0);
         };
         Reply::Done

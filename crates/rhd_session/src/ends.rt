@@ -4,42 +4,44 @@ ghost use Rattle.std.specs.Prelude.{◌≡◌, IfOk, OnOk, Option, Some, option_
 ghost use Rattle.rhd_value.specs.Tree.{Tree};
 ghost use Rattle.std.specs.Option.{option_copied};
 ghost use Rattle.rhd_value.specs.declared.fault.EvalAltResult.TheVariants as faults;
+ghost use Rattle.rhd_call.specs.End as ending;
+ghost use Rattle.rhd_call.specs.Seen.{seen};
+ghost use Rattle.rhd_engine.specs.Of.{lists_of};
 ghost use Rattle.rhd_session.specs.Ends as ends;
+ghost use Rattle.rhd_session.specs.Filling.{with_end};
 ghost use Rattle.rhd_session.specs.Plans.{Plan, plan_of};
-ghost use Rattle.rhd_session.specs.Seen.{seen, with_end};
 
-use crate::limits::{Limits, Printers};
-use crate::missing::not_found;
-use crate::node::{CallNode, Whose};
-use crate::pick::Pick;
-use crate::plan::{position_of, shape_of, want_of};
-use crate::printed::{no_text, printed_text, printer, said};
+use crate::filling::{answer_with, fail, print, refuse};
+use crate::plan::{name_of, position_of, shape_of, want_of};
+use crate::printed::{answer_after_printing, no_text, printed_text, printer};
 use crate::received::{first_after, given};
-use rhd_func::HostAnswer;
+use rhd_call::{CallNode, Pick, Whose};
+use rhd_engine::{Engine, Limits};
+use rhd_func::{CallRequest, HostAnswer};
 use rhd_value::{Dynamic, EvalAltResult, OutOfMemory, Position, Text, TypeTag};
 use std::alloc::Global;
 
 /// The fault of a value that isn't of the wanted kind.
 fn not_wanted(
     alloc: Global,
+    engine: &Engine,
     want: Option<TypeTag>,
     pos: Position,
     value: &Dynamic,
 ) -> Result<Option<EvalAltResult>, OutOfMemory>
-    ensures { IfOk result (λ fault. fault ≡ ends.not_wanted want pos value.now) }
+    ensures { IfOk result (λ fault. fault ≡ ends.not_wanted (lists_of info engine.now) want pos value.now) }
 {
     let want = match want {
         None => return Ok(None),
         Some(TypeTag::Dynamic) => return Ok(None),
         Some(want) => want,
     };
-    let kind = value.kind();
-    if want == kind {
+    if want == value.kind() {
         return Ok(None);
     }
     Ok(Some(EvalAltResult::ErrorMismatchOutputType(
         want.type_name(alloc)?,
-        kind.type_name(alloc)?,
+        engine.display_type(alloc, value)?,
         pos,
     )))
 }
@@ -94,14 +96,15 @@ fn first_too_large(
 /// limits allow.
 fn unfit(
     alloc: Global,
-    limits: Limits,
+    engine: &Engine,
     pos: Position,
     pick: &Pick,
     first: &Option<Dynamic>,
     value: &Dynamic,
 ) -> Result<Option<EvalAltResult>, OutOfMemory>
-    ensures { (plan : Plan) (back : Option Tree) → plan.pos ≡ pos → ends.first_at_end plan pick.now back ≡ first.now → IfOk result (λ fault. fault ≡ ends.unfit limits plan pick.now back value.now) }
+    ensures { (plan : Plan) (back : Option Tree) → plan.pos ≡ pos → ends.first_at_end (lists_of info engine.now) plan pick.now back ≡ first.now → IfOk result (λ fault. fault ≡ ends.unfit (lists_of info engine.now) plan pick.now back value.now) }
 {
+    let limits = engine.limits();
     match too_large(alloc, limits, pos, value)? {
         Some(fault) => Ok(Some(fault)),
         None => {
@@ -116,63 +119,66 @@ fn unfit(
 /// Ends a call with a value that is tested for the wanted kind alone.
 fn accept(
     alloc: Global,
+    engine: &Engine,
     node: &mut CallNode,
     whose: Whose,
     first: Option<Dynamic>,
     value: Dynamic,
 ) -> Result<(), OutOfMemory>
-    ensures { OnOk result (seen node.new ≡ with_end (seen node.old) (ends.accepted (plan_of (seen node.old).call) whose first value)) }
+    ensures { OnOk result (seen node.new ≡ with_end (seen node.old) (ends.accepted (lists_of info engine.now) (plan_of (seen node.old).call) whose first value)) }
 {
-    match not_wanted(alloc, want_of(&node.call), position_of(&node.call), &value)? {
-        Some(fault) => node.refuse(first, value, fault),
-        None => node.answer_with(whose, first, Ok(value)),
+    let pos = position_of(&node.call);
+    match not_wanted(alloc, engine, want_of(&node.call), pos, &value)? {
+        Some(fault) => refuse(node, first, value, fault),
+        None => answer_with(node, whose, first, Ok(value)),
     }
     Ok(())
 }
 
 /// Ends a call whose function answered a value of sizes that are allowed. The text that it prints
 /// stays printed where the call then refuses what it answers.
-fn tell(
+fn print_and_accept(
     alloc: Global,
+    engine: &Engine,
     node: &mut CallNode,
     printer: Option<bool>,
     first: Option<Dynamic>,
     value: Dynamic,
 ) -> Result<(), OutOfMemory>
-    ensures { OnOk result (seen node.new ≡ with_end (seen node.old) (ends.told printer (plan_of (seen node.old).call) first value)) }
+    ensures { OnOk result (seen node.new ≡ with_end (seen node.old) (ends.end_with_printer (lists_of info engine.now) printer (plan_of (seen node.old).call) first value)) }
 {
-    if let Some(fault) = no_text(alloc, printer, position_of(&node.call), &value)? {
-        node.refuse(first, value, fault);
+    if let Some(fault) = no_text(alloc, engine, printer, position_of(&node.call), &value)? {
+        refuse(node, first, value, fault);
         return Ok(());
     }
     let printed = printed_text(alloc, printer, &value)?;
-    accept(alloc, node, Whose::Called, first, said(printer, value))?;
-    node.print(printed);
+    let value = answer_after_printing(printer, value);
+    accept(alloc, engine, node, Whose::Called, first, value)?;
+    print(node, printed);
     Ok(())
 }
 
 /// Ends a call whose function answered a value, and gave this back of its first argument.
 pub fn finish(
     alloc: Global,
-    limits: Limits,
-    printers: Printers,
+    engine: &Engine,
     node: &mut CallNode,
     pick: &Pick,
     value: Dynamic,
     back: Option<Dynamic>,
 ) -> Result<(), OutOfMemory>
-    ensures { OnOk result (seen node.new ≡ with_end (seen node.old) (ends.done limits printers (plan_of (seen node.old).call) pick.now back value)) }
+    ensures { OnOk result (seen node.new ≡ with_end (seen node.old) (ends.done (lists_of info engine.now) (plan_of (seen node.old).call) pick.now back value)) }
 {
     let pos = position_of(&node.call);
-    let first = first_after(alloc, &pick.func, shape_of(&node.call), back)?;
-    match unfit(alloc, limits, pos, pick, &first, &value)? {
+    let first = first_after(alloc, engine.natives(), &pick.func, shape_of(&node.call), back)?;
+    match unfit(alloc, engine, pos, pick, &first, &value)? {
         Some(fault) => {
-            node.refuse(first, value, fault);
+            refuse(node, first, value, fault);
             Ok(())
         }
         None => {
-            let printer = printer(printers, &node.call, pick);
-            tell(alloc, node, printer, first, value)
+            let printer = printer(engine.printers(), &node.call, pick);
+            print_and_accept(alloc, engine, node, printer, first, value)
         }
     }
 }
@@ -180,38 +186,51 @@ pub fn finish(
 /// Ends a call whose function failed, and gave this back of its first argument.
 pub fn hand_on(
     alloc: Global,
+    engine: &Engine,
     node: &mut CallNode,
     pick: &Pick,
     fault: EvalAltResult,
     back: Option<Dynamic>,
 ) -> Result<(), OutOfMemory>
-    ensures { OnOk result (seen node.new ≡ with_end (seen node.old) (ends.handed_on (plan_of (seen node.old).call) pick.now back fault)) }
+    ensures { OnOk result (seen node.new ≡ with_end (seen node.old) (ends.handed_on (lists_of info engine.now) (plan_of (seen node.old).call) pick.now back fault)) }
 {
-    let first = first_after(alloc, &pick.func, shape_of(&node.call), back)?;
-    node.answer_with(Whose::Called, first, Err(fault));
+    let first = first_after(alloc, engine.natives(), &pick.func, shape_of(&node.call), back)?;
+    answer_with(node, Whose::Called, first, Err(fault));
     Ok(())
+}
+
+/// The fault of a call whose function isn't found.
+pub fn not_found(
+    alloc: Global,
+    engine: &Engine,
+    call: &CallRequest,
+) -> Result<EvalAltResult, OutOfMemory>
+    ensures { IfOk result (λ fault. ending.failed (plan_of call.now).given fault ≡ ends.missing_end (lists_of info engine.now) (plan_of call.now)) }
+{
+    engine.not_found(alloc, name_of(call), shape_of(call), position_of(call))
 }
 
 /// Ends a call with what the host answered. Where that is nothing, its function isn't found.
 pub fn end_by_host(
     alloc: Global,
+    engine: &Engine,
     node: &mut CallNode,
     answer: HostAnswer,
 ) -> Result<(), OutOfMemory>
-    ensures { OnOk result (seen node.new ≡ with_end (seen node.old) (ends.host_end (plan_of (seen node.old).call) answer)) }
+    ensures { OnOk result (seen node.new ≡ with_end (seen node.old) (ends.host_end (lists_of info engine.now) (plan_of (seen node.old).call) answer)) }
 {
     match answer {
         HostAnswer::Nothing => {
-            let fault = not_found(alloc, &node.call)?;
-            node.fail(alloc, fault)
+            let fault = not_found(alloc, engine, &node.call)?;
+            fail(alloc, node, fault)
         }
         HostAnswer::Value(value) => {
             let first = given(alloc, &node.call)?;
-            accept(alloc, node, Whose::Host, first, value)
+            accept(alloc, engine, node, Whose::Host, first, value)
         }
         HostAnswer::Fault(fault) => {
             let first = given(alloc, &node.call)?;
-            node.answer_with(Whose::Host, first, Err(fault));
+            answer_with(node, Whose::Host, first, Err(fault));
             Ok(())
         }
     }

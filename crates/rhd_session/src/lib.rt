@@ -1,30 +1,21 @@
 //! A session: commands in, replies out, where the reply to a call shows what answered it.
 #![tactic(auto)]
 
-mod builtins;
 mod calls;
-mod command;
 mod declaring;
-mod display;
 mod ends;
-mod limits;
+mod filling;
 mod machine;
-mod missing;
-mod node;
-mod patterns;
-mod pick;
 mod plan;
 mod printed;
 mod received;
 mod refusal;
-mod reply;
-mod search;
+mod run;
 mod session;
 
-pub use builtins::{Builtins, Operator};
-pub use command::{Command, Commands, ModuleId};
-pub use limits::{Limits, Printers};
-pub use node::{CallNode, Carries, Nodes, Whose};
-pub use pick::{Layer, Pick};
-pub use reply::{Replies, Reply, Stopped};
+pub use rhd_call::{
+    CallNode, Carries, Command, Commands, Layer, ModuleId, Nodes, Pick, Replies, Reply, SharedText,
+    Stopped, Whose,
+};
+pub use rhd_engine::{Builtins, Engine, GlobalRuntimeState, Limits, Operator, Printers};
 pub use session::Session;

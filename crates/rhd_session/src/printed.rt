@@ -2,11 +2,12 @@
 
 ghost use Rattle.std.specs.Prelude.{◌≡◌, IfOk};
 ghost use Rattle.rhd_session.specs.Plans.{plan_of};
-ghost use Rattle.rhd_session.specs.Printed.{printer, printer_named, no_text, printed_text, said};
+ghost use Rattle.rhd_engine.specs.Of.{lists_of};
+ghost use Rattle.rhd_session.specs.Printed.{printer, printer_named, no_text, printed_text, answer_after_printing};
 
-use crate::limits::Printers;
-use crate::pick::{Layer, Pick};
 use crate::plan::name_of;
+use rhd_call::{Layer, Pick};
+use rhd_engine::{Engine, Printers};
 use rhd_func::CallRequest;
 use rhd_value::{Dynamic, EvalAltResult, OutOfMemory, Position, Text, TypeTag, Value};
 use std::alloc::Global;
@@ -37,18 +38,19 @@ pub fn printer(printers: Printers, call: &CallRequest, pick: &Pick) -> Option<bo
 /// The fault of a value that is no text, where the printer is set.
 pub fn no_text(
     alloc: Global,
+    engine: &Engine,
     printer: Option<bool>,
     pos: Position,
     value: &Dynamic,
 ) -> Result<Option<EvalAltResult>, OutOfMemory>
-    ensures { IfOk result (λ fault. fault ≡ no_text printer pos value.now) }
+    ensures { IfOk result (λ fault. fault ≡ no_text (lists_of info engine.now) printer pos value.now) }
 {
     if printer != Some(true) || value.as_text().is_some() {
         return Ok(None);
     }
     Ok(Some(EvalAltResult::ErrorMismatchOutputType(
         TypeTag::Text.type_name(alloc)?,
-        value.type_name(alloc)?,
+        engine.display_type(alloc, value)?,
         pos,
     )))
 }
@@ -71,8 +73,8 @@ pub fn printed_text(
 }
 
 /// What the call answers: unit in the place of a value that is to be printed.
-pub fn said(printer: Option<bool>, value: Dynamic) -> Dynamic
-    ensures { result ≡ said printer value }
+pub fn answer_after_printing(printer: Option<bool>, value: Dynamic) -> Dynamic
+    ensures { result ≡ answer_after_printing printer value }
 {
     match printer {
         Some(_) => Dynamic::from(Value::Unit),

@@ -5,13 +5,12 @@ ghost use Rattle.std.specs.Option.{option_copied};
 ghost use Rattle.rhd_value.specs.Tree.{copied};
 ghost use Rattle.rhd_value.specs.Firsts.{first_and_rest};
 ghost use Rattle.rhd_func.specs.Shapes.{first_given, given, all_args, is_method_shape};
-ghost use Rattle.rhd_session.specs.Received.{received, manner_of, has_the_given, first_after, first_received, is_read_only};
-ghost use Rattle.rhd_session.specs.Entered.{context, context_if};
-ghost use Rattle.rhd_session.specs.Plans.{Plan};
-ghost use Rattle.rhd_session.specs.Start.{start_frame};
+ghost use Rattle.rhd_func.specs.Infos.{infos_of};
+ghost use Rattle.rhd_session.specs.Received.{received, convention_of, has_the_given, first_after, first_received, is_read_only};
+ghost use Rattle.rhd_session.specs.Entered.{context_if};
 
-use rhd_func::{CallRequest, CallShape, NativeCallContext, RhaiFunc};
-use rhd_value::{Dynamic, OutOfMemory, Position, Text, Value, Values};
+use rhd_func::{CallRequest, CallShape, NativeCallContext, Natives, RhaiFunc};
+use rhd_value::{Dynamic, OutOfMemory, Values};
 use std::alloc::Global;
 
 /// The arguments of a function: one by reference, and the others.
@@ -22,28 +21,28 @@ pub struct Received {
 }
 
 /// Whether a function has the first argument by reference, or the object, itself and no copy.
-pub fn has_the_given(func: &RhaiFunc, shape: &CallShape) -> bool
-    ensures { result ≡ has_the_given (manner_of func.now) shape.now }
+pub fn has_the_given(natives: &Natives, func: &RhaiFunc, shape: &CallShape) -> bool
+    ensures { result ≡ has_the_given (convention_of (infos_of info natives.now) func.now) shape.now }
 {
     match shape {
         CallShape::Plain(_) => false,
-        CallShape::ByRef(_, _) => func.is_method(),
-        CallShape::Method(_, _) => func.is_method() || func.is_script(),
+        CallShape::ByRef(_, _) => func.is_method(natives),
+        CallShape::Method(_, _) => func.is_method(natives) || func.is_script(),
     }
 }
 
 /// Whether the first that a function receives is read-only.
-pub fn receives_constant(func: &RhaiFunc, shape: &CallShape) -> bool
-    ensures { result ≡ is_read_only (first_received (received (manner_of func.now) shape.now)) }
+pub fn receives_constant(natives: &Natives, func: &RhaiFunc, shape: &CallShape) -> bool
+    ensures { result ≡ is_read_only (first_received (received (convention_of (infos_of info natives.now) func.now) shape.now)) }
 {
     match shape {
         CallShape::Plain(args) => match args.as_slice() {
             [] => false,
             [first, ..] => first.is_read_only(),
         },
-        CallShape::ByRef(first, _) => func.is_method() && first.is_read_only(),
+        CallShape::ByRef(first, _) => func.is_method(natives) && first.is_read_only(),
         CallShape::Method(object, _) => {
-            (func.is_method() || func.is_script()) && object.is_read_only()
+            (func.is_method(natives) || func.is_script()) && object.is_read_only()
         }
     }
 }
@@ -83,13 +82,13 @@ fn receive_first(
 }
 
 /// What a function receives of a call's arguments.
-pub fn receive(alloc: Global, func: &RhaiFunc, shape: &CallShape) -> Result<Received, OutOfMemory>
-    ensures first { IfOk result (λ r. r.first ≡ (received (manner_of func.now) shape.now).first) }
-    ensures args { IfOk result (λ r. r.args ≡ (received (manner_of func.now) shape.now).args) }
+pub fn receive(alloc: Global, natives: &Natives, func: &RhaiFunc, shape: &CallShape) -> Result<Received, OutOfMemory>
+    ensures first { IfOk result (λ r. r.first ≡ (received (convention_of (infos_of info natives.now) func.now) shape.now).first) }
+    ensures args { IfOk result (λ r. r.args ≡ (received (convention_of (infos_of info natives.now) func.now) shape.now).args) }
 {
-    let itself = has_the_given(func, shape);
+    let itself = has_the_given(natives, func, shape);
     match shape {
-        CallShape::Plain(args) => receive_plain(alloc, func.is_method(), args),
+        CallShape::Plain(args) => receive_plain(alloc, func.is_method(natives), args),
         CallShape::ByRef(first, args) => receive_first(alloc, itself, first, args),
         CallShape::Method(object, args) => receive_first(alloc, itself, object, args),
     }
@@ -149,35 +148,17 @@ pub fn given(alloc: Global, request: &CallRequest) -> Result<Option<Dynamic>, Ou
 /// The same after the call: what the function gave back, if it had it itself, else what was given.
 pub fn first_after(
     alloc: Global,
+    natives: &Natives,
     func: &RhaiFunc,
     shape: &CallShape,
     back: Option<Dynamic>,
 ) -> Result<Option<Dynamic>, OutOfMemory>
-    ensures { IfOk result (λ first. first ≡ first_after (manner_of func.now) shape.now (first_given shape.now) back) }
+    ensures { IfOk result (λ first. first ≡ first_after (convention_of (infos_of info natives.now) func.now) shape.now (first_given shape.now) back) }
 {
-    if has_the_given(func, shape) {
+    if has_the_given(natives, func, shape) {
         return Ok(back);
     }
     first_given(alloc, shape)
-}
-
-/// What a function may know of a call that a command makes.
-pub fn context(
-    alloc: Global,
-    name: &Text,
-    pos: Position,
-    level: u32,
-) -> Result<NativeCallContext, OutOfMemory>
-    ensures { (plan : Plan) → plan.name ≡ name.now → plan.pos ≡ pos → IfOk result (λ ctx. ctx ≡ context start_frame level plan) }
-{
-    Ok(NativeCallContext {
-        name: name.dup(alloc)?,
-        source: None,
-        call_source: None,
-        pos,
-        level,
-        tag: Dynamic::from(Value::Unit),
-    })
 }
 
 /// The context, for a function that is handed it.

@@ -1,15 +1,15 @@
 //! Why a call is refused before any function is looked for.
 
 ghost use Rattle.std.specs.Prelude.{◌≡◌, ◌≤◌, IfOk, option_map};
+ghost use Rattle.rhd_engine.specs.Of.{lists_of};
 ghost use Rattle.rhd_value.specs.declared.fault.EvalAltResult.TheVariants.{ErrorDataRace};
 ghost use Rattle.rhd_func.specs.Shapes.{given};
-ghost use Rattle.rhd_session.specs.Ends.{failed};
+ghost use Rattle.rhd_call.specs.End.{failed};
 ghost use Rattle.rhd_session.specs.Plans.{plan_of};
-ghost use Rattle.rhd_session.specs.Engine.{EngineLists};
 ghost use Rattle.rhd_session.specs.Decisions.{locked_from, locked_place, locked_text, locked_argument, refusal};
 
-use crate::limits::Limits;
 use crate::plan::{name_of, position_of, shape_of};
+use rhd_engine::{Engine, GlobalRuntimeState};
 use rhd_func::{CallRequest, CallShape};
 use rhd_value::{Dynamic, EvalAltResult, OutOfMemory, Position, Text};
 use std::alloc::Global;
@@ -67,13 +67,14 @@ fn locked_argument(alloc: Global, call: &CallRequest) -> Result<Option<EvalAltRe
 /// The fault of a call that is refused.
 pub fn refusal(
     alloc: Global,
-    limits: Limits,
+    engine: &Engine,
+    _state: &GlobalRuntimeState,
     level: u32,
     call: &CallRequest,
 ) -> Result<Option<EvalAltResult>, OutOfMemory>
-    ensures { (e : EngineLists) → e.limits ≡ limits → IfOk result (λ fault. option_map (failed (given call.now)) fault ≡ refusal e level call.now) }
+    ensures { IfOk result (λ fault. option_map (failed (given call.now)) fault ≡ refusal (lists_of info engine.now) _state.now level call.now) }
 {
-    if level > limits.level {
+    if level > engine.limits().level {
         return Ok(Some(EvalAltResult::ErrorStackOverflow(position_of(call))));
     }
     locked_argument(alloc, call)

@@ -1,49 +1,41 @@
-//! A session: a table of natives, modules by number, libraries, and a global module into which
-//! natives are registered.
+//! A session: an engine, the state of a run, and modules by number.
 
-ghost use Rattle.std.specs.Prelude.{◌≡◌, ◌≤◌, ◌<◌, ◌+◌, ◌^◌, ◌++◌, ◌∷◌, [], true, false, IfOk, OnOk, OnErr, IfErr, Some, length, slice_get, take, vec_len, vec_capacity};
-ghost use Rattle.rhd_session.specs.declared.reply.Reply.{Reply};
+ghost use Rattle.std.specs.Prelude.{◌≡◌, ◌≤◌, ◌<◌, ◌+◌, ◌^◌, ◌++◌, ◌∷◌, [], true, false, IfOk, OnOk, OnErr, length, vec_len, vec_capacity};
+ghost use Rattle.rhd_func.specs.Infos.{infos_of};
+ghost use Rattle.rhd_call.specs.declared.reply.Reply.{Reply};
+ghost use Rattle.rhd_engine.specs.Held.{all_held, builtins_held};
+ghost use Rattle.rhd_engine.specs.Start.{start_frame};
 ghost use Rattle.rhd_session.specs.World.{Moment};
-ghost use Rattle.rhd_session.specs.Held.{names_held, all_held, builtins_held};
-ghost use Rattle.rhd_session.specs.Objects.{infos_of, objects_of};
-ghost use Rattle.rhd_session.specs.Start.{start_world, start_frame};
-ghost use Rattle.rhd_session.specs.Answered.{Applied, CallReplied, Replied, Answered, Begins};
+ghost use Rattle.rhd_session.specs.Objects.{objects_of};
+ghost use Rattle.rhd_session.specs.Start.{start_world};
+ghost use Rattle.rhd_session.specs.Answered.{Declares, CallReplied, Replied, Begins, RunGives};
 ghost use Rattle.rhd_session.specs.Commands.{is_call};
 
-use crate::builtins::Builtins;
-use crate::command::{Command, Commands};
-use crate::limits::{Limits, Printers};
-use crate::node::CallNode;
-use crate::reply::{Replies, Reply, Stopped};
+use crate::filling::begun;
+use crate::run::fill;
+use rhd_call::{Command, Commands, Replies, Reply, Stopped};
+use rhd_engine::{Builtins, Engine, GlobalRuntimeState, Limits, Printers};
 use rhd_func::{Bodies, CallRequest, Host, Natives};
-use rhd_module::{Module, SharedModule};
+use rhd_module::SharedModule;
 use rhd_value::OutOfMemory;
 use std::alloc::Global;
 
 /// Takes commands and answers them. Its natives are fixed when it is made.
 #[derive(Drop)]
 pub struct Session {
-    pub(crate) natives: Natives,
-    pub(crate) global: Module,
+    pub(crate) engine: Engine,
+    pub(crate) state: GlobalRuntimeState,
     pub(crate) modules: Vec<SharedModule>,
-    pub(crate) libraries: Vec<SharedModule>,
-    pub(crate) builtins: Builtins,
-    pub(crate) limits: Limits,
-    pub(crate) printers: Printers,
     begun: u64,
-    ghost held: { names_held (length natives.items.items) global ≡ true },
-    ghost modules_held: { all_held (length natives.items.items) modules.items ≡ true },
-    ghost libraries_held: { all_held (length natives.items.items) libraries.items ≡ true },
-    ghost builtins_held: { builtins_held (length natives.items.items) builtins ≡ true },
-    ghost limited: { limits.level ≤ 1000 },
-    ghost within: { begun ≤ limits.budget },
+    ghost modules_held: { all_held (length engine.natives.items.items) modules.items ≡ true },
+    ghost libraries_held: { all_held (length engine.natives.items.items) state.lib ≡ true },
+    ghost within: { begun ≤ engine.limits.budget },
 }
 
 impl Session {
-    ghost use Rattle.rhd_session.specs.Of.{natives_of, world_of, frame_of, modules_of, calls_begun_of, moment_of};
+    ghost use Rattle.rhd_session.specs.Of.{natives_of, world_of, frame_of, modules_of, calls_begun_of, moment_of, session_setting};
 
     /// A session in which nothing is registered. Its built-ins are held by the natives.
-    #[tactic(auto, unfolding(crate::specs::Of::world_of))]
     pub fn new(
         alloc: Global,
         natives: Natives,
@@ -60,13 +52,9 @@ impl Session {
         ensures begun { IfOk result (λ session. calls_begun_of session ≡ 0) }
     {
         Ok(Session {
-            natives,
-            global: Module::new(alloc),
+            engine: Engine::new(alloc, natives, builtins, limits, printers)?,
+            state: GlobalRuntimeState::new(alloc),
             modules: Vec::new(alloc),
-            libraries: Vec::new(alloc),
-            builtins,
-            limits,
-            printers,
             begun: 0,
         })
     }
@@ -75,7 +63,7 @@ impl Session {
     fn declare(&mut self, alloc: Global, command: &Command) -> Result<Reply, OutOfMemory>
         requires declares { is_call command.now ≡ false }
         requires count { length (modules_of self.old) < 2 ^ 32 }
-        ensures applied { IfOk result (λ reply. Applied (world_of info self.old) (frame_of self.old) command.now reply (world_of info self.new) (frame_of self.new)) }
+        ensures applied { IfOk result (λ reply. Declares (world_of info self.old) (frame_of self.old) command.now reply (world_of info self.new) (frame_of self.new)) }
         ensures failed { OnErr result ((world_of info self.new ≡ world_of info self.old) × (frame_of self.new ≡ frame_of self.old)) }
         ensures natives { natives_of self.new ≡ natives_of self.old }
         ensures begun { calls_begun_of self.new ≡ calls_begun_of self.old }
@@ -111,10 +99,16 @@ impl Session {
         ensures rises { calls_begun_of self.old ≤ calls_begun_of self.new }
     {
         let last = replies.len();
-        replies.push_reserved(Reply::Called(CallNode::begun(alloc, request, 1)));
-        let mut begun = self.begun;
-        let filled = self.fill(alloc, &mut replies[last], &mut begun, host, bodies);
-        self.begun = begun;
+        replies.push_reserved(Reply::Called(begun(alloc, request, 1)));
+        let filled = fill(
+            alloc,
+            &self.engine,
+            &mut self.state,
+            &mut replies[last],
+            &mut self.begun,
+            host,
+            bodies,
+        );
         if filled.is_err() {
             drop(replies.pop());
         }
@@ -158,9 +152,7 @@ impl Session {
         bodies: &mut B,
     ) -> Result<Replies, Stopped>
         requires { length (modules_of self.old) + length commands.now < 2 ^ 32 }
-        ensures answered { IfOk result (λ replies. Answered (objects_of allows_call allows_resume B.allows_start B.allows_next H.allows_missing (natives_of self.old)) (world_of info self.old) (frame_of self.old) (moment_of self.old host.old bodies.old) commands.now replies (world_of info self.new) (frame_of self.new) (moment_of self.new host.new bodies.new)) }
-        ensures stopped { IfErr result (λ stopped. (after : Moment H B) × Answered (objects_of allows_call allows_resume B.allows_start B.allows_next H.allows_missing (natives_of self.old)) (world_of info self.old) (frame_of self.old) (moment_of self.old host.old bodies.old) (take (length stopped.replies) commands.now) stopped.replies (world_of info self.new) (frame_of self.new) after × ((command : Command) → slice_get commands.now (length stopped.replies) ≡ Some command → Begins command after.begun (calls_begun_of self.new)) × (length stopped.replies < length commands.now)) }
-        ensures counted { IfOk result (λ replies. length replies ≡ length commands.now) }
+        ensures gives { RunGives (session_setting allows_call allows_resume B.allows_start B.allows_next H.allows_missing info self.old) (moment_of self.old host.old bodies.old) commands.now result (world_of info self.new) (frame_of self.new) (moment_of self.new host.new bodies.new) }
         ensures modules { length (modules_of self.new) ≤ length (modules_of self.old) + length commands.now }
         ensures natives { natives_of self.new ≡ natives_of self.old }
     {
@@ -192,9 +184,7 @@ impl Session {
         bodies: &mut B,
     ) -> Result<Replies, Stopped>
         requires { length (modules_of self.old) + length commands < 2 ^ 32 }
-        ensures answered { IfOk result (λ replies. Answered (objects_of allows_call allows_resume B.allows_start B.allows_next H.allows_missing (natives_of self.old)) (world_of info self.old) (frame_of self.old) (moment_of self.old host.old bodies.old) commands replies (world_of info self.new) (frame_of self.new) (moment_of self.new host.new bodies.new)) }
-        ensures stopped { IfErr result (λ stopped. (after : Moment H B) × Answered (objects_of allows_call allows_resume B.allows_start B.allows_next H.allows_missing (natives_of self.old)) (world_of info self.old) (frame_of self.old) (moment_of self.old host.old bodies.old) (take (length stopped.replies) commands) stopped.replies (world_of info self.new) (frame_of self.new) after × ((command : Command) → slice_get commands (length stopped.replies) ≡ Some command → Begins command after.begun (calls_begun_of self.new)) × (length stopped.replies < length commands)) }
-        ensures counted { IfOk result (λ replies. length replies ≡ length commands) }
+        ensures gives { RunGives (session_setting allows_call allows_resume B.allows_start B.allows_next H.allows_missing info self.old) (moment_of self.old host.old bodies.old) commands result (world_of info self.new) (frame_of self.new) (moment_of self.new host.new bodies.new) }
         ensures modules { length (modules_of self.new) ≤ length (modules_of self.old) + length commands }
         ensures natives { natives_of self.new ≡ natives_of self.old }
     {

@@ -25,6 +25,25 @@ impl Dynamic {
     }
 }
 
+impl Value {
+    /// An equal one.
+    pub fn dup(&self, alloc: Global) -> Result<Value, OutOfMemory>
+        ensures { IfOk result (λ value. value ≡ self.now) }
+    {
+        match self {
+            Value::Unit => Ok(Value::Unit),
+            Value::Bool(value) => Ok(Value::Bool(*value)),
+            Value::Int(value) => Ok(Value::Int(*value)),
+            Value::Char(value) => Ok(Value::Char(*value)),
+            Value::Text(text) => Ok(Value::Text(text.dup(alloc)?)),
+            Value::Array(values) => Ok(Value::Array(values.dup(alloc)?)),
+            Value::Map(entries) => Ok(Value::Map(entries.dup(alloc)?)),
+            Value::FnPtr(ptr) => Ok(Value::FnPtr(ptr.dup(alloc)?)),
+            Value::Custom(number, value) => Ok(Value::Custom(*number, *value)),
+        }
+    }
+}
+
 impl Values {
     /// An equal one.
     #[tactic(auto, using(crate::proofs::Made::remade_list_same))]

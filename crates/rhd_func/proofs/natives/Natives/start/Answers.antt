@@ -2,5 +2,5 @@ use Rattle.std.proofs.Common.{rules}
 use Rattle.rhd_func.proofs.Held.{start_held}
 use Rattle.rhd_func.proofs.natives.Natives.start.Goals as goal
 
-pub returns : goal.returns
-returns g c = search (rules, start_held)
+pub returns-clause-step : goal.returns-clause-step
+returns-clause-step g c = search (rules, start_held)

@@ -5,7 +5,7 @@ use Rattle.rhd_module.specs.declared.declaration.Declaration.{Declaration}
 use Rattle.rhd_module.specs.Keys.{key_eq}
 use Rattle.rhd_module.specs.Tree.{ModuleTree}
 use Rattle.rhd_module.specs.Shown.{own_decl}
-use Rattle.rhd_module.specs.Scripts.{is_script}
+use Rattle.rhd_module.specs.Scripts.{is_script_key}
 use Rattle.rhd_module.proofs.Scripts.{none_found}
 use Rattle.rhd_module.proofs.module.Module.get_fn.Goals as goal
 
@@ -14,7 +14,7 @@ pub returns-then-is_script : goal.returns-then-is_script
 unfolding own_decl
 returns-then-is_script c =
     let key = c.args.key.now in
-    let script : is_script key ≡ true = search rules in
+    let script : is_script_key key ≡ true = search rules in
     let none_noted : c.self.inside.scripts ≡ false = search rules in
     let found = none_found key c.self.inside.declarations.entries script (c.self.invariant.1 none_noted) in
     ap (option_map (λ (d : Declaration). d.func)) (sym found ∙ ap (λ (m : ModuleTree). lookup (key_eq key) m.own.eager) c.self.view_is)

@@ -2,7 +2,7 @@ use Rattle.std.proofs.Common.{◌≡◌, ap, subst, ◌∙◌}
 use Rattle.std.specs.List.{list_any}
 use Rattle.rhd_module.specs.Tree.{ModuleTree}
 use Rattle.rhd_module.specs.Matching.{may_match}
-use Rattle.rhd_module.specs.Natives.{matches_at}
+use Rattle.rhd_module.specs.NativeIndex.{matches_at}
 use Rattle.rhd_module.proofs.Places.{matches_at_places}
 use Rattle.rhd_module.proofs.module.Module.may_match.Goals as goal
 

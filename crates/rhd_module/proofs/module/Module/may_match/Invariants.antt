@@ -1,7 +1,7 @@
 use Rattle.std.proofs.Common.{◌≡◌, drop}
 use Rattle.std.specs.List.{list_any}
 use Rattle.rhd_module.specs.Matching.{may_match}
-use Rattle.rhd_module.specs.Natives.{matches_at}
+use Rattle.rhd_module.specs.NativeIndex.{matches_at}
 use Rattle.rhd_module.proofs.module.Module.may_match.Given as goal
 
 abbrev pub invariant-loop-place : goal.invariant-loop-place

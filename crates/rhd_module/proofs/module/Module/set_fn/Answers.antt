@@ -4,7 +4,7 @@ use Rattle.rhd_value.specs.Tree.{Bytes}
 use Rattle.rhd_module.specs.Keys.{key_eq}
 use Rattle.rhd_module.specs.Tree.{Pairs, ModuleTree}
 use Rattle.rhd_module.specs.Registered.{put}
-use Rattle.rhd_module.specs.Natives.{IsIndex, noted, place_at}
+use Rattle.rhd_module.specs.NativeIndex.{IsIndex, noted, place_at}
 use Rattle.rhd_module.proofs.Places.{index_put_there, index_put_last, take_put}
 use Rattle.rhd_module.proofs.Scripts.{noted_put, noted_still}
 use Rattle.rhd_module.proofs.module.Module.set_fn.Goals as goal

@@ -1,0 +1,4 @@
+pub mod End
+pub mod Nodes
+pub mod Seen
+pub mod Trees

@@ -1,0 +1,12 @@
+//! The plain data of a run: commands and replies, picks, and the trees of calls.
+#![tactic(auto)]
+
+mod command;
+mod node;
+mod pick;
+mod reply;
+
+pub use command::{Command, Commands, ModuleId};
+pub use node::{CallNode, Carries, Nodes, Whose};
+pub use pick::{Layer, Pick, SharedText};
+pub use reply::{Replies, Reply, Stopped};

@@ -1,0 +1,85 @@
+//! What a search gives.
+
+ghost use Rattle.std.specs.Prelude.{◌≡◌, IfOk};
+
+use rhd_func::RhaiFunc;
+use rhd_value::{OutOfMemory, Text};
+use std::alloc::Global;
+use std::marker::Model;
+use std::rc::Rc;
+
+/// Where a function was found. A number is a place in its list, counted from 0.
+#[derive(Clone, Copy, PartialEq, Eq, Debug)]
+pub enum Layer {
+    /// A library of the frame. The oldest is the first.
+    Library(u64),
+    /// A module whose functions all calls find.
+    Global(u64),
+    /// The table of built-in operators.
+    Builtin,
+}
+
+/// A text with several owners. Contracts see the text itself.
+#[derive(Drop)]
+pub struct SharedText {
+    text: Rc<Text>,
+}
+
+impl Model for SharedText {
+    ghost use Rattle.rhd_value.specs.Tree.{Bytes};
+
+    ghost Value = { Bytes };
+
+    ghost view = { λ a. a.text.value };
+}
+
+impl SharedText {
+    pub fn new(alloc: Global, text: Text) -> Result<SharedText, OutOfMemory>
+        ensures { IfOk result (λ shared. shared ≡ text) }
+    {
+        Ok(SharedText {
+            text: Rc::new(alloc, text)?,
+        })
+    }
+
+    pub fn text(&self) -> &Text
+        ensures { result.now ≡ self.now }
+    {
+        &self.text
+    }
+
+    /// One more owner of the same text.
+    pub fn dup(&self, _alloc: Global) -> Result<SharedText, OutOfMemory>
+        ensures { IfOk result (λ shared. shared ≡ self.now) }
+    {
+        Ok(SharedText {
+            text: self.text.clone()?,
+        })
+    }
+}
+
+/// A function, and where it was found.
+#[derive(Drop)]
+pub struct Pick {
+    pub layer: Layer,
+    pub func: RhaiFunc,
+    /// The id of the module in which it was found, if that has one.
+    pub source: Option<SharedText>,
+}
+
+impl Pick {
+    /// An equal pick.
+    pub fn dup(&self, alloc: Global) -> Result<Pick, OutOfMemory>
+        ensures { IfOk result (λ pick. pick ≡ self.now) }
+    {
+        let source = match &self.source {
+            Some(source) => Some(source.dup(alloc)?),
+            None => None,
+        };
+        Ok(Pick {
+            layer: self.layer,
+            func: self.func.dup(alloc)?,
+            source,
+        })
+    }
+}

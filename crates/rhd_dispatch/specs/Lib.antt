@@ -1,0 +1,3 @@
+pub mod Searched
+pub mod Patterns
+pub mod Asks

@@ -1,0 +1,130 @@
+-- The natives that modules name stay held, and what a module has is held.
+use Rattle.std.proofs.Common.{◌≡◌, ◌<◌, ℕ, ◌+◌, Bool, true, false, cond, ◌&&◌, List, [], ◌∷◌, ◌++◌, length, map, refl, sym, ap, ◌∙◌}
+use Rattle.std.specs.Prelude.{zero, suc, Option, Some, None, Result, Ok, Err, OnOk, OnErr, slice_get, slice_set, if◌then◌else◌}
+use Rattle.std.specs.List.{list_all, enumerate_from}
+use Rattle.std.specs.Map.{lookup}
+use Rattle.std.specs.Option.{option_or}
+use Rattle.std.proofs.lemmas.Option.{slice_get_within}
+use Rattle.std.proofs.lemmas.Bool.{ltb-true, lt-ltb}
+use Rattle.std.proofs.lemmas.List.{reverse-append, append-nil}
+use Rattle.std.proofs.lemmas.List.Folds.{list_all-append}
+use Rattle.rhd_value.specs.declared.tag.FnId.{FnId}
+use Rattle.rhd_func.specs.declared.func.RhaiFunc.{RhaiFunc}
+use Rattle.rhd_func.specs.Funcs.{native_of}
+use Rattle.rhd_func.specs.Natives.{NativeInfo}
+use Rattle.rhd_func.specs.declared.func.RhaiFunc.TheVariants as funcs
+use Rattle.rhd_value.specs.Tree.{Bytes}
+use Rattle.rhd_module.specs.declared.key.Key.{Key}
+use Rattle.rhd_module.specs.declared.declaration.Declaration.{Declaration}
+use Rattle.rhd_module.specs.Keys.{key_eq}
+use Rattle.rhd_module.specs.Tree.{ModuleTree, Pairs}
+use Rattle.rhd_module.specs.Shown.{own_decl}
+use Rattle.rhd_module.specs.Registered.{put, with_decl, native_decl, pure_by_name}
+use Rattle.rhd_engine.specs.Held.{is_below, func_held, names_held, all_held}
+use Rattle.rhd_engine.specs.Registered.{in_first}
+
+abbrev is_held : ℕ → Declaration → Bool
+is_held n d = func_held n d.func
+
+abbrev pairs_held : ℕ → Pairs → Bool
+pairs_held n ps = list_all (λ p. is_held n p.1) ps
+
+pub both : (a b : Bool) → a ≡ true → b ≡ true → (a && b) ≡ true
+both true true p q = refl
+both true false p q = q
+both false b p q = p
+
+pub parts : (a b : Bool) → (a && b) ≡ true → (a ≡ true) × (b ≡ true)
+parts true b e = (refl, e)
+parts false b e = absurd cc
+
+put_step : (n : ℕ) (k : Key) (d : Declaration) (p : Key × Declaration) (ps : Pairs) (same : Bool) → is_held n d ≡ true → pairs_held n (p ∷ ps) ≡ true → pairs_held n (put k d ps) ≡ true
+    → pairs_held n (cond same ((p.0, d) ∷ ps) (p ∷ put k d ps)) ≡ true
+put_step n k d p ps true h all ih = both (is_held n d) (pairs_held n ps) h (parts (is_held n p.1) (pairs_held n ps) all).1
+put_step n k d p ps false h all ih = both (is_held n p.1) (pairs_held n (put k d ps)) (parts (is_held n p.1) (pairs_held n ps) all).0 ih
+
+put_held : (n : ℕ) (k : Key) (d : Declaration) (ps : Pairs) → is_held n d ≡ true → pairs_held n ps ≡ true → pairs_held n (put k d ps) ≡ true
+put_held n k d [] h all = both (is_held n d) true h refl
+put_held n k d (p ∷ ps) h all = put_step n k d p ps (key_eq k p.0) h all (put_held n k d ps h (parts (is_held n p.1) (pairs_held n ps) all).1)
+
+-- a held native is put in
+pub stays_held : (n : ℕ) (k : Key) (d : Declaration) (m : ModuleTree) → func_held n d.func ≡ true → names_held n m ≡ true → names_held n (with_decl k d m) ≡ true
+stays_held n k d m h all = put_held n k d m.own.eager h all
+
+-- whether or not a held native is put in
+pub stays_either : {E : Type 0} (r : Result (Unit {0}) E) (n : ℕ) (k : Key) (d : Declaration) (old new : ModuleTree) → OnOk r (new ≡ with_decl k d old) → OnErr r (new ≡ old)
+    → func_held n d.func ≡ true → names_held n old ≡ true → names_held n new ≡ true
+stays_either (Ok u) n k d old new ok err h all = ap (names_held n) ok ∙ stays_held n k d old h all
+stays_either (Err e) n k d old new ok err h all = ap (names_held n) err ∙ all
+
+-- the native of a number that is held is below the number of natives
+pub holds_number : {N : Type 0} (items : List N) (func : RhaiFunc) (id : FnId) (native : N) → native_of func ≡ Some id → slice_get items id.0 ≡ Some native → func_held (length items) func ≡ true
+holds_number items func id native e some = ap (is_below (length items)) e ∙ lt-ltb id.0 (length items) (slice_get_within items id.0 native some)
+
+pub number_held : (n : ℕ) (func : RhaiFunc) (id : FnId) → native_of func ≡ Some id → func_held n func ≡ true → id.0 < n
+number_held n func id e h = ltb-true id.0 n (sym (ap (is_below n) e) ∙ h)
+
+pub on_err : {T E : Type 0} (r : Result T E) (P : Type 0) → P → OnErr r P
+on_err (Ok x) P p = tt
+on_err (Err e) P p = p
+
+-- Lists of modules.
+
+pub all_push : (n : ℕ) (ms : List ModuleTree) (m : ModuleTree) → all_held n ms ≡ true → names_held n m ≡ true → all_held n (ms ++ m ∷ []) ≡ true
+all_push n ms m all h = list_all-append (names_held n) ms (m ∷ []) ∙ both (all_held n ms) (names_held n m && true) all (both (names_held n m) true h refl)
+
+pub all_at : (n : ℕ) (ms : List ModuleTree) (i : ℕ) (m : ModuleTree) → all_held n ms ≡ true → slice_get ms i ≡ Some m → names_held n m ≡ true
+all_at n [] i m all e = absurd cc
+all_at n (x ∷ ms) zero m all e = let same : x ≡ m = cc in ap (names_held n) (sym same) ∙ (parts (names_held n x) (all_held n ms) all).0
+all_at n (x ∷ ms) (suc i) m all e = all_at n ms i m (parts (names_held n x) (all_held n ms) all).1 e
+
+pub all_set : (n : ℕ) (ms : List ModuleTree) (i : ℕ) (m : ModuleTree) → all_held n ms ≡ true → names_held n m ≡ true → all_held n (slice_set ms i m) ≡ true
+all_set n [] i m all h = refl
+all_set n (x ∷ ms) zero m all h = both (names_held n m) (all_held n ms) h (parts (names_held n x) (all_held n ms) all).1
+all_set n (x ∷ ms) (suc i) m all h = both (names_held n x) (all_held n (slice_set ms i m)) (parts (names_held n x) (all_held n ms) all).0 (all_set n ms i m (parts (names_held n x) (all_held n ms) all).1 h)
+
+-- a held native is put into the first module
+pub first_held : (n : ℕ) (k : Key) (d : Declaration) (ms : List ModuleTree) → func_held n d.func ≡ true → all_held n ms ≡ true → all_held n (in_first (with_decl k d) ms) ≡ true
+first_held n k d [] h all = refl
+first_held n k d (m ∷ ms) h all = let p = parts (names_held n m) (all_held n ms) all in both (names_held n (with_decl k d m)) (all_held n ms) (stays_held n k d m h p.0) p.1
+
+-- whether or not it is
+pub first_either : {E : Type 0} (r : Result (Unit {0}) E) (n : ℕ) (k : Key) (d : Declaration) (old new : List ModuleTree) → OnOk r (new ≡ in_first (with_decl k d) old) → OnErr r (new ≡ old)
+    → func_held n d.func ≡ true → all_held n old ≡ true → all_held n new ≡ true
+first_either (Ok u) n k d old new ok err h all = ap (all_held n) ok ∙ first_held n k d old h all
+first_either (Err e) n k d old new ok err h all = ap (all_held n) err ∙ all
+
+-- as many modules as before
+pub first_count : {E : Type 0} (r : Result (Unit {0}) E) (k : Key) (d : Declaration) (old new : List ModuleTree) → OnOk r (new ≡ in_first (with_decl k d) old) → OnErr r (new ≡ old) → length new ≡ length old
+first_count (Ok u) k d old new ok err = ap length ok ∙ same_count old
+  where
+    same_count : (ms : List ModuleTree) → length (in_first (with_decl k d) ms) ≡ length ms
+    same_count [] = refl
+    same_count (m ∷ ms) = refl
+first_count (Err e) k d old new ok err = ap length err
+
+-- the native of a declaration that is registered
+native_number : (name : Bytes) (info : NativeInfo) (id : FnId) → native_of (native_decl name info id).func ≡ Some id
+native_number name info id =
+    let by : (b : Bool) → native_of (if b then funcs.Method id info.has_context (pure_by_name name (length info.types)) false else funcs.Pure id info.has_context (pure_by_name name (length info.types)) false) ≡ Some id = elim [ true ↦ refl | false ↦ refl ]
+    in by info.is_method
+
+-- it is held
+pub native_held : {N : Type 0} (view : N → NativeInfo) (items : List N) (name : Bytes) (id : FnId) (native : N) → slice_get items id.0 ≡ Some native → func_held (length items) (native_decl name (view native) id).func ≡ true
+native_held view items name id native some = holds_number items (native_decl name (view native) id).func id native (native_number name (view native) id) some
+
+-- What a key finds in a module.
+
+found_step : (n : ℕ) (key : Key) (p : Key × Declaration) (ps : Pairs) (d : Declaration) (same : Bool) → pairs_held n (p ∷ ps) ≡ true → (pairs_held n ps ≡ true → lookup (key_eq key) ps ≡ Some d → is_held n d ≡ true)
+    → cond same (Some p.1) (lookup (key_eq key) ps) ≡ Some d → is_held n d ≡ true
+found_step n key p ps d true all ih e = let q : p.1 ≡ d = cc in ap (is_held n) (sym q) ∙ (parts (is_held n p.1) (pairs_held n ps) all).0
+found_step n key p ps d false all ih e = ih (parts (is_held n p.1) (pairs_held n ps) all).1 e
+
+pub found_held : (n : ℕ) (key : Key) (ps : Pairs) (d : Declaration) → pairs_held n ps ≡ true → lookup (key_eq key) ps ≡ Some d → is_held n d ≡ true
+found_held n key [] d all e = absurd cc
+found_held n key (p ∷ ps) d all e = found_step n key p ps d (key_eq key p.0) all (found_held n key ps d) e
+
+pub there_held : (n : ℕ) (m : ModuleTree) (key : Key) (d : Declaration) → names_held n m ≡ true → own_decl m key ≡ Some d → func_held n d.func ≡ true
+unfolding own_decl
+there_held n m key d all e = found_held n key m.own.eager d all e
+

@@ -1,0 +1,5 @@
+pub mod HeldLaws
+pub mod Tables
+pub mod Registers
+pub mod Unfound
+pub mod NotFoundSamples

@@ -1,0 +1,25 @@
+-- An engine and the state of a run, as plain lists.
+use Rattle.std.specs.Prelude.{List}
+use Rattle.rhd_value.specs.Tree.{Bytes}
+use Rattle.rhd_value.specs.declared.tag.FnId.{FnId}
+use Rattle.rhd_func.specs.Natives.{NativeInfo}
+use Rattle.rhd_module.specs.Tree.{ModuleTree}
+pub use Rattle.rhd_engine.specs.declared.builtins.Operator.{Operator}
+use Rattle.rhd_engine.specs.declared.limits.Limits.{Limits}
+use Rattle.rhd_engine.specs.declared.limits.Printers.{Printers}
+use Rattle.rhd_engine.specs.declared.state.GlobalRuntimeState.{GlobalRuntimeState}
+
+pub record EngineLists : Type 0 where
+  pub globals : List ModuleTree  -- whose functions all calls find; registration goes into the first
+  pub natives : List NativeInfo  -- by number
+  pub builtins : List (Operator × FnId)  -- the functions of operators between two kinds
+  pub limits : Limits
+  pub printers : Printers
+
+-- where a call is made: libraries and imports, oldest first, the source, the level and the tag
+abbrev pub Frame : Type 0
+Frame = GlobalRuntimeState
+
+-- modules with their names, oldest first
+abbrev pub Imports : Type 0
+Imports = List (Bytes × ModuleTree)

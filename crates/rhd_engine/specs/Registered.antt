@@ -1,0 +1,25 @@
+-- How natives are registered for all calls.
+use Rattle.std.specs.Prelude.{◌≡◌, ◌≤◌, List, [], ◌∷◌, length, Some, Result, Ok, Err}
+use Rattle.rhd_value.specs.Tree.{Bytes}
+use Rattle.rhd_value.specs.declared.tag.FnId.{FnId}
+use Rattle.rhd_func.specs.Natives.{NativeInfo, info_of}
+use Rattle.rhd_module.specs.Tree.{ModuleTree}
+use Rattle.rhd_module.specs.Registered.{with_decl, native_key, native_decl}
+use Rattle.rhd_module.specs.declared.fault.DeclFault.{DeclFault}
+use Rattle.rhd_module.specs.declared.fault.DeclFault.TheVariants.{UnknownNumber, OutOfMemory}
+use Rattle.rhd_engine.specs.Engine.{EngineLists}
+
+-- the first of some modules changed
+abbrev pub in_first : (ModuleTree → ModuleTree) → List ModuleTree → List ModuleTree
+in_first change [] = []
+in_first change (m ∷ ms) = change m ∷ ms
+
+-- a native under a name in the global namespace, in the place of an equal declaration's
+abbrev pub with_native : Bytes → FnId → NativeInfo → EngineLists → EngineLists
+with_native name id info e = record e { globals = in_first (with_decl (native_key name info) (native_decl name info id)) e.globals }
+
+-- what a registration answers and leaves: a number that isn't held is refused, and then, or where memory ran out, all is as before
+abbrev pub Registered : Bytes → FnId → EngineLists → Result (Unit {0}) DeclFault → EngineLists → Type 0
+Registered name id old (Ok u) new = (info : NativeInfo) × (info_of old.natives id ≡ Some info) × (new ≡ with_native name id info old)
+Registered name id old (Err (UnknownNumber number held)) new = (number ≡ id.0) × (held ≡ length old.natives) × (held ≤ number) × (new ≡ old)
+Registered name id old (Err OutOfMemory) new = new ≡ old

@@ -1,0 +1,115 @@
+//! How types and signatures are shown.
+
+ghost use Rattle.std.specs.Prelude.{◌≡◌, ◌++◌, ◌∷◌, IfOk, OnOk, codes};
+ghost use Rattle.std.specs.List.{flat_map, join_by};
+ghost use Rattle.rhd_func.specs.Shapes.{all_args};
+ghost use Rattle.rhd_engine.specs.Display.{display, in_signature, signature};
+ghost use Rattle.rhd_engine.specs.Of.{lists_of};
+
+use crate::engine::Engine;
+use rhd_func::CallShape;
+use rhd_value::{Dynamic, OutOfMemory, Text, Value};
+use std::alloc::Global;
+
+impl Engine {
+    /// The type of a value, as a text shows it.
+    pub fn display_type(&self, alloc: Global, value: &Dynamic) -> Result<Text, OutOfMemory>
+        ensures { IfOk result (λ name. name ≡ display (lists_of info self.now) value.now) }
+    {
+        value.type_name(alloc)
+    }
+
+    /// Puts a value's type at the end, as a signature shows it.
+    fn push_type(&self, alloc: Global, out: &mut Text, value: &Dynamic) -> Result<(), OutOfMemory>
+        ensures { OnOk result (out.new ≡ out.old ++ in_signature (lists_of info self.now) value.now) }
+    {
+        match &value.value {
+            Value::Text(_) => out.push("&str | ImmutableString | String"),
+            _ => {
+                let name = self.display_type(alloc, value)?;
+                out.push(name.as_str())
+            }
+        }
+    }
+
+    /// Puts further types at the end, each after a comma.
+    fn push_more_types(
+        &self,
+        alloc: Global,
+        out: &mut Text,
+        values: &[Dynamic],
+    ) -> Result<(), OutOfMemory>
+        ensures { OnOk result (out.new ≡ out.old ++ flat_map (λ v. codes ", " ++ in_signature (lists_of info self.now) v) values.now) }
+    {
+        for value in values {
+            out.push(", ")?;
+            self.push_type(alloc, out, value)?;
+        }
+        Ok(())
+    }
+
+    /// Puts the types of a first value and of others at the end.
+    fn push_first_types(
+        &self,
+        alloc: Global,
+        out: &mut Text,
+        first: &Dynamic,
+        more: &[Dynamic],
+    ) -> Result<(), OutOfMemory>
+        ensures { OnOk result (out.new ≡ out.old ++ join_by (in_signature (lists_of info self.now)) (codes ", ") (first.now ∷ more.now)) }
+    {
+        self.push_type(alloc, out, first)?;
+        self.push_more_types(alloc, out, more)
+    }
+
+    /// Puts the types of all values at the end.
+    fn push_types(
+        &self,
+        alloc: Global,
+        out: &mut Text,
+        values: &[Dynamic],
+    ) -> Result<(), OutOfMemory>
+        ensures { OnOk result (out.new ≡ out.old ++ join_by (in_signature (lists_of info self.now)) (codes ", ") values.now) }
+    {
+        match values {
+            [] => Ok(()),
+            [first, more @ ..] => self.push_first_types(alloc, out, first, more),
+        }
+    }
+
+    /// Puts the types of all arguments at the end.
+    fn push_shape(
+        &self,
+        alloc: Global,
+        out: &mut Text,
+        shape: &CallShape,
+    ) -> Result<(), OutOfMemory>
+        ensures { OnOk result (out.new ≡ out.old ++ join_by (in_signature (lists_of info self.now)) (codes ", ") (all_args shape.now)) }
+    {
+        match shape {
+            CallShape::Plain(args) => self.push_types(alloc, out, args.as_slice()),
+            CallShape::ByRef(first, args) => {
+                self.push_first_types(alloc, out, first, args.as_slice())
+            }
+            CallShape::Method(object, args) => {
+                self.push_first_types(alloc, out, object, args.as_slice())
+            }
+        }
+    }
+
+    /// A call as a fault names it: the name, and the types of all arguments.
+    pub fn call_signature(
+        &self,
+        alloc: Global,
+        name: &Text,
+        shape: &CallShape,
+    ) -> Result<Text, OutOfMemory>
+        ensures { IfOk result (λ text. text ≡ signature (lists_of info self.now) name.now (all_args shape.now)) }
+    {
+        let mut text = name.dup(alloc)?;
+        text.push(" (")?;
+        self.push_shape(alloc, &mut text, shape)?;
+        text.push(")")?;
+        Ok(text)
+    }
+}

@@ -1,0 +1,113 @@
+//! An engine: a table of natives, and what is registered for all calls.
+
+ghost use Rattle.std.specs.Prelude.{◌≡◌, ◌≤◌, ◌<◌, true, [], ◌∷◌, IfOk, length};
+ghost use Rattle.rhd_engine.specs.Held.{all_held, builtins_held};
+
+use crate::builtins::Builtins;
+use crate::limits::{Limits, Printers};
+use crate::lists::ModuleList;
+use rhd_func::Natives;
+use rhd_module::{DeclFault, Module, SharedModule};
+use rhd_value::{FnId, OutOfMemory, Text};
+use std::alloc::Global;
+
+/// What is registered for all calls. Its natives are fixed when it is made, and each number that it
+/// names is held by them.
+#[derive(Drop)]
+pub struct Engine {
+    natives: Natives,
+    /// The modules whose functions all calls find. The first is the global namespace, into which natives
+    /// are registered.
+    globals: ModuleList,
+    builtins: Builtins,
+    limits: Limits,
+    printers: Printers,
+    ghost globals_held: { all_held (length natives.items.items) globals ≡ true },
+    ghost has_namespace: { 0 < length globals },
+    ghost builtins_held: { builtins_held (length natives.items.items) builtins ≡ true },
+    ghost limited: { limits.level ≤ 1000 },
+}
+
+impl Engine {
+    ghost use Rattle.rhd_func.specs.Infos.{infos_of};
+    ghost use Rattle.rhd_engine.specs.Of.{lists_of};
+    ghost use Rattle.rhd_engine.specs.Registered.{Registered};
+    ghost use Rattle.rhd_engine.specs.Start.{start_lists};
+
+    /// An engine with an empty global namespace. Its built-ins are held by the natives.
+    pub fn new(
+        alloc: Global,
+        natives: Natives,
+        builtins: Builtins,
+        limits: Limits,
+        printers: Printers,
+    ) -> Result<Engine, OutOfMemory>
+        requires level { limits.level ≤ 1000 }
+        requires builtins { builtins_held (length natives.items.items) builtins ≡ true }
+        ensures natives { IfOk result (λ engine. engine.natives ≡ natives) }
+        ensures lists { IfOk result (λ engine. lists_of info engine ≡ start_lists (infos_of info natives) limits builtins printers) }
+    {
+        let mut globals = ModuleList::new(alloc);
+        let empty = Module::new(alloc);
+        let namespace = SharedModule::new(alloc, empty)?;
+        globals.push(namespace)?;
+        Ok(Engine {
+            natives,
+            globals,
+            builtins,
+            limits,
+            printers,
+        })
+    }
+
+    /// The natives that it was made with.
+    pub fn natives(&self) -> &Natives
+        ensures { result.now ≡ self.now.natives }
+    {
+        &self.natives
+    }
+
+    /// The modules whose functions all calls find, in order.
+    pub fn global_modules(&self) -> &[SharedModule]
+        ensures { result.now ≡ self.now.globals }
+    {
+        self.globals.as_slice()
+    }
+
+    /// The functions of operators between two kinds.
+    pub fn builtins(&self) -> &Builtins
+        ensures { result.now ≡ self.now.builtins }
+    {
+        &self.builtins
+    }
+
+    pub fn limits(&self) -> Limits
+        ensures { result ≡ self.now.limits }
+    {
+        self.limits
+    }
+
+    pub fn printers(&self) -> Printers
+        ensures { result ≡ self.now.printers }
+    {
+        self.printers
+    }
+
+    /// Registers a native under a name in the global namespace, in the place of an equal declaration's.
+    /// A number that isn't held is refused.
+    pub fn register_fn(&mut self, alloc: Global, name: &Text, id: FnId) -> Result<(), DeclFault>
+        ensures registered { Registered name.now id (lists_of info self.old) result (lists_of info self.new) }
+        ensures natives { self.new.natives ≡ self.old.natives }
+    {
+        let Some(native) = self.natives.get(id) else {
+            return Err(DeclFault::UnknownNumber {
+                number: u64::from(id.0),
+                length: self.natives.len() as u64,
+            });
+        };
+        match self.globals.register_in_first(alloc, name, native, id) {
+            Ok(()) => Ok(()),
+            Err(OutOfMemory) => Err(DeclFault::OutOfMemory),
+        }
+    }
+}

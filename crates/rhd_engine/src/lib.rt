@@ -1,0 +1,17 @@
+//! An engine, and the state of a run: what is registered for all calls, and in which modules besides a
+//! call looks.
+#![tactic(auto)]
+
+mod builtins;
+mod display;
+mod engine;
+mod limits;
+mod lists;
+mod missing;
+mod state;
+
+pub use builtins::{Builtins, Operator};
+pub use engine::Engine;
+pub use limits::{Limits, Printers};
+pub use lists::{ImportList, ModuleList};
+pub use state::GlobalRuntimeState;

@@ -1,0 +1,62 @@
+//! Where the natives of a module stand.
+
+ghost use Rattle.std.specs.Prelude.{◌≡◌, ℕ, List, ◌++◌, [], ◌∷◌, OnOk, OnErr, if◌then◌else◌};
+ghost use Rattle.rhd_value.specs.Same.{text_eq};
+ghost use Rattle.rhd_module.specs.NativeIndex.{noted};
+
+use indexmap::IndexMap;
+use rhd_value::{OutOfMemory, Text};
+use std::alloc::Global;
+
+/// The places of natives by their names.
+#[derive(Drop)]
+pub(crate) struct NativeIndex {
+    places: IndexMap<String, Vec<usize>>,
+}
+
+impl NativeIndex {
+    pub fn new(alloc: Global) -> NativeIndex
+        ensures { (name : List ℕ) → noted result name ≡ [] }
+    {
+        NativeIndex {
+            places: IndexMap::new(alloc),
+        }
+    }
+
+    /// The places that are noted under a name.
+    pub fn places(&self, name: &Text) -> &[usize]
+        ensures { result.now ≡ noted self.now name.now }
+    {
+        match self.places.get(name.as_str()) {
+            Some(places) => places.as_slice(),
+            None => &[],
+        }
+    }
+
+    /// Notes a place under a name, last.
+    pub fn note(&mut self, alloc: Global, name: &Text, place: usize) -> Result<(), OutOfMemory>
+        ensures ok { OnOk result ((other : List ℕ) → noted self.new other ≡ noted self.old other ++ (if text_eq other name.now then place ∷ [] else [])) }
+        ensures err { OnErr result ((other : List ℕ) → noted self.new other ≡ noted self.old other) }
+    {
+        match self.places.get_mut(name.as_str()) {
+            Some(places) => {
+                places.push(place)?;
+                Ok(())
+            }
+            None => self.note_first(alloc, name, place),
+        }
+    }
+
+    /// Notes a place under a name that has none.
+    fn note_first(&mut self, alloc: Global, name: &Text, place: usize) -> Result<(), OutOfMemory>
+        requires { noted self.old name.now ≡ [] }
+        ensures ok { OnOk result ((other : List ℕ) → noted self.new other ≡ noted self.old other ++ (if text_eq other name.now then place ∷ [] else [])) }
+        ensures err { OnErr result ((other : List ℕ) → noted self.new other ≡ noted self.old other) }
+    {
+        let mut places = Vec::new(alloc);
+        places.push(place)?;
+        let name = String::from_str(alloc, name.as_str())?;
+        self.places.insert(name, places)?;
+        Ok(())
+    }
+}

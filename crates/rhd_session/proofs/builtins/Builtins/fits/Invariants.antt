@@ -1,6 +1,0 @@
-use Rattle.std.proofs.Common.{◌≡◌, length}
-use Rattle.rhd_session.specs.Held.{builtins_held}
-use Rattle.rhd_session.proofs.builtins.Builtins.fits.Given as goal
-
-abbrev pub invariant-loop-operator : goal.invariant-loop-operator
-invariant-loop-operator g l = builtins_held (length l.natives.items.items) l._operator-iterator ≡ builtins_held (length l.natives.items.items) l.self
