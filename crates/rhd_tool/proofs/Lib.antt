@@ -1,4 +1,5 @@
 pub mod Arrays
+pub mod AskLaws
 pub mod GivenBack
 pub mod Sessions
 pub mod Statuses

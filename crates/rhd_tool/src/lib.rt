@@ -3,6 +3,7 @@
 #![tactic(auto)]
 
 mod kit;
+mod laws;
 mod plan_bodies;
 mod reading;
 mod sink;
@@ -15,6 +16,7 @@ mod values;
 mod writing;
 
 pub use kit::{KIT_LEN, KitFn};
+pub use laws::{a_body_asks_its_calls_in_order, a_native_asks_as_often_as_it_is_told};
 pub use plan_bodies::PlanBodies;
 pub use sink::{MemSink, PlainSink, Sink, SinkFault, Writing};
 pub use source::{Failed, MemSource, PlainSource, Reading, Source};
