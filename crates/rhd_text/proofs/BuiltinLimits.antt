@@ -5,9 +5,9 @@ use Rattle.std.specs.List.{list_all}
 use Rattle.rhd_value.specs.declared.tag.FnId.{FnId}
 use Rattle.rhd_value.specs.declared.tag.TypeTag.{TypeTag}
 use Rattle.rhd_names.specs.declared.token.OpToken.{OpToken}
-use Rattle.rhd_session.specs.declared.builtins.Operator.{Operator}
-use Rattle.rhd_session.specs.declared.command.Command.TheVariants as commands
-use Rattle.rhd_session.specs.Operators.{operator_eq, put_builtin}
+use Rattle.rhd_engine.specs.declared.builtins.Operator.{Operator}
+use Rattle.rhd_call.specs.declared.command.Command.TheVariants as commands
+use Rattle.rhd_engine.specs.Operators.{operator_eq, put_builtin}
 use Rattle.rhd_text.specs.declared.session.SessionText.{SessionText}
 use Rattle.rhd_text.specs.declared.part.Part.{Part}
 use Rattle.rhd_text.specs.declared.part.Part.TheVariants as parts

@@ -10,10 +10,10 @@ use Rattle.rhd_value.specs.declared.tag.FnId.{FnId}
 use Rattle.rhd_value.specs.declared.tag.TypeTag.{TypeTag}
 use Rattle.rhd_names.specs.declared.token.OpToken.{OpToken}
 use Rattle.rhd_func.specs.declared.request.CallRequest.{CallRequest}
-use Rattle.rhd_session.specs.declared.builtins.Operator.{Operator}
-use Rattle.rhd_session.specs.Operators.{put_builtin}
-use Rattle.rhd_session.specs.declared.command.Command.TheVariants as commands
-use Rattle.rhd_session.specs.declared.limits.Limits.{Limits}
+use Rattle.rhd_engine.specs.declared.builtins.Operator.{Operator}
+use Rattle.rhd_engine.specs.Operators.{put_builtin}
+use Rattle.rhd_call.specs.declared.command.Command.TheVariants as commands
+use Rattle.rhd_engine.specs.declared.limits.Limits.{Limits}
 use Rattle.rhd_text.specs.declared.body.BodyPlan.{BodyPlan}
 use Rattle.rhd_text.specs.declared.body.BodyEnd.{BodyEnd}
 use Rattle.rhd_text.specs.declared.body.CallPlan.{CallPlan}

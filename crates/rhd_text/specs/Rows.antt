@@ -13,8 +13,8 @@ use Rattle.rhd_func.specs.declared.request.CallRequest.TheVariants.{Named}
 use Rattle.rhd_func.specs.declared.access.FnAccess.{FnAccess}
 use Rattle.rhd_func.specs.declared.access.FnAccess.TheVariants.{Private, Public}
 use Rattle.rhd_func.specs.declared.func.ScriptFuncDef.{ScriptFuncDef}
-use Rattle.rhd_session.specs.declared.command.Command.TheVariants as commands
-use Rattle.rhd_session.specs.declared.limits.Limits.{Limits}
+use Rattle.rhd_call.specs.declared.command.Command.TheVariants as commands
+use Rattle.rhd_engine.specs.declared.limits.Limits.{Limits}
 use Rattle.rhd_text.specs.declared.place.Place.{Place}
 use Rattle.rhd_text.specs.declared.arguments.Argument.{Argument}
 use Rattle.rhd_text.specs.declared.arguments.Argument.TheVariants as argument

@@ -5,10 +5,10 @@ use Rattle.std.specs.List.{slice_get}
 use Rattle.rhd_value.specs.Tree.{Bytes, Tree}
 use Rattle.rhd_value.specs.Entries.{put}
 use Rattle.rhd_value.specs.declared.tag.FnId.{FnId}
-use Rattle.rhd_session.specs.declared.builtins.Operator.{Operator}
-use Rattle.rhd_session.specs.Operators.{put_builtin}
-use Rattle.rhd_session.specs.declared.limits.Limits.{Limits}
-use Rattle.rhd_session.specs.declared.limits.Printers.{Printers}
+use Rattle.rhd_engine.specs.declared.builtins.Operator.{Operator}
+use Rattle.rhd_engine.specs.Operators.{put_builtin}
+use Rattle.rhd_engine.specs.declared.limits.Limits.{Limits}
+use Rattle.rhd_engine.specs.declared.limits.Printers.{Printers}
 use Rattle.rhd_text.specs.declared.fault.TextFault.{TextFault}
 use Rattle.rhd_text.specs.declared.fault.TextFault.TheVariants.{BadLine, OutOfMemory}
 use Rattle.rhd_text.specs.declared.session.SessionText.{SessionText}

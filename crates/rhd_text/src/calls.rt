@@ -9,7 +9,7 @@ use crate::line::{Line, line_at};
 use crate::part::Part;
 use crate::place::Place;
 use rhd_func::CallRequest;
-use rhd_session::Command;
+use rhd_call::Command;
 use rhd_value::OutOfMemory;
 use std::alloc::Global;
 

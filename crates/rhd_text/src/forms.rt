@@ -23,7 +23,8 @@ use crate::values::value_at;
 use crate::wants::{value_kind_at, want_at};
 use crate::words::{flag_at, is_end};
 use rhd_func::{BodyId, FnAccess, ScriptFuncDef, SharedDef};
-use rhd_session::{Command, Limits, ModuleId};
+use rhd_call::{Command, ModuleId};
+use rhd_engine::Limits;
 use rhd_value::{FnId, Position, Text, TypeTag};
 use std::alloc::Global;
 

@@ -3,7 +3,8 @@
 use crate::body::{BodyEnd, CallPlan};
 use crate::printers::Printer;
 use rhd_names::OpToken;
-use rhd_session::{Command, Limits};
+use rhd_call::Command;
+use rhd_engine::Limits;
 use rhd_value::{Dynamic, FnId, Text, TypeTag};
 
 /// What one line adds to a session text.

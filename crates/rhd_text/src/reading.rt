@@ -3,7 +3,7 @@
 ghost use Rattle.std.specs.Prelude.{◌≡◌, true, ℕ, ◌<◌, ◌≤◌, ◌^◌, length, IfOk, IfSome, OnOk, IsTrue};
 ghost use Rattle.std.specs.Str.{is_utf8};
 ghost use Rattle.std.specs.Str.Lines.{lines};
-ghost use Rattle.rhd_session.specs.Held.{builtins_held};
+ghost use Rattle.rhd_engine.specs.Held.{builtins_held};
 ghost use Rattle.rhd_text.specs.declared.session.SessionText.{SessionText};
 ghost use Rattle.rhd_text.specs.Session.{IsSession, IsFirstBad, ReadsText, ReadsNoOther, NamesNoOther};
 ghost use Rattle.rhd_text.specs.ReadSession.{after_line, session_of};

@@ -9,7 +9,8 @@ use crate::fault::Stop;
 use crate::part::Part;
 use crate::printers::Printer;
 use rhd_names::OpToken;
-use rhd_session::{Builtins, Commands, Limits, Printers};
+use rhd_call::Commands;
+use rhd_engine::{Builtins, Limits, Printers};
 use rhd_value::{Dynamic, Entries, FnId, Text, TypeTag};
 use std::alloc::Global;
 
