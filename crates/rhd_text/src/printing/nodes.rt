@@ -8,8 +8,8 @@ ghost use Rattle.rhd_call.specs.declared.node.CallNode.{out-CallNode};
 
 use super::quotes::{push_number, push_quoted};
 use super::values::push_value;
-use rhd_func::{CallRequest, RhaiFunc};
 use rhd_call::{CallNode, Layer, Nodes, Pick, Whose};
+use rhd_func::{CallRequest, RhaiFunc};
 use rhd_value::{Dynamic, EvalAltResult, OutOfMemory, ParseErrorType, Text};
 use std::alloc::Global;
 
