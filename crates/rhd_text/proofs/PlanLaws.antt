@@ -3,14 +3,12 @@ use Rattle.std.proofs.Common.{◌≡◌, ℕ, Bool, true, false, cond, List, [],
 use Rattle.std.specs.Option.{option_map}
 use Rattle.rhd_value.specs.declared.tag.Position.{Position}
 use Rattle.rhd_call.specs.declared.command.Command.TheVariants as commands
-use Rattle.rhd_text.specs.declared.body.CallPlan.{CallPlan}
 use Rattle.rhd_text.specs.declared.keyword.CallWord.{CallWord}
 use Rattle.rhd_text.specs.declared.keyword.CallWord.TheVariants as words
 use Rattle.rhd_text.specs.declared.requests.Handing.TheVariants as handings
-use Rattle.rhd_text.specs.declared.part.Part.{Part}
 use Rattle.rhd_text.specs.declared.part.Part.TheVariants as parts
 use Rattle.rhd_text.specs.declared.place.Place.{Place}
-use Rattle.rhd_text.specs.Rows.{Operand, Meaning, From, from_then, position, nowhere, call_form, planned, called, step}
+use Rattle.rhd_text.specs.Rows.{Operand, From, from_then, position, nowhere, call_form, planned, called, step}
 use Rattle.rhd_text.specs.Reading.{◌>>=◌, is_end}
 use Rattle.rhd_text.specs.ReadRows.{operand_at, operands_at, row_at, plan_at, named_at}
 

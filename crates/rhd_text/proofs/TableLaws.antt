@@ -1,5 +1,5 @@
 -- The tables of session texts: three lines for each form.
-use Rattle.std.proofs.Common.{◌≡◌, ◌⊎◌, ℕ, Bool, true, false, cond, List, [], ◌∷◌, ◌++◌, Option, Some, None, refl, sym, ap, subst, ◌∙◌, inl, inr}
+use Rattle.std.proofs.Common.{◌≡◌, ℕ, Bool, true, false, cond, List, ◌++◌, Option, Some, None, refl, sym, ap, subst, ◌∙◌, inl, inr}
 use Rattle.std.specs.Prelude.{codes}
 use Rattle.std.specs.Str.{bytes_eq}
 use Rattle.std.proofs.lemmas.Slice.Eq.{bytes_eq-Decides}
@@ -9,10 +9,10 @@ use Rattle.rhd_text.specs.declared.keyword.Keyword.{Keyword}
 use Rattle.rhd_text.specs.declared.keyword.Keyword.TheVariants.{Limits, Printer, Builtin, Host, Body, Ret, Fail, Register, Module, Script, Lib, PopLib, Call}
 use Rattle.rhd_text.specs.declared.keyword.CallWord.{CallWord}
 use Rattle.rhd_text.specs.declared.keyword.CallWord.TheVariants as words
-use Rattle.rhd_text.specs.Rows.{Table, call_form, step, all_calls, form, all_keywords, line_forms, step_forms}
+use Rattle.rhd_text.specs.Rows.{call_form, step, all_calls, form, all_keywords, line_forms, step_forms}
 use Rattle.rhd_text.specs.Spans.{bare}
-use Rattle.rhd_text.specs.Grammar.{formed, part, IsLine}
-use Rattle.rhd_text.specs.Reading.{◌>>=◌, word_at}
+use Rattle.rhd_text.specs.Grammar.{part, IsLine}
+use Rattle.rhd_text.specs.Reading.{word_at}
 use Rattle.rhd_text.specs.ReadRows.{keyword_in, form_of, form_at, part_at, begins_no_part, is_skipped, line_of}
 use Rattle.rhd_text.proofs.Agrees.{bind_some}
 use Rattle.rhd_text.proofs.WordLaws.{bare_agrees}

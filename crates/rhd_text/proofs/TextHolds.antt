@@ -1,6 +1,6 @@
 -- What holds of every text: its limits are allowed, the natives of its built-in functions are held, and a line adds one
 -- command at most.
-use Rattle.std.proofs.Common.{◌≡◌, ℕ, ◌+◌, ◌≤◌, Bool, true, false, cond, not, ltb, List, [], ◌∷◌, ◌++◌, length, Option, Some, None, refl, sym, ap, subst, ◌∙◌, arith}
+use Rattle.std.proofs.Common.{◌≡◌, ℕ, ◌+◌, ◌≤◌, Bool, true, false, cond, not, ltb, List, [], ◌∷◌, length, Option, Some, None, refl, sym, ap, subst, ◌∙◌, arith}
 use Rattle.std.specs.Prelude.{IfOk, OnOk, IfSome, nat_le, ◌&&◌, Result, Ok, Err}
 use Rattle.std.specs.List.{list_all}
 use Rattle.std.specs.Option.{is_none}

@@ -11,7 +11,7 @@ use Rattle.rhd_text.specs.declared.part.Part.TheVariants as parts
 use Rattle.rhd_text.specs.declared.place.Place.{Place}
 use Rattle.rhd_text.specs.declared.keyword.CallWord.{CallWord}
 use Rattle.rhd_text.specs.Rows.{Operand, NAME, WORD, WORDS, NUM, LONG, ARG, ARGS, OPTIONAL, WANT, THIS, VALUE, KIND, PRINTER, Meaning, From, Form, Table, CallForm, by_name, call_form, planned, line_forms, step_forms}
-use Rattle.rhd_text.specs.Reading.{◌>>=◌, skip_blanks, is_end, Parse, word_at, name_at, wording_at, texts_at, flag_at, num_at, want_at, this_at, value_at, value_kind_at, printer_at, argument_at, arguments_at}
+use Rattle.rhd_text.specs.Reading.{◌>>=◌, skip_blanks, is_end, word_at, name_at, wording_at, texts_at, flag_at, num_at, want_at, this_at, value_at, value_kind_at, printer_at, argument_at, arguments_at}
 
 -- how each kind of operand is read
 abbrev pub operand_at : (o : Operand) → List ℕ → Option (Meaning o × List ℕ)
