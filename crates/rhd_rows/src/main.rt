@@ -40,12 +40,7 @@ const UNMADE: Ended = Ended {
 const FREE: [u64; 4] = [0, u64::MAX, 0, u64::MAX];
 
 /// Runs the tool with the kit's natives.
-fn run_kit(
-    alloc: Global,
-    words: &[String],
-    source: &mut MemSource,
-    sink: &mut MemSink,
-) -> Ended {
+fn run_kit(alloc: Global, words: &[String], source: &mut MemSource, sink: &mut MemSink) -> Ended {
     let mut natives = Natives::new(alloc);
     kit!(alloc, natives, return UNMADE);
     let end = run_tool(alloc, words, source, sink, natives);
@@ -84,7 +79,10 @@ fn run_text(
 }
 
 fn show_end(rt: &impl Print, end: Ended) -> io::Result<()> {
-    print!(rt; "status {} line {} replies {}", end.status, end.line, end.replies)
+    print!(rt;
+        "status {} line {} replies {}",
+        end.status, end.line, end.replies
+    )
 }
 
 /// Runs a text over these streams, and prints what was written and how it ended.
@@ -215,7 +213,13 @@ fn show_block(rt: &impl Print, alloc: Global, block: &str) -> io::Result<()> {
             show_run(rt, alloc, "run,", FREE, &text)
         }
         "stream" => show_run(rt, alloc, "run,", streams_of(header), &text),
-        "words" => show_run(rt, alloc, header.split(' ').nth(1).unwrap_or(""), FREE, &text),
+        "words" => show_run(
+            rt,
+            alloc,
+            header.split(' ').nth(1).unwrap_or(""),
+            FREE,
+            &text,
+        ),
         _ => show_run(rt, alloc, "run,", FREE, &text),
     }
 }
