@@ -16,7 +16,7 @@ status=0
 for crate in "$@"; do
     edits=$copy/crates/$crate/must-fail
     if [ -d "$edits/more" ]; then
-        mv "$edits"/more/*.edit "$edits/"
+        mv "$edits"/more/*.edit.md "$edits/"
         rmdir "$edits/more"
     fi
     [ -d "$edits" ] || continue
