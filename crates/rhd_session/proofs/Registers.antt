@@ -38,9 +38,9 @@ known w w2 f name id info some made =
 
 -- a fault that is no want of memory is the answer
 pub fault_refused : (w : World) (engine : EngineLists) (f : Frame) (name : Bytes) (id : FnId) (fault : DeclFault) → (fault ≡ OutOfMemory → ⊥) → Registered name id w.engine (Err fault) engine → Declares w f (commands.RegisterFn name id) (Refused fault) (record w { engine = engine }) f
-fault_refused w engine f name id (UnknownNumber number held) no r =
+fault_refused w engine f name id (UnknownNumber number held) other r =
     subst (λ (e : EngineLists). Declares w f (commands.RegisterFn name id) (Refused (UnknownNumber number held)) (record w { engine = e }) f) (sym r.3) (unknown w f name id number held r.0 r.1 r.2)
-fault_refused w engine f name id OutOfMemory no r = absurd (no refl)
+fault_refused w engine f name id OutOfMemory other r = absurd (other refl)
 
 -- Modules and libraries.
 

@@ -74,6 +74,10 @@ puts_node w old f outcome node is = subst (λ (x : Outcome). Put w old f x (Answ
 pub above_at : (base f g : Frame) (n : ℕ) → g ≡ record f { level = n } → IsAbove base f → IsAbove base g
 above_at base f g n e h = ap (given_back (outer_of base)) e ∙ h
 
+-- what is above a frame stays above it where something is given back of it
+pub back_above : (base f g : Frame) (outer : Outer) → g ≡ given_back outer f → IsAbove base f → IsAbove base g
+back_above base f g outer e h = ap (given_back (outer_of base)) e ∙ h
+
 -- the base is above itself
 pub above_itself : (base : Frame) → IsAbove base base
 above_itself base = refl

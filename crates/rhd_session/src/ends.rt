@@ -160,6 +160,7 @@ fn print_and_accept(
 }
 
 /// Ends a call whose function answered a value, and gave this back of its first argument.
+#[tactic(auto, unfolding(rhd_engine::specs::Of::lists_of))]
 pub fn finish(
     alloc: Global,
     engine: &Engine,

@@ -20,10 +20,10 @@ pub returns-in-Pure : goal.returns-in-Pure
 unfolding objects_of
 returns-in-Pure g c = λ begun host.
     native_resumed _ _ c.resume-in-Pure.result c.args.func.now c.args.ctx.now c.args.carry c.args.done c.in-Pure.id _ (moment begun host c.args.bodies.now)
-    (ap native_of c.in-Pure.is) (c.context_if-ctx.ensures ∙ ap (λ (b : Bool). context_if b c.args.ctx.now) (c.has_context.ensures ∙ context_asked _ _ c.args.func.now)) c.resume-in-Pure.ensures.step c.resume-in-Pure.ensures.back
+    (ap native_of c.in-Pure.is) (c.context_if-ctx.ensures ∙ ap (λ (b : Bool). context_if b c.args.ctx.now) (c.has_context.ensures ∙ context_asked _ _ c.args.func.now)) (rw c.natives-natives.ensures at c.resume-in-Pure.ensures.step) c.resume-in-Pure.ensures.back
 
 pub returns-in-Method : goal.returns-in-Method
 unfolding objects_of
 returns-in-Method g c = λ begun host.
     native_resumed _ _ c.resume-in-Method.result c.args.func.now c.args.ctx.now c.args.carry c.args.done c.in-Method.id _ (moment begun host c.args.bodies.now)
-    (ap native_of c.in-Method.is) (c.context_if-ctx-in-Method.ensures ∙ ap (λ (b : Bool). context_if b c.args.ctx.now) (c.has_context-in-Method.ensures ∙ context_asked _ _ c.args.func.now)) c.resume-in-Method.ensures.step c.resume-in-Method.ensures.back
+    (ap native_of c.in-Method.is) (c.context_if-ctx-in-Method.ensures ∙ ap (λ (b : Bool). context_if b c.args.ctx.now) (c.has_context-in-Method.ensures ∙ context_asked _ _ c.args.func.now)) (rw c.natives-natives.ensures at c.resume-in-Method.ensures.step) c.resume-in-Method.ensures.back

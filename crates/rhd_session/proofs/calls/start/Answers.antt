@@ -22,11 +22,11 @@ unfolding objects_of lists_of
 returns-in-Pure g c = λ begun host.
     let ctx = context c.args.state.now (seen c.args.node.now).level (plan_of (seen c.args.node.now).call) c.args.pick.now in
     native_started _ _ c.start_native.result c.args.pick.now.func ctx (record { first = c.args.received.first; args = c.args.received.args }) c.in-Pure.id _ (moment begun host c.args.bodies.now)
-    (ap native_of c.in-Pure.is) refl ? c.start_native.ensures.back
+    (ap native_of c.in-Pure.is) refl (rw c.natives.ensures at c.start_native.ensures.step) c.start_native.ensures.back
 
 pub returns-in-Method : goal.returns-in-Method
 unfolding objects_of lists_of
 returns-in-Method g c = λ begun host.
     let ctx = context c.args.state.now (seen c.args.node.now).level (plan_of (seen c.args.node.now).call) c.args.pick.now in
     native_started _ _ c.start_native-in-Method.result c.args.pick.now.func ctx (record { first = c.args.received.first; args = c.args.received.args }) c.in-Method.id _ (moment begun host c.args.bodies.now)
-    (ap native_of c.in-Method.is) refl ? c.start_native-in-Method.ensures.back
+    (ap native_of c.in-Method.is) refl (rw c.natives-in-Method.ensures at c.start_native-in-Method.ensures.step) c.start_native-in-Method.ensures.back
