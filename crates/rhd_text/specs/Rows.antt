@@ -117,8 +117,11 @@ shape_of handings.AsObject args = first_apart (λ object more. Method object mor
 abbrev pub request_of : Bool → Handing → Option TypeTag → List ℕ → List Tree → Position → Option CallRequest
 request_of native_only handing want f args pos = option_map (λ shape. Named f (token_of f) native_only shape want pos) (shape_of handing args)
 
--- THE FORM OF A CALL: how its word is spelled, its operands, of which some may be given ones or not, and what it asks for at
--- a position, with unit in the places of given values
+-- THE FORM OF A CALL, which serves lines and steps of bodies alike. A word of a call costs here its row in `call_form` and its
+-- place in `all_calls` and `all_keywords`; in the program a variant with its spelling, and the function that reads its operands
+-- where no other word has the same; in the proofs `placed` and `shows` once, and `found` for lines and for steps. It says how
+-- the word is spelled, its operands, of which some may be given ones or not, and what it asks for at a position, with unit in
+-- the places of given values.
 pub record CallForm : Type 0 where
   pub spelling : List ℕ
   pub operands : Bool → List Operand
@@ -211,14 +214,20 @@ form keywords.Ret = record { spelling = codes "ret"; operands = ARG true ∷ [];
 form keywords.Fail = record { spelling = codes "fail"; operands = WORD ∷ []; part = λ place text. Some (parts.End (Fail text)) }
 form keywords.Register = record { spelling = codes "register"; operands = WORD ∷ NUM ∷ []; part = λ place f n. registered f n }
 form keywords.Module = record { spelling = codes "module"; operands = []; part = λ place. Some (parts.Command commands.NewModule) }
-form keywords.Script = record { spelling = codes "script"; operands = NUM ∷ WORD ∷ WORDS ∷ NUM ∷ THIS ∷ OPTIONAL (codes "private") ∷ []; part = λ place m f params n type private. Some (parts.Command (commands.Script (record { 0 = m }) (scripted f params n type private))) }
+form keywords.Script = record {
+  spelling = codes "script";
+  operands = NUM ∷ WORD ∷ WORDS ∷ NUM ∷ THIS ∷ OPTIONAL (codes "private") ∷ [];
+  part = λ place m f params n type private. Some (parts.Command (commands.Script (record { 0 = m }) (scripted f params n type private)));
+}
 form keywords.Lib = record { spelling = codes "lib"; operands = NUM ∷ []; part = λ place m. Some (parts.Command (commands.PushLib (record { 0 = m }))) }
 form keywords.PopLib = record { spelling = codes "pop-lib"; operands = []; part = λ place. Some (parts.Command commands.PopLib) }
 form (keywords.Call w) = called w
 
 -- all keywords, the more frequent ones first
 abbrev pub all_keywords : List Keyword
-all_keywords = keywords.Call words.Call ∷ keywords.Call words.Ref ∷ keywords.Call words.Method ∷ keywords.Call words.CallNative ∷ keywords.Call words.RefNative ∷ keywords.Call words.MethodNative ∷ keywords.Register ∷ keywords.Script ∷ keywords.Module ∷ keywords.Lib ∷ keywords.PopLib ∷ keywords.Body ∷ keywords.Ret ∷ keywords.Fail ∷ keywords.Host ∷ keywords.Builtin ∷ keywords.Limits ∷ keywords.Printer ∷ []
+all_keywords =
+    keywords.Call words.Call ∷ keywords.Call words.Ref ∷ keywords.Call words.Method ∷ keywords.Call words.CallNative ∷ keywords.Call words.RefNative ∷ keywords.Call words.MethodNative
+    ∷ keywords.Register ∷ keywords.Script ∷ keywords.Module ∷ keywords.Lib ∷ keywords.PopLib ∷ keywords.Body ∷ keywords.Ret ∷ keywords.Fail ∷ keywords.Host ∷ keywords.Builtin ∷ keywords.Limits ∷ keywords.Printer ∷ []
 
 -- THE LINES OF A SESSION TEXT, and those that stand after `do`
 abbrev pub line_forms : Table Keyword Part

@@ -40,7 +40,7 @@ pub enum Part {
 }
 
 impl Part {
-    /// Whether it may stand before the first command alone.
+    /// Whether it is a header, which stands before the first command.
     pub fn is_header(&self) -> bool
         ensures { result ≡ is_header self.now }
     {
