@@ -11,21 +11,21 @@ pub returns-clause-all : goal.returns-clause-all
 unfolding handed_of
 returns-clause-all g c =
     all_answered _ c.args.text c.args.text.commands _ _ _ _ c.run_commands.result _ _ _
-      c.run_commands.ensures.gives
-      (ap (objects_of _ _ _ _ _) c.in-Ok.ensures.natives)
-      (start_same _ c.args.text _ _ c.in-Ok.ensures.world c.unwrap_or-limits.ensures)
-      c.in-Ok.ensures.frame
-      (rw (c.in-Ok.ensures.begun, c.new-host.ensures, c.new-bodies.ensures) refl)
+    c.run_commands.ensures.gives
+    (ap (objects_of _ _ _ _ _) c.in-Ok.ensures.natives)
+    (start_same _ c.args.text _ _ c.in-Ok.ensures.world c.unwrap_or-limits.ensures)
+    c.in-Ok.ensures.frame
+    (rw (c.in-Ok.ensures.begun, c.new-host.ensures, c.new-bodies.ensures) refl)
 
 pub returns-clause-some : goal.returns-clause-some
 unfolding handed_of
 returns-clause-some g c =
     some_answered _ c.args.text c.args.text.commands _ _ _ _ c.run_commands.result _ _ _
-      c.run_commands.ensures.gives
-      (ap (objects_of _ _ _ _ _) c.in-Ok.ensures.natives)
-      (start_same _ c.args.text _ _ c.in-Ok.ensures.world c.unwrap_or-limits.ensures)
-      c.in-Ok.ensures.frame
-      (rw (c.in-Ok.ensures.begun, c.new-host.ensures, c.new-bodies.ensures) refl)
+    c.run_commands.ensures.gives
+    (ap (objects_of _ _ _ _ _) c.in-Ok.ensures.natives)
+    (start_same _ c.args.text _ _ c.in-Ok.ensures.world c.unwrap_or-limits.ensures)
+    c.in-Ok.ensures.frame
+    (rw (c.in-Ok.ensures.begun, c.new-host.ensures, c.new-bodies.ensures) refl)
 
 pub run_commands-requires : goal.run_commands-requires
 run_commands-requires g c =
