@@ -1,5 +1,5 @@
 -- How a run ends.
-use Rattle.std.specs.Prelude.{◌⊎◌, ◌≡◌, ◌<◌, ◌^◌, ℕ, List, [], ◌∷◌, length, take, unwrap_or, codes}
+use Rattle.std.specs.Prelude.{◌⊎◌, ◌≡◌, ℕ, List, [], ◌∷◌, length, take, unwrap_or, codes}
 use Rattle.std.specs.declared.option.Option.{Option}
 use Rattle.std.specs.Io.KnownBytes.{Appends}
 use Rattle.std.specs.Str.Lines.{lines}
@@ -25,10 +25,6 @@ most_bytes = 16777216
 -- the one list of words that runs a text
 abbrev pub run_words : List (List ℕ)
 run_words = codes "run" ∷ []
-
--- 0 to 6
-abbrev pub IsStatus : ℕ → Type 0
-IsStatus n = (n ≡ 0) ⊎ (n ≡ 1) ⊎ (n ≡ 2) ⊎ (n ≡ 3) ⊎ (n ≡ 4) ⊎ (n ≡ 5) ⊎ (n ≡ 6)
 
 -- all bytes of the source were read, and this line is the first that is no line of a session text
 pub record WasBad (natives : List NativeInfo) (old new : Option (List ℕ)) (line : ℕ) : Type 0 where

@@ -13,3 +13,6 @@ answer_and_write-requires-clause-level g c = limits_allowed c.in-Ok.text.limits 
 
 pub answer_and_write-requires-clause-count : goal.answer_and_write-requires-clause-count
 answer_and_write-requires-clause-count g c = omega (arith, c.in-Ok.ensures.count, c.requires)
+
+pub returns-in-Err-BadLine-clause-text : goal.returns-in-Err-BadLine-clause-text
+returns-in-Err-BadLine-clause-text g c = λ text says two. rw c.in-Err-BadLine.field-0-is at (c.in-Err-BadLine.ensures.text text says)
