@@ -8,7 +8,7 @@ use Rattle.rhd_value.specs.Firsts.{first_of}
 use Rattle.rhd_value.specs.Same.{tag_eq, tag_eq-Decides}
 use Rattle.rhd_value.specs.declared.tag.TypeTag.{TypeTag}
 use Rattle.rhd_value.specs.declared.tag.TypeTag.TheVariants.{Dynamic}
-use Rattle.rhd_session.specs.Patterns.{patterns_to}
+use Rattle.rhd_dispatch.specs.Patterns.{patterns_to}
 use Rattle.rhd_laws.specs.Matches.{Takes, its_kind, any_kind, TypesMatch, IsMoreExact}
 
 -- place by place, where n types may be `Dynamic`

@@ -6,7 +6,7 @@ use Rattle.rhd_value.specs.Kinds.{tag_of, tag_of_kind}
 use Rattle.rhd_value.specs.Tree.{Tree, Kind, unit, boolean, integer, character, text, array, object, pointer, custom}
 use Rattle.rhd_value.specs.declared.tag.TypeTag.{TypeTag}
 use Rattle.rhd_value.specs.declared.tag.TypeTag.TheVariants.{Dynamic}
-use Rattle.rhd_session.specs.Patterns.{patterns_to, patterns}
+use Rattle.rhd_dispatch.specs.Patterns.{patterns_to, patterns}
 use Rattle.rhd_laws.specs.Matches.{IsMoreExact}
 use Rattle.rhd_laws.proofs.PatternOrder.{MatchTo, Before, not_before_itself, pattern_matches, before_is, is_before, as_long, in_order, Ordered, first_goes, second_goes, same_types}
 

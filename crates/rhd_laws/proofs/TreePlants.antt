@@ -7,17 +7,17 @@ use Rattle.rhd_func.specs.declared.request.CallRequest.{CallRequest}
 use Rattle.rhd_func.specs.declared.request.Carry.{Carry}
 use Rattle.rhd_func.specs.declared.request.NativeStep.{NativeStep}
 use Rattle.rhd_func.specs.declared.request.NativeStep.TheVariants.{Ask}
-use Rattle.rhd_session.specs.declared.node.CallNode.{CallNode}
-use Rattle.rhd_session.specs.declared.pick.Pick.{Pick}
-use Rattle.rhd_session.specs.Engine.{EngineLists, Frame}
+use Rattle.rhd_call.specs.declared.node.CallNode.{CallNode}
+use Rattle.rhd_call.specs.declared.pick.Pick.{Pick}
+use Rattle.rhd_engine.specs.Engine.{EngineLists, Frame}
 use Rattle.rhd_session.specs.World.{World, Objects, Moment}
 use Rattle.rhd_session.specs.Plans.{Plan}
-use Rattle.rhd_session.specs.Ends.{End}
+use Rattle.rhd_call.specs.End.{End}
 use Rattle.rhd_session.specs.Ends.{end_of}
 use Rattle.rhd_session.specs.Entered.{context}
-use Rattle.rhd_session.specs.Seen.{Seen, seen, done_of}
+use Rattle.rhd_call.specs.Seen.{Seen, seen, done_of}
 use Rattle.rhd_session.specs.Steps.{Resumes}
-use Rattle.rhd_session.specs.Trees.{is_root, is_below, AllBegun, CutTree, cut_here, cut_below}
+use Rattle.rhd_call.specs.Trees.{is_root, is_below, AllBegun, CutTree, cut_here, cut_below}
 use Rattle.rhd_laws.specs.Requests.{Requests, no_more, the_last, one_then}
 
 no_end : (e : EngineLists) (plan : Plan) (pick : Pick) (request : CallRequest) (carry : Carry) (end : End) → end_of e plan pick (Ask request carry) ≡ Some end → ⊥
@@ -44,7 +44,7 @@ module _ {H B : Type 0} (o : Objects H B) (w : World) (f : Frame) (level : ℕ) 
   another_call request carry carries child children end cut requests = other_by requests request carry child children refl refl
 
   second_by : {step : NativeStep} {carries : List Carry} {children : List CallNode} {end : End} {cut : Bool} → Requests o w f level call plan pick step carries children end cut → (request : CallRequest) (carry : Carry) (child : CallNode) →
-      ((next : NativeStep) (from to : Moment H B) → Resumes o (context f level plan) pick.func carry (done_of child) from next to → (again : CallRequest) × (kept : Carry) × (next ≡ Ask again kept)) →
+      ((next : NativeStep) (from to : Moment H B) → Resumes o w.engine.natives (context f level plan pick) pick.func carry (done_of child) from next to → (again : CallRequest) × (kept : Carry) × (next ≡ Ask again kept)) →
       step ≡ Ask request carry → children ≡ child ∷ [] → cut ≡ true
   second_by (no_more e) request carry child asks is these = absurd cc
   second_by (the_last is' short e) request carry child asks is these = refl
@@ -52,12 +52,12 @@ module _ {H B : Type 0} (o : Objects H B) (w : World) (f : Frame) (level : ℕ) 
       let k : c ≡ carry = (let same : Ask (seen n).call c ≡ Ask request carry = sym is' ∙ is in cc) in
       let m : n ≡ child = cc in
       let none : rest ≡ [] = cc in
-      let again = asks next from to (subst (λ (x : Carry). Resumes o (context f level plan) pick.func x (done_of child) from next to) k (subst (λ (x : CallNode). Resumes o (context f level plan) pick.func c (done_of x) from next to) m resumed)) in
+      let again = asks next from to (subst (λ (x : Carry). Resumes o w.engine.natives (context f level plan pick) pick.func x (done_of child) from next to) k (subst (λ (x : CallNode). Resumes o w.engine.natives (context f level plan pick) pick.func c (done_of x) from next to) m resumed)) in
       absurd (dropped_by requests again.0 again.1 again.2 none)
 
   -- a function that asks again after the answer to its first request has a second child, unless the budget was spent in the first
   pub second_dropped : (request : CallRequest) (carry : Carry) (carries : List Carry) (child : CallNode) (end : End) (cut : Bool) →
-      ((next : NativeStep) (from to : Moment H B) → Resumes o (context f level plan) pick.func carry (done_of child) from next to → (again : CallRequest) × (kept : Carry) × (next ≡ Ask again kept)) →
+      ((next : NativeStep) (from to : Moment H B) → Resumes o w.engine.natives (context f level plan pick) pick.func carry (done_of child) from next to → (again : CallRequest) × (kept : Carry) × (next ≡ Ask again kept)) →
       Requests o w f level call plan pick (Ask request carry) carries (child ∷ []) end cut → cut ≡ true
   second_dropped request carry carries child end cut asks requests = second_by requests request carry child asks refl refl
 

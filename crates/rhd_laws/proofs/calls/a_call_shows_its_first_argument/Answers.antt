@@ -3,16 +3,16 @@ use Rattle.rhd_laws.proofs.NodeEnds.{runs_end, first_alone, native_leaves, scrip
 use Rattle.rhd_laws.proofs.calls.a_call_shows_its_first_argument.Goals as goal
 
 pub returns-clause-alone : goal.returns-clause-alone
-returns-clause-alone g c = λ f level call node before after cut r h. first_alone _ _ (runs_end _ _ r) h
+returns-clause-alone g c = λ w f level call node before after cut r h. first_alone _ _ (runs_end _ _ r) h
 
 pub returns-clause-by_value : goal.returns-clause-by_value
-returns-clause-by_value g c = λ f level call node before after pick r h s m. native_leaves _ _ pick (runs_end _ _ r) refl h s m
+returns-clause-by_value g c = λ w f level call node before after pick r h s m. native_leaves _ _ pick (runs_end _ _ r) refl h s m
 
 pub returns-clause-script : goal.returns-clause-script
-returns-clause-script g c = λ f level call node before after pick first args r h s is. script_leaves _ _ pick first args (runs_end _ _ r) refl h s is
+returns-clause-script g c = λ w f level call node before after pick first args r h s is. script_leaves _ _ pick first args (runs_end _ _ r) refl h s is
 
 pub returns-clause-method : goal.returns-clause-method
-returns-clause-method g c = λ f level call node before after pick first r h m is. method_gives _ _ pick first (runs_end _ _ r) refl h m is
+returns-clause-method g c = λ w f level call node before after pick first r h m is. method_gives _ _ pick first (runs_end _ _ r) refl h m is
 
 pub returns-clause-object : goal.returns-clause-object
-returns-clause-object g c = λ f level call node before after pick object args r h s is. object_gives _ _ pick object args (runs_end _ _ r) refl h s is
+returns-clause-object g c = λ w f level call node before after pick object args r h s is. object_gives _ _ pick object args (runs_end _ _ r) refl h s is

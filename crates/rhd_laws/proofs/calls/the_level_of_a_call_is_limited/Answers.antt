@@ -4,13 +4,13 @@ use Rattle.rhd_laws.proofs.TreeLaws.{tree_within}
 use Rattle.rhd_laws.proofs.calls.the_level_of_a_call_is_limited.Goals as goal
 
 pub returns-clause-refused : goal.returns-clause-refused
-returns-clause-refused g c = λ e level call. refused_exactly e level call
+returns-clause-refused g c = λ e f level call. refused_exactly e f level call
 
 pub returns-clause-ends : goal.returns-clause-ends
-returns-clause-ends g c = λ f level call node before after cut r begun. deep_exactly _ _ r begun
+returns-clause-ends g c = λ w f level call node before after cut r begun. deep_exactly _ _ r begun
 
 pub returns-clause-shown : goal.returns-clause-shown
-returns-clause-shown g c = λ f level call node before after cut r begun h. deep_shown _ _ r begun h
+returns-clause-shown g c = λ w f level call node before after cut r begun h. deep_shown _ _ r begun h
 
 pub returns-clause-within : goal.returns-clause-within
-returns-clause-within g c = λ f call root node before after cut r inside. tree_within _ _ inside r (omega arith)
+returns-clause-within g c = λ w f call root node before after cut r inside. tree_within _ _ inside r (omega arith)
