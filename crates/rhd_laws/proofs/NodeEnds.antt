@@ -63,10 +63,10 @@ unrefused_parts call limit level true locked e h = absurd cc
 unrefused_parts call limit level false (Some n) e h = absurd cc
 unrefused_parts call limit level false None e h = (ltb-false limit level e, refl)
 
-plan_given : (call : CallRequest) → (plan_of call).given ≡ given call
+pub plan_given : (call : CallRequest) → (plan_of call).given ≡ given call
 plan_given (Named name token native_only shape want pos) = refl
 
-given_shape : (call : CallRequest) → first_given (plan_of call).shape ≡ given call
+pub given_shape : (call : CallRequest) → first_given (plan_of call).shape ≡ given call
 given_shape (Named name token native_only shape want pos) = refl
 
 -- what of its first argument a function has itself
@@ -97,7 +97,7 @@ no_script : (e : EngineLists) (plan : Plan) (pick : Pick) → is_script pick.fun
 no_script e plan pick s on = let q : true ≡ false = sym s ∙ on.native in absurd cc
 
 -- every end of a last step shows the first argument as it is in the end
-ends_first : {engine : EngineLists} {plan : Plan} {pick : Pick} {step : NativeStep} {end : End} → EndsBy engine plan pick step end → end.first_after ≡ first_at_end engine plan pick (back_of step)
+pub ends_first : {engine : EngineLists} {plan : Plan} {pick : Pick} {step : NativeStep} {end : End} → EndsBy engine plan pick step end → end.first_after ≡ first_at_end engine plan pick (back_of step)
 ends_first {engine} {plan = plan} {pick = pick} (fails fault back is e) = ap (λ (x : End). x.first_after) e ∙ ap (first_at_end engine plan pick) (sym (ap back_of is))
 ends_first {engine} {plan = plan} {pick = pick} (is_large v back what is l e) = ap (λ (x : End). x.first_after) e ∙ ap (first_at_end engine plan pick) (sym (ap back_of is))
 ends_first {engine} {plan = plan} {pick = pick} (is_other v made back wanted is within other e) = ap (λ (x : End). x.first_after) e ∙ ap (first_at_end engine plan pick) (sym (ap back_of is))
@@ -105,6 +105,9 @@ ends_first {engine} {plan = plan} {pick = pick} (fits v made back is within text
 
 pub not_own : {fault own : EvalAltResult} (end : End) → end.answer ≡ Err own → end.answer ≡ Err fault → fault ≡ own
 not_own end e h = cc
+
+same_overflow : {a b : Position} → ErrorStackOverflow a ≡ ErrorStackOverflow b → a ≡ b
+same_overflow h = cc
 
 pub no_fault : {fault own : EvalAltResult} (end : End) → end.answer ≡ Err own → end.answer ≡ Err fault → (number fault ≡ number own → ⊥) → ⊥
 no_fault end e h n = n (ap number (not_own end e h))
@@ -449,15 +452,15 @@ module _ {H B : Type 0} (o : Objects H B) (w : World) where
   spends_not (was_cut pick c l none begun' shown e) lasts begun h = let q : true ≡ false = sym c ∙ lasts in absurd cc
 
   -- and fault 10 that of a level above the limit
-  pub overflows : {f : Frame} {level : ℕ} {call : CallRequest} {node : CallNode} {cut : Bool} → ShowsEnd f level call node cut → (seen node).begun ≡ true → IsOwn (seen node).end (ErrorStackOverflow (pos_of call)) → w.engine.limits.level < level
-  overflows (isnt_begun s) begun h = let q : false ≡ true = sym (ap (λ (x : Seen). x.begun) s) ∙ begun in absurd cc
-  overflows (is_deep deep s) begun h = deep
-  overflows {node = node} (is_locked n l place s) begun h = absurd (no_fault (seen node).end (ap (λ (x : Seen). x.end.answer) s) h.1 (λ q. absurd (omega (arith, q))))
-  overflows {call = call} {node = node} (is_missing l none s) begun h = absurd (no_missing w.engine call (seen node).end (ap (λ (x : Seen). x.end) s) h (λ q. absurd (omega (arith, q))))
-  overflows {node = node} (by_host from to answer l none c told alone says) begun h = absurd (no_host (seen node).end says h (λ q. absurd (omega (arith, q))) (λ q. absurd (omega (arith, q))))
-  overflows {node = node} (is_constant own l none u first on s) begun h = absurd (no_fault (seen node).end (ap (λ (x : Seen). x.end.answer) s) h.1 (λ q. absurd (omega (arith, q))))
-  overflows {call = call} {node = node} (has_ended pick last l none c came by) begun h = absurd (no_other (seen node).end (ErrorStackOverflow (pos_of call)) by (λ q. absurd (omega (arith, q))) (λ q. absurd (omega (arith, q))) h)
-  overflows {node = node} (was_cut pick c l none begun' shown e) begun h = absurd (no_fault (seen node).end (ap (λ (x : End). x.answer) e) h.1 (λ q. absurd (omega (arith, q))))
+  pub overflows : {f : Frame} {level : ℕ} {call : CallRequest} {node : CallNode} {cut : Bool} (pos : Position) → ShowsEnd f level call node cut → (seen node).begun ≡ true → IsOwn (seen node).end (ErrorStackOverflow pos) → (w.engine.limits.level < level) × (pos ≡ pos_of call)
+  overflows pos (isnt_begun s) begun h = let q : false ≡ true = sym (ap (λ (x : Seen). x.begun) s) ∙ begun in absurd cc
+  overflows {call = call} {node = node} pos (is_deep deep s) begun h = (deep, same_overflow (not_own (seen node).end (ap (λ (x : Seen). x.end.answer) s) h.1))
+  overflows {node = node} pos (is_locked n l place s) begun h = absurd (no_fault (seen node).end (ap (λ (x : Seen). x.end.answer) s) h.1 (λ q. absurd (omega (arith, q))))
+  overflows {call = call} {node = node} pos (is_missing l none s) begun h = absurd (no_missing w.engine call (seen node).end (ap (λ (x : Seen). x.end) s) h (λ q. absurd (omega (arith, q))))
+  overflows {node = node} pos (by_host from to answer l none c told alone says) begun h = absurd (no_host (seen node).end says h (λ q. absurd (omega (arith, q))) (λ q. absurd (omega (arith, q))))
+  overflows {node = node} pos (is_constant own l none u first on s) begun h = absurd (no_fault (seen node).end (ap (λ (x : Seen). x.end.answer) s) h.1 (λ q. absurd (omega (arith, q))))
+  overflows {call = call} {node = node} pos (has_ended pick last l none c came by) begun h = absurd (no_other (seen node).end (ErrorStackOverflow pos) by (λ q. absurd (omega (arith, q))) (λ q. absurd (omega (arith, q))) h)
+  overflows {node = node} pos (was_cut pick c l none begun' shown e) begun h = absurd (no_fault (seen node).end (ap (λ (x : End). x.answer) e) h.1 (λ q. absurd (omega (arith, q))))
 
   -- a node shows a refused value in these two cases alone
   refused_only : {f : Frame} {level : ℕ} {call : CallRequest} {node : CallNode} {cut : Bool} (value : Tree) → ShowsEnd f level call node cut → (seen node).end.refused ≡ Some value → RefusesValue o w f (seen node) value

@@ -32,7 +32,7 @@ use Rattle.rhd_dispatch.specs.Asks.{looked, native_found, builtin, builtin_pick,
 use Rattle.rhd_session.specs.Plans.{plan_of, token_in}
 use Rattle.rhd_session.specs.Decisions.{asks_of}
 use Rattle.rhd_laws.specs.FirstAsks.{IsAnsweredFirst, IsUnanswered}
-use Rattle.rhd_laws.specs.Matches.{TypesMatch, kinds_in, MatchesCall, by_type, by_number, by_kinds, IsEarlier, turn, GoesBefore, earlier_turn, more_exact, earlier_module, NoneMatches, IsFirstMatch, IsFirstBuiltin, HasBuiltin, IsAnsweredBy, by_declaration, by_builtin, all_received}
+use Rattle.rhd_laws.specs.Matches.{TypesMatch, kinds_in, MatchesCall, by_type, by_number, by_kinds, IsEarlier, rank, GoesBefore, lower_rank, more_exact, earlier_module, NoneMatches, IsFirstMatch, IsFirstBuiltin, HasBuiltin, IsAnsweredBy, by_declaration, by_builtin, all_received}
 use Rattle.rhd_laws.proofs.FirstAnswered.{first_is-first, first_none, none_first}
 use Rattle.rhd_laws.proofs.PatternOrder.{or_parts, match_to, is_before, in_order, Ordered, first_goes, second_goes, same_types}
 use Rattle.rhd_laws.proofs.PickPlaces.{modules_ordered, same_declared, sources_same, same_shown}
@@ -98,11 +98,11 @@ data KeysOrdered (kinds : List TypeTag) (key other : Key) : Type 0 where
   goes_second : ((layer behind : Layer) → GoesBefore kinds other layer key behind) → KeysOrdered kinds key other
   one_key : key ≡ other → KeysOrdered kinds key other
 
-by_turn : (kinds : List TypeTag) (key other : Key) (n m : ℕ) → turn key ≡ n → turn other ≡ m → n < m → KeysOrdered kinds key other
-by_turn kinds key other n m a b less = goes_first (λ layer behind. earlier_turn (omega (arith, a, b, less)))
+by_rank : (kinds : List TypeTag) (key other : Key) (n m : ℕ) → rank key ≡ n → rank other ≡ m → n < m → KeysOrdered kinds key other
+by_rank kinds key other n m a b less = goes_first (λ layer behind. lower_rank (omega (arith, a, b, less)))
 
-by_turn_back : (kinds : List TypeTag) (key other : Key) (n m : ℕ) → turn key ≡ n → turn other ≡ m → m < n → KeysOrdered kinds key other
-by_turn_back kinds key other n m a b less = goes_second (λ layer behind. earlier_turn (omega (arith, a, b, less)))
+by_rank_back : (kinds : List TypeTag) (key other : Key) (n m : ℕ) → rank key ≡ n → rank other ≡ m → m < n → KeysOrdered kinds key other
+by_rank_back kinds key other n m a b less = goes_second (λ layer behind. lower_rank (omega (arith, a, b, less)))
 
 same_typed : (e : EngineLists) (name : Bytes) (target other : Tree) (args others : List Tree) → Method target args ≡ Method other others → Typed None name (length args) (display e target) ≡ Typed None name (length others) (display e other)
 same_typed e name target other args others same =
@@ -117,13 +117,13 @@ natives_ordered kinds key other name types others k o (same_types s) = one_key (
 
 keys_ordered : (e : EngineLists) (call : CallRequest) (key other : Key) → MatchesCall e call key → MatchesCall e call other → KeysOrdered (kinds_in call) key other
 keys_ordered e call key other (by_type x xs a s k) (by_type y ys b t o) = one_key (k ∙ same_typed e (plan_of call).name x y xs ys (sym s ∙ t) ∙ sym o)
-keys_ordered e call key other (by_type x xs a s k) (by_number b o) = by_turn (kinds_in call) key other 0 1 (ap turn k) (ap turn o) (omega arith)
-keys_ordered e call key other (by_type x xs a s k) (by_kinds ts o m) = by_turn (kinds_in call) key other 0 2 (ap turn k) (ap turn o) (omega arith)
-keys_ordered e call key other (by_number a k) (by_type y ys b t o) = by_turn_back (kinds_in call) key other 1 0 (ap turn k) (ap turn o) (omega arith)
+keys_ordered e call key other (by_type x xs a s k) (by_number b o) = by_rank (kinds_in call) key other 0 1 (ap rank k) (ap rank o) (omega arith)
+keys_ordered e call key other (by_type x xs a s k) (by_kinds ts o m) = by_rank (kinds_in call) key other 0 2 (ap rank k) (ap rank o) (omega arith)
+keys_ordered e call key other (by_number a k) (by_type y ys b t o) = by_rank_back (kinds_in call) key other 1 0 (ap rank k) (ap rank o) (omega arith)
 keys_ordered e call key other (by_number a k) (by_number b o) = one_key (k ∙ sym o)
-keys_ordered e call key other (by_number a k) (by_kinds ts o m) = by_turn (kinds_in call) key other 1 2 (ap turn k) (ap turn o) (omega arith)
-keys_ordered e call key other (by_kinds types k n) (by_type y ys b t o) = by_turn_back (kinds_in call) key other 2 0 (ap turn k) (ap turn o) (omega arith)
-keys_ordered e call key other (by_kinds types k n) (by_number b o) = by_turn_back (kinds_in call) key other 2 1 (ap turn k) (ap turn o) (omega arith)
+keys_ordered e call key other (by_number a k) (by_kinds ts o m) = by_rank (kinds_in call) key other 1 2 (ap rank k) (ap rank o) (omega arith)
+keys_ordered e call key other (by_kinds types k n) (by_type y ys b t o) = by_rank_back (kinds_in call) key other 2 0 (ap rank k) (ap rank o) (omega arith)
+keys_ordered e call key other (by_kinds types k n) (by_number b o) = by_rank_back (kinds_in call) key other 2 1 (ap rank k) (ap rank o) (omega arith)
 keys_ordered e call key other (by_kinds types k n) (by_kinds ts o m) = natives_ordered (kinds_in call) key other (plan_of call).name types ts k o (in_order 16 (kinds_in call) types ts (match_to types (kinds_in call) n) (match_to ts (kinds_in call) m))
 
 -- One pick answers a call.

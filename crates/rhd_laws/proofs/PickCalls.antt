@@ -26,7 +26,7 @@ use Rattle.rhd_dispatch.specs.Asks.{looked, native, native_found, builtin, built
 use Rattle.rhd_session.specs.Plans.{plan_of, only_natives, token_in}
 use Rattle.rhd_session.specs.Decisions.{asks_of}
 use Rattle.rhd_laws.specs.FirstAsks.{IsAnsweredFirst}
-use Rattle.rhd_laws.specs.Matches.{TypesMatch, IsMoreExact, kinds_in, MatchesCall, by_type, by_number, by_kinds, HasDeclaration, IsEarlier, turn, GoesBefore, earlier_turn, more_exact, earlier_module, NoneMatches, IsFirstBuiltin, HasBuiltin, IsAnsweredBy, by_declaration, by_builtin, IsInFirstModule}
+use Rattle.rhd_laws.specs.Matches.{TypesMatch, IsMoreExact, kinds_in, MatchesCall, by_type, by_number, by_kinds, HasDeclaration, IsEarlier, rank, GoesBefore, lower_rank, more_exact, earlier_module, NoneMatches, IsFirstBuiltin, HasBuiltin, IsAnsweredBy, by_declaration, by_builtin, IsInFirstModule}
 use Rattle.rhd_laws.proofs.FirstAnswered.{is-first_first}
 use Rattle.rhd_laws.proofs.PatternOrder.{or_cases, or_none, none_matching, first_pattern, FirstOf, first_types, match_to, types_match, before_is}
 use Rattle.rhd_laws.proofs.PickPlaces.{found_where, is_in_first, not_found}
@@ -60,7 +60,7 @@ same_natives other name own types others a b = let q : Native None name types �
 
 typed_before : (e : EngineLists) (f : Frame) (call : CallRequest) (object : Tree) (args : List Tree) (pick : Pick) → IsInFirstModule e f (Typed None (plan_of call).name (length args) (display e object)) pick
     → (other : Key) (layer : Layer) (d : Declaration) → MatchesCall e call other → HasDeclaration e f layer other d → GoesBefore (kinds_in call) other layer (Typed None (plan_of call).name (length args) (display e object)) pick.layer → ⊥
-typed_before e f call object args pick r other layer d m it (earlier_turn less) = omega (arith, less)
+typed_before e f call object args pick r other layer d m it (lower_rank less) = omega (arith, less)
 typed_before e f call object args pick r other layer d m it (more_exact name types others k o x) = typed_native (Typed None (plan_of call).name (length args) (display e object)) (plan_of call).name name (length args) (display e object) others refl o
 typed_before e f call object args pick r other layer d m it (earlier_module same before) = not_earlier e f (Typed None (plan_of call).name (length args) (display e object)) other pick layer d r same it before
 
@@ -71,14 +71,14 @@ typed_first e f call object args pick allowed shape h =
     let r : IsInFirstModule e f key pick = is_in_first e f key pick (found_where e f key pick h) in
     by_declaration key (record { matches = by_type object args allowed shape refl; decl = r.decl; stands = r.stands; func = r.func; source = r.source; first = typed_before e f call object args pick r })
 
-script_turn : (e : EngineLists) (f : Frame) (call : CallRequest) (other : Key) (layer : Layer) (d : Declaration) → NoTyped e f call → MatchesCall e call other → HasDeclaration e f layer other d → turn other < 1 → ⊥
-script_turn e f call other layer d untyped (by_type object args allowed shape k) it less = undeclared e f (Typed None (plan_of call).name (length args) (display e object)) other layer d k (untyped object args allowed shape) it
-script_turn e f call other layer d untyped (by_number allowed k) it less = let t : turn other ≡ 1 = ap turn k in omega (arith, less, t)
-script_turn e f call other layer d untyped (by_kinds types k m) it less = let t : turn other ≡ 2 = ap turn k in omega (arith, less, t)
+script_rank : (e : EngineLists) (f : Frame) (call : CallRequest) (other : Key) (layer : Layer) (d : Declaration) → NoTyped e f call → MatchesCall e call other → HasDeclaration e f layer other d → rank other < 1 → ⊥
+script_rank e f call other layer d untyped (by_type object args allowed shape k) it less = undeclared e f (Typed None (plan_of call).name (length args) (display e object)) other layer d k (untyped object args allowed shape) it
+script_rank e f call other layer d untyped (by_number allowed k) it less = let t : rank other ≡ 1 = ap rank k in omega (arith, less, t)
+script_rank e f call other layer d untyped (by_kinds types k m) it less = let t : rank other ≡ 2 = ap rank k in omega (arith, less, t)
 
 script_before : (e : EngineLists) (f : Frame) (call : CallRequest) (pick : Pick) → NoTyped e f call → IsInFirstModule e f (Script None (plan_of call).name (params_of (plan_of call).shape)) pick
     → (other : Key) (layer : Layer) (d : Declaration) → MatchesCall e call other → HasDeclaration e f layer other d → GoesBefore (kinds_in call) other layer (Script None (plan_of call).name (params_of (plan_of call).shape)) pick.layer → ⊥
-script_before e f call pick untyped r other layer d m it (earlier_turn less) = script_turn e f call other layer d untyped m it less
+script_before e f call pick untyped r other layer d m it (lower_rank less) = script_rank e f call other layer d untyped m it less
 script_before e f call pick untyped r other layer d m it (more_exact name types others k o x) = script_native (Script None (plan_of call).name (params_of (plan_of call).shape)) (plan_of call).name name (params_of (plan_of call).shape) others refl o
 script_before e f call pick untyped r other layer d m it (earlier_module same before) = not_earlier e f (Script None (plan_of call).name (params_of (plan_of call).shape)) other pick layer d r same it before
 
@@ -92,10 +92,10 @@ script_first e f call pick untyped allowed h =
 abbrev pub NoneBefore : EngineLists → Frame → CallRequest → List TypeTag → Type 0
 NoneBefore e f call types = (others : List TypeTag) → TypesMatch others (kinds_in call) → IsMoreExact (kinds_in call) others types → found e f.lib f.imports (Native None (plan_of call).name others) ≡ None
 
-native_turn : (e : EngineLists) (f : Frame) (call : CallRequest) (other : Key) (layer : Layer) (d : Declaration) → NoTyped e f call → NoScript e f call → MatchesCall e call other → HasDeclaration e f layer other d → turn other < 2 → ⊥
-native_turn e f call other layer d untyped unscripted (by_type object args allowed shape k) it less = undeclared e f (Typed None (plan_of call).name (length args) (display e object)) other layer d k (untyped object args allowed shape) it
-native_turn e f call other layer d untyped unscripted (by_number allowed k) it less = undeclared e f (Script None (plan_of call).name (params_of (plan_of call).shape)) other layer d k (unscripted allowed) it
-native_turn e f call other layer d untyped unscripted (by_kinds types k m) it less = let t : turn other ≡ 2 = ap turn k in omega (arith, less, t)
+native_rank : (e : EngineLists) (f : Frame) (call : CallRequest) (other : Key) (layer : Layer) (d : Declaration) → NoTyped e f call → NoScript e f call → MatchesCall e call other → HasDeclaration e f layer other d → rank other < 2 → ⊥
+native_rank e f call other layer d untyped unscripted (by_type object args allowed shape k) it less = undeclared e f (Typed None (plan_of call).name (length args) (display e object)) other layer d k (untyped object args allowed shape) it
+native_rank e f call other layer d untyped unscripted (by_number allowed k) it less = undeclared e f (Script None (plan_of call).name (params_of (plan_of call).shape)) other layer d k (unscripted allowed) it
+native_rank e f call other layer d untyped unscripted (by_kinds types k m) it less = let t : rank other ≡ 2 = ap rank k in omega (arith, less, t)
 
 native_exact : (e : EngineLists) (f : Frame) (call : CallRequest) (types : List TypeTag) (other : Key) (layer : Layer) (d : Declaration) (name : Bytes) (exact others : List TypeTag) → NoneBefore e f call types → MatchesCall e call other → HasDeclaration e f layer other d
     → other ≡ Native None name exact → Native None (plan_of call).name types ≡ Native None name others → IsMoreExact (kinds_in call) exact others → ⊥
@@ -108,7 +108,7 @@ native_exact e f call types other layer d name exact others none (by_kinds own k
 
 native_before : (e : EngineLists) (f : Frame) (call : CallRequest) (pick : Pick) (types : List TypeTag) → NoTyped e f call → NoScript e f call → NoneBefore e f call types → IsInFirstModule e f (Native None (plan_of call).name types) pick
     → (other : Key) (layer : Layer) (d : Declaration) → MatchesCall e call other → HasDeclaration e f layer other d → GoesBefore (kinds_in call) other layer (Native None (plan_of call).name types) pick.layer → ⊥
-native_before e f call pick types untyped unscripted none r other layer d m it (earlier_turn less) = native_turn e f call other layer d untyped unscripted m it less
+native_before e f call pick types untyped unscripted none r other layer d m it (lower_rank less) = native_rank e f call other layer d untyped unscripted m it less
 native_before e f call pick types untyped unscripted none r other layer d m it (more_exact name exact others k o x) = native_exact e f call types other layer d name exact others none m it k o x
 native_before e f call pick types untyped unscripted none r other layer d m it (earlier_module same before) = not_earlier e f (Native None (plan_of call).name types) other pick layer d r same it before
 

@@ -3,6 +3,7 @@ use Rattle.std.proofs.Common.{◌≡◌, ℕ, ◌<◌, Bool, true, false, ltb, [
 use Rattle.std.specs.Prelude.{◌↔◌, Option, None, Some, Err}
 use Rattle.std.proofs.lemmas.Bool.{ltb-true}
 use Rattle.rhd_value.specs.declared.fault.EvalAltResult.TheVariants.{ErrorTooManyOperations, ErrorStackOverflow}
+use Rattle.rhd_value.specs.declared.tag.Position.{Position}
 use Rattle.rhd_func.specs.declared.request.CallRequest.{CallRequest}
 use Rattle.rhd_func.specs.Shapes.{given, pos_of}
 use Rattle.rhd_call.specs.declared.node.CallNode.{CallNode}
@@ -14,6 +15,7 @@ use Rattle.rhd_session.specs.Plans.{plan_of}
 use Rattle.rhd_call.specs.End.{End, failed}
 use Rattle.rhd_session.specs.Decisions.{ends, asks_host, locked_place, refusal}
 use Rattle.rhd_laws.specs.FirstAsks.{IsAnsweredFirst, EndsAlone}
+use Rattle.rhd_laws.specs.Causes.{IsOwn}
 use Rattle.rhd_laws.specs.Hosts.{EndsByHost}
 use Rattle.rhd_call.specs.Seen.{Seen, seen, begun_node, unbegun_node}
 use Rattle.rhd_session.specs.Runs.{Runs, not_begun, ended, host_answered, finished, cut_short}
@@ -79,10 +81,18 @@ module _ {H B : Type 0} (o : Objects H B) (w : World) where
   deep_shown (cut_short {f = f} {level = level} {call = call} {plan = plan} {pick = pick} b d starts steps r s) begun h = absurd (omega (arith, runs_within w.engine f level call plan pick d))
 
   deep_only : {f : Frame} {level : ℕ} {call : CallRequest} {node : CallNode} {before after : Moment H B} {cut : Bool} → Runs o w f level call node before after cut → (seen node).begun ≡ true → (seen node).end ≡ failed (given call) (ErrorStackOverflow (pos_of call)) → w.engine.limits.level < level
-  deep_only r begun h = overflows o w (runs_end o w r) begun (ap (λ (x : End). x.whose) h, ap (λ (x : End). x.answer) h)
+  deep_only {call = call} r begun h = (overflows o w (pos_of call) (runs_end o w r) begun (ap (λ (x : End). x.whose) h, ap (λ (x : End). x.answer) h)).0
 
   pub deep_exactly : {f : Frame} {level : ℕ} {call : CallRequest} {node : CallNode} {before after : Moment H B} {cut : Bool} → Runs o w f level call node before after cut → (seen node).begun ≡ true → ((seen node).end ≡ failed (given call) (ErrorStackOverflow (pos_of call))) ↔ (w.engine.limits.level < level)
   deep_exactly r begun = (deep_only r begun, λ h. ap (λ (x : Seen). x.end) (deep_shown r begun h))
+
+  -- the same of a fault 10 of its own, which a function's fault 10 isn't
+  pub deep_own : {f : Frame} {level : ℕ} {call : CallRequest} {node : CallNode} {before after : Moment H B} {cut : Bool} (pos : Position) → Runs o w f level call node before after cut → (seen node).begun ≡ true →
+      IsOwn (seen node).end (ErrorStackOverflow pos) ↔ ((w.engine.limits.level < level) × (pos ≡ pos_of call))
+  deep_own pos r begun = (
+    overflows o w pos (runs_end o w r) begun,
+    λ h. let s = deep_shown r begun h.0 in (ap (λ (x : Seen). x.end.whose) s, ap (λ (x : Seen). x.end.answer) s ∙ ap (λ (p : Position). Err (ErrorStackOverflow p)) (sym h.1)),
+  )
 
   -- a call that is begun has a pick exactly where nothing refuses it, and that is the first that is found
   first_shown : {f : Frame} {level : ℕ} {call : CallRequest} {node : CallNode} {before after : Moment H B} {cut : Bool} (pick : Pick) → Runs o w f level call node before after cut → (seen node).begun ≡ true → (refusal w.engine f level call ≡ None) × IsAnsweredFirst w.engine f call pick → (seen node).pick ≡ Some pick

@@ -181,6 +181,15 @@ pub other_exactly : (e : EngineLists) (pos : Position) (name : Bytes) (args : Li
 other_exactly e pos name args = (only_other name _ _ (row_of e pos name args), other_is name _ _ (row_of e pos name args))
 
 -- it is one of the first four
+positive : (name : Bytes) (n k : ℕ) → Row name n k → 1 ≤ k
+positive name n k (by_property p e) = omega arith
+positive name n k (by_indexer p e) = omega arith
+positive name n k (by_number m a d e) = omega arith
+positive name n k (by_other none e) = omega arith
+
+pub missing_positive : (e : EngineLists) (pos : Position) (name : Bytes) (args : List Tree) → 1 ≤ fault_number (not_found e pos name args)
+missing_positive e pos name args = positive name _ _ (row_of e pos name args)
+
 small : (name : Bytes) (n k : ℕ) → Row name n k → k ≤ 4
 small name n k (by_property p e) = omega arith
 small name n k (by_indexer p e) = omega arith

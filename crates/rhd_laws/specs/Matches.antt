@@ -87,14 +87,14 @@ abbrev pub NoneDeclares : EngineLists → Frame → Key → Type 0
 NoneDeclares e f key = (layer : Layer) (d : Declaration) → HasDeclaration e f layer key d → ⊥
 
 -- scripts of a type go first, then other scripts, then natives
-abbrev pub turn : Key → ℕ
-turn (Typed path name params this_type) = 0
-turn (Script path name params) = 1
-turn (Native path name types) = 2
+abbrev pub rank : Key → ℕ
+rank (Typed path name params this_type) = 0
+rank (Script path name params) = 1
+rank (Native path name types) = 2
 
--- Of two declarations that match, under keys and in modules, the first goes before the other: its turn is earlier; or both are natives, and its types are more exact; or the keys are the same, and its module goes before.
+-- Of two declarations that match, under keys and in modules, the first goes before the other: its rank is lower; or both are natives, and its types are more exact; or the keys are the same, and its module goes before.
 pub data GoesBefore (kinds : List TypeTag) (key : Key) (layer : Layer) (other : Key) (behind : Layer) : Type 0 where
-  earlier_turn : turn key < turn other → GoesBefore kinds key layer other behind
+  lower_rank : rank key < rank other → GoesBefore kinds key layer other behind
   more_exact : (name : Bytes) (types others : List TypeTag) → key ≡ Native None name types → other ≡ Native None name others → IsMoreExact kinds types others → GoesBefore kinds key layer other behind
   earlier_module : key ≡ other → IsEarlier layer behind → GoesBefore kinds key layer other behind
 

@@ -46,7 +46,7 @@ use rhd_func::{Bodies, Host, Natives};
 /// call that is found gives. The function runs, unless it may change its first argument and this is
 /// a constant. Nothing runs exactly where the call is refused, or no ask of a call for natives alone
 /// is found, or for such a constant. The host is asked exactly where nothing refuses another call
-/// and no ask is found. A native is asked for by each pattern in turn, in all modules, and then
+/// and no ask is found. A native is asked for by each pattern in rank, in all modules, and then
 /// among the built-ins.
 pub fn a_call_is_answered_by_the_first_declaration()
     ensures runs { (e : EngineLists) (f : Frame) (level : ℕ) (call : CallRequest) (plan : Plan) (pick : Pick) → (decision e f level call ≡ runs plan pick) ↔ ((refusal e f level call ≡ None) × (plan ≡ plan_of call) × IsAnsweredFirst e f call pick × (IsOnConstant e (plan_of call) pick → ⊥)) }
@@ -122,10 +122,12 @@ pub fn each_call_of_a_tree_shows_the_first_declaration<H: Host, B: Bodies>(nativ
 {}
 
 /// A call is refused for its level exactly where that is above the limit; then it ends with a stack
-/// overflow and nothing runs. So in the tree of a call no level is more than one above the limit.
+/// overflow of its own, at its position, and nothing runs. So in the tree of a call no level is more
+/// than one above the limit.
 pub fn the_level_of_a_call_is_limited<H: Host, B: Bodies>(natives: &Natives)
     ensures refused { (e : EngineLists) (f : Frame) (level : ℕ) (call : CallRequest) → (refusal e f level call ≡ Some (failed (given call) (ErrorStackOverflow (pos_of call)))) ↔ (e.limits.level < level) }
     ensures ends { let o = objects_of allows_call allows_resume B.allows_start B.allows_next H.allows_missing natives.now in (w : World) (f : Frame) (level : ℕ) (call : CallRequest) (node : CallNode) (before after : Moment H B) (cut : Bool) → Runs o w f level call node before after cut → (seen node).begun ≡ true → ((seen node).end ≡ failed (given call) (ErrorStackOverflow (pos_of call))) ↔ (w.engine.limits.level < level) }
+    ensures own { let o = objects_of allows_call allows_resume B.allows_start B.allows_next H.allows_missing natives.now in (w : World) (f : Frame) (level : ℕ) (call : CallRequest) (node : CallNode) (before after : Moment H B) (cut : Bool) (pos : Position) → Runs o w f level call node before after cut → (seen node).begun ≡ true → IsOwn (seen node).end (ErrorStackOverflow pos) ↔ ((w.engine.limits.level < level) × (pos ≡ pos_of call)) }
     ensures shown { let o = objects_of allows_call allows_resume B.allows_start B.allows_next H.allows_missing natives.now in (w : World) (f : Frame) (level : ℕ) (call : CallRequest) (node : CallNode) (before after : Moment H B) (cut : Bool) → Runs o w f level call node before after cut → (seen node).begun ≡ true → w.engine.limits.level < level → seen node ≡ begun_node call level None [] [] (failed (given call) (ErrorStackOverflow (pos_of call))) }
     ensures within { let o = objects_of allows_call allows_resume B.allows_start B.allows_next H.allows_missing natives.now in (w : World) (f : Frame) (call : CallRequest) (root node : CallNode) (before after : Moment H B) (cut : Bool) → Runs o w f 1 call root before after cut → InTree node root → (seen node).level ≤ w.engine.limits.level + 1 }
 {}

@@ -1,5 +1,5 @@
 use Rattle.std.proofs.Common.{arith}
-use Rattle.rhd_laws.proofs.TreeFaults.{refused_exactly, deep_exactly, deep_shown}
+use Rattle.rhd_laws.proofs.TreeFaults.{refused_exactly, deep_exactly, deep_own, deep_shown}
 use Rattle.rhd_laws.proofs.TreeLaws.{tree_within}
 use Rattle.rhd_laws.proofs.calls.the_level_of_a_call_is_limited.Goals as goal
 
@@ -8,6 +8,9 @@ returns-clause-refused g c = λ e f level call. refused_exactly e f level call
 
 pub returns-clause-ends : goal.returns-clause-ends
 returns-clause-ends g c = λ w f level call node before after cut r begun. deep_exactly _ _ r begun
+
+pub returns-clause-own : goal.returns-clause-own
+returns-clause-own g c = λ w f level call node before after cut pos r begun. deep_own _ _ pos r begun
 
 pub returns-clause-shown : goal.returns-clause-shown
 returns-clause-shown g c = λ w f level call node before after cut r begun h. deep_shown _ _ r begun h
