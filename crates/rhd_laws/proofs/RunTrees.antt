@@ -1,5 +1,5 @@
 -- Where the trees of a run stand.
-use Rattle.std.proofs.Common.{◌≡◌, ℕ, List, [], ◌∷◌, length, refl, sym, ap, subst, ◌∙◌, ◌⊎◌, inl, inr}
+use Rattle.std.proofs.Common.{◌≡◌, ℕ, Bool, List, [], ◌∷◌, length, refl, sym, ap, subst, ◌∙◌}
 use Rattle.std.specs.Prelude.{zero, suc, take, slice_get, Option, None, Some, option_map}
 use Rattle.rhd_value.specs.declared.tag.FnId.{FnId}
 use Rattle.rhd_func.specs.declared.request.CallRequest.{CallRequest}
@@ -16,8 +16,10 @@ use Rattle.rhd_call.specs.Trees.{InTree}
 use Rattle.rhd_engine.specs.Engine.{Frame}
 use Rattle.rhd_session.specs.Answered.{Declares, refused, done, Applied, declared, CallReplied, Replied, Answered}
 use Rattle.rhd_session.specs.Commands.{change, Change}
+use Rattle.rhd_session.specs.Runs.{Runs}
 use Rattle.rhd_session.specs.Trees.{frame_at, RunsAt}
 use Rattle.rhd_session.specs.World.{World, Objects, Moment}
+use Rattle.rhd_laws.specs.Ran.{RunOf}
 use Rattle.rhd_laws.specs.Reached.{IsTreeAt}
 use Rattle.rhd_laws.proofs.TreeLaws.{tree_runs}
 
@@ -75,8 +77,20 @@ module _ {H B : Type 0} (o : Objects H B) where
   replied_tree w w2 f f2 before after PopLib reply root r is = absurd (applied_tree root r.0 is)
   replied_tree w w2 f f2 before after (Call request) reply root r is = record { request = request; asked = refl; replied = subst (λ (x : Reply). CallReplied o w f before request x after) is r.0 }
 
+  -- the tree at a place of the replies
+  record StandsAt (w : World) (f : Frame) (before : Moment H B) (commands : List Command) (replies : List Reply) (n : ℕ) (root : CallNode) : Type 0 where
+    world : World
+    frame : Frame
+    from : Moment H B
+    to : Moment H B
+    request : CallRequest
+    cut : Bool
+    reached : Answered o w f before (take n commands) (take n replies) world frame from
+    asked : slice_get commands n ≡ Some (Call request)
+    runs : Runs o world frame 1 request root from to cut
+
   -- each tree that is answered is that of a call
-  pub answered_tree : (w w2 : World) (f f2 : Frame) (before after : Moment H B) (commands : List Command) (replies : List Reply) (n : ℕ) (root : CallNode) → Answered o w f before commands replies w2 f2 after → slice_get replies n ≡ Some (Called root) → IsTreeAt o w f before commands replies n root
+  answered_tree : (w w2 : World) (f f2 : Frame) (before after : Moment H B) (commands : List Command) (replies : List Reply) (n : ℕ) (root : CallNode) → Answered o w f before commands replies w2 f2 after → slice_get replies n ≡ Some (Called root) → StandsAt w f before commands replies n root
   answered_tree w w2 f f2 before after [] [] n root a h = absurd cc
   answered_tree w w2 f f2 before after [] (reply ∷ replies) n root a h = absurd a
   answered_tree w w2 f f2 before after (command ∷ commands) [] n root a h = absurd a
@@ -87,10 +101,25 @@ module _ {H B : Type 0} (o : Objects H B) where
       let r = answered_tree a.0 w2 a.1 f2 a.2 after commands replies n root a.4 h in
       record { world = r.world; frame = r.frame; from = r.from; to = r.to; request = r.request; cut = r.cut; reached = (a.0, a.1, a.2, a.3, r.reached); asked = r.asked; runs = r.runs }
 
-  pub answered_node : (w w2 : World) (f f2 : Frame) (before after : Moment H B) (commands : List Command) (replies : List Reply) (n : ℕ) (root node : CallNode) (inside : InTree node root) → Answered o w f before commands replies w2 f2 after → slice_get replies n ≡ Some (Called root) →
-      (at : IsTreeAt o w f before commands replies n root) × RunsAt o at.world (frame_at at.world at.frame inside) node
-  answered_node w w2 f f2 before after commands replies n root node inside a h =
-      let at = answered_tree w w2 f f2 before after commands replies n root a h in (at, tree_runs o at.world inside at.runs)
+  pub run_tree : (run : RunOf o) (n : ℕ) (root : CallNode) → slice_get run.replies n ≡ Some (Called root) → IsTreeAt o run n root
+  run_tree run n root h =
+      let r = answered_tree run.world run.last_world run.frame run.last_frame run.before run.after run.commands run.replies n root run.answered h in
+      record {
+        ran = record { world = r.world; frame = r.frame; level = 1; call = r.request; node = root; before = r.from; after = r.to; cut = r.cut; runs = r.runs };
+        root_is = refl;
+        level_is = refl;
+        asked = r.asked;
+        reached = r.reached;
+      }
+
+  -- each of its nodes runs there
+  node_runs : {node own root : CallNode} (inside : InTree node root) (w : World) (f : Frame) (level : ℕ) (call : CallRequest) (before after : Moment H B) (cut : Bool) → Runs o w f level call own before after cut → own ≡ root → RunsAt o w (frame_at w f inside) node
+  node_runs inside w f level call before after cut r is = tree_runs o w inside (subst (λ (x : CallNode). Runs o w f level call x before after cut) is r)
+
+  pub run_node : (run : RunOf o) (n : ℕ) (root node : CallNode) (inside : InTree node root) → slice_get run.replies n ≡ Some (Called root) → (tree : IsTreeAt o run n root) × RunsAt o tree.ran.world (frame_at tree.ran.world tree.ran.frame inside) node
+  run_node run n root node inside h =
+      let t = run_tree run n root h in
+      (t, node_runs inside t.ran.world t.ran.frame t.ran.level t.ran.call t.ran.before t.ran.after t.ran.cut t.ran.runs t.root_is)
 
   -- each call is answered by a tree
   replied_call : (w : World) (f : Frame) (before after : Moment H B) (request : CallRequest) (reply : Reply) → CallReplied o w f before request reply after → (root : CallNode) × (reply ≡ Called root)
@@ -103,7 +132,7 @@ module _ {H B : Type 0} (o : Objects H B) where
   call_replied w w2 f f2 before after command reply request r is =
       replied_call w f before after request reply (subst (λ (c : Command). Replied o w f before c reply w2 f2 after) is r).0
 
-  pub answered_call : (w w2 : World) (f f2 : Frame) (before after : Moment H B) (commands : List Command) (replies : List Reply) (n : ℕ) (request : CallRequest) → Answered o w f before commands replies w2 f2 after → slice_get commands n ≡ Some (Call request) → (root : CallNode) × (slice_get replies n ≡ Some (Called root))
+  answered_call : (w w2 : World) (f f2 : Frame) (before after : Moment H B) (commands : List Command) (replies : List Reply) (n : ℕ) (request : CallRequest) → Answered o w f before commands replies w2 f2 after → slice_get commands n ≡ Some (Call request) → (root : CallNode) × (slice_get replies n ≡ Some (Called root))
   answered_call w w2 f f2 before after [] [] n request a h = absurd cc
   answered_call w w2 f f2 before after [] (reply ∷ replies) n request a h = absurd a
   answered_call w w2 f f2 before after (command ∷ commands) [] n request a h = absurd a
@@ -111,8 +140,14 @@ module _ {H B : Type 0} (o : Objects H B) where
       let r = call_replied w a.0 f a.1 before a.2 command reply request a.3 (got command (Call request) h) in (r.0, ap Some r.1)
   answered_call w w2 f f2 before after (command ∷ commands) (reply ∷ replies) (suc n) request a h = answered_call a.0 w2 a.1 f2 a.2 after commands replies n request a.4 h
 
-  pub answered_many : (w w2 : World) (f f2 : Frame) (before after : Moment H B) (commands : List Command) (replies : List Reply) → Answered o w f before commands replies w2 f2 after → length replies ≡ length commands
+  answered_many : (w w2 : World) (f f2 : Frame) (before after : Moment H B) (commands : List Command) (replies : List Reply) → Answered o w f before commands replies w2 f2 after → length replies ≡ length commands
   answered_many w w2 f f2 before after [] [] a = refl
   answered_many w w2 f f2 before after [] (reply ∷ replies) a = absurd a
   answered_many w w2 f f2 before after (command ∷ commands) [] a = absurd a
   answered_many w w2 f f2 before after (command ∷ commands) (reply ∷ replies) a = ap suc (answered_many a.0 w2 a.1 f2 a.2 after commands replies a.4)
+
+  pub run_call : (run : RunOf o) (n : ℕ) (request : CallRequest) → slice_get run.commands n ≡ Some (Call request) → (root : CallNode) × (slice_get run.replies n ≡ Some (Called root))
+  run_call run n request h = answered_call run.world run.last_world run.frame run.last_frame run.before run.after run.commands run.replies n request run.answered h
+
+  pub run_many : (run : RunOf o) → length run.replies ≡ length run.commands
+  run_many run = answered_many run.world run.last_world run.frame run.last_frame run.before run.after run.commands run.replies run.answered

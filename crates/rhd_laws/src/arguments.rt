@@ -1,6 +1,6 @@
 //! Laws of the arguments of a call.
 
-ghost use Rattle.std.specs.Prelude.{◌≡◌, ◌↔◌, ℕ, Bool, false, List, slice_get, Some, None};
+ghost use Rattle.std.specs.Prelude.{◌≡◌, ◌↔◌, ℕ, false, List, slice_get, Some, None};
 ghost use Rattle.rhd_value.specs.Tree.{Tree, copied};
 ghost use Rattle.rhd_func.specs.declared.request.CallRequest.{CallRequest};
 ghost use Rattle.rhd_func.specs.declared.request.CallShape.TheVariants.{Plain};
@@ -9,13 +9,13 @@ ghost use Rattle.rhd_call.specs.declared.node.CallNode.{CallNode};
 ghost use Rattle.rhd_call.specs.declared.pick.Pick.{Pick};
 ghost use Rattle.rhd_call.specs.Seen.{seen};
 ghost use Rattle.rhd_call.specs.Trees.{InTree};
-ghost use Rattle.rhd_engine.specs.Engine.{EngineLists, Frame};
+ghost use Rattle.rhd_engine.specs.Engine.{EngineLists};
 ghost use Rattle.rhd_laws.specs.Arguments.{HasFirstGiven, IsCut, GetsCopy, HasItself};
 ghost use Rattle.rhd_laws.specs.Matches.{all_received};
 ghost use Rattle.rhd_session.specs.Objects.{objects_of};
+ghost use Rattle.rhd_laws.specs.Ran.{Ran};
 ghost use Rattle.rhd_session.specs.Plans.{plan_of};
-ghost use Rattle.rhd_session.specs.Runs.{Runs, received_by};
-ghost use Rattle.rhd_session.specs.World.{World, Moment};
+ghost use Rattle.rhd_session.specs.Runs.{received_by};
 
 use rhd_func::{Bodies, Host, Natives};
 
@@ -33,7 +33,7 @@ pub fn a_function_receives_its_arguments()
 /// A call of a tree has a first argument after it exactly where it is by reference or of a method,
 /// unless the budget was spent within it: then it has none. A plain call never has one.
 pub fn a_call_has_a_first_argument_after_it<H: Host, B: Bodies>(natives: &Natives)
-    ensures exactly { let o = objects_of allows_call allows_resume B.allows_start B.allows_next H.allows_missing natives.now in (w : World) (f : Frame) (level : ℕ) (call : CallRequest) (root node : CallNode) (before after : Moment H B) (cut : Bool) → Runs o w f level call root before after cut → InTree node root → (IsCut (seen node) → ⊥) → ((value : Tree) × ((seen node).end.first_after ≡ Some value)) ↔ HasFirstGiven (plan_of (seen node).call).shape }
-    ensures cut { let o = objects_of allows_call allows_resume B.allows_start B.allows_next H.allows_missing natives.now in (w : World) (f : Frame) (level : ℕ) (call : CallRequest) (root node : CallNode) (before after : Moment H B) (cut : Bool) → Runs o w f level call root before after cut → InTree node root → IsCut (seen node) → (seen node).end.first_after ≡ None }
-    ensures plain { let o = objects_of allows_call allows_resume B.allows_start B.allows_next H.allows_missing natives.now in (w : World) (f : Frame) (level : ℕ) (call : CallRequest) (root node : CallNode) (before after : Moment H B) (cut : Bool) (args : List Tree) → Runs o w f level call root before after cut → InTree node root → (plan_of (seen node).call).shape ≡ Plain args → (seen node).end.first_after ≡ None }
+    ensures exactly { let o = objects_of allows_call allows_resume B.allows_start B.allows_next H.allows_missing natives.now in (r : Ran o) (node : CallNode) → InTree node r.node → (IsCut (seen node) → ⊥) → ((value : Tree) × ((seen node).end.first_after ≡ Some value)) ↔ HasFirstGiven (plan_of (seen node).call).shape }
+    ensures cut { let o = objects_of allows_call allows_resume B.allows_start B.allows_next H.allows_missing natives.now in (r : Ran o) (node : CallNode) → InTree node r.node → IsCut (seen node) → (seen node).end.first_after ≡ None }
+    ensures plain { let o = objects_of allows_call allows_resume B.allows_start B.allows_next H.allows_missing natives.now in (r : Ran o) (node : CallNode) (args : List Tree) → InTree node r.node → (plan_of (seen node).call).shape ≡ Plain args → (seen node).end.first_after ≡ None }
 {}

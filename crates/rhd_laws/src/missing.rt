@@ -1,21 +1,18 @@
 //! Laws of calls that aren't found.
 
-ghost use Rattle.std.specs.Prelude.{◌≡◌, ◌↔◌, ◌≤◌, ℕ, Bool, true, List, [], length, None};
+ghost use Rattle.std.specs.Prelude.{◌≡◌, ◌↔◌, ◌≤◌, ℕ, true, List, [], length, None};
 ghost use Rattle.rhd_value.specs.Tree.{Bytes, Tree};
 ghost use Rattle.rhd_value.specs.declared.fault.EvalAltResult.{EvalAltResult};
 ghost use Rattle.rhd_value.specs.declared.tag.Position.{Position};
-ghost use Rattle.rhd_func.specs.declared.request.CallRequest.{CallRequest};
 ghost use Rattle.rhd_func.specs.Shapes.{given};
-ghost use Rattle.rhd_call.specs.declared.node.CallNode.{CallNode};
-ghost use Rattle.rhd_engine.specs.Engine.{EngineLists, Frame};
-ghost use Rattle.rhd_session.specs.World.{World, Moment};
+ghost use Rattle.rhd_engine.specs.Engine.{EngineLists};
 ghost use Rattle.rhd_session.specs.Objects.{objects_of};
+ghost use Rattle.rhd_laws.specs.Ran.{Ran};
 ghost use Rattle.rhd_call.specs.End.{failed};
 ghost use Rattle.rhd_laws.specs.Causes.{IsOwn};
 ghost use Rattle.rhd_engine.specs.NotFound.{not_found};
 ghost use Rattle.rhd_laws.specs.Unfound.{fault_number, IsProperty, IsIndexer, IsAccess, IsUnfound};
 ghost use Rattle.rhd_call.specs.Seen.{seen, begun_node};
-ghost use Rattle.rhd_session.specs.Runs.{Runs};
 
 use rhd_func::{Bodies, Host, Natives};
 
@@ -33,6 +30,6 @@ pub fn a_fault_of_a_missing_call_is_by_its_name()
 /// refuses it, no ask is found, and the host isn't asked or gives nothing; the fault is that of its
 /// name and arguments. The node shows no function, and nothing runs.
 pub fn a_missing_call_ends_with_its_fault<H: Host, B: Bodies>(natives: &Natives)
-    ensures ends { let o = objects_of allows_call allows_resume B.allows_start B.allows_next H.allows_missing natives.now in (w : World) (f : Frame) (level : ℕ) (call : CallRequest) (node : CallNode) (before after : Moment H B) (cut : Bool) (fault : EvalAltResult) → Runs o w f level call node before after cut → (seen node).begun ≡ true → fault_number fault ≤ 4 → IsOwn (seen node).end fault ↔ IsUnfound o w.engine f level call before.host after.host (seen node).end fault }
-    ensures shown { let o = objects_of allows_call allows_resume B.allows_start B.allows_next H.allows_missing natives.now in (w : World) (f : Frame) (level : ℕ) (call : CallRequest) (node : CallNode) (before after : Moment H B) (cut : Bool) (fault : EvalAltResult) → Runs o w f level call node before after cut → (seen node).begun ≡ true → IsUnfound o w.engine f level call before.host after.host (seen node).end fault → seen node ≡ begun_node call level None [] [] (failed (given call) fault) }
+    ensures ends { let o = objects_of allows_call allows_resume B.allows_start B.allows_next H.allows_missing natives.now in (r : Ran o) (fault : EvalAltResult) → (seen r.node).begun ≡ true → fault_number fault ≤ 4 → IsOwn (seen r.node).end fault ↔ IsUnfound o r.world.engine r.frame r.level r.call r.before.host r.after.host (seen r.node).end fault }
+    ensures shown { let o = objects_of allows_call allows_resume B.allows_start B.allows_next H.allows_missing natives.now in (r : Ran o) (fault : EvalAltResult) → (seen r.node).begun ≡ true → IsUnfound o r.world.engine r.frame r.level r.call r.before.host r.after.host (seen r.node).end fault → seen r.node ≡ begun_node r.call r.level None [] [] (failed (given r.call) fault) }
 {}

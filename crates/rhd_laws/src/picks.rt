@@ -1,6 +1,6 @@
 //! Laws of what answers a call.
 
-ghost use Rattle.std.specs.Prelude.{◌≡◌, ◌↔◌, ◌≤◌, ◌<◌, ℕ, Bool, true, List, map, slice_get, Some, None};
+ghost use Rattle.std.specs.Prelude.{◌≡◌, ◌↔◌, ◌≤◌, ◌<◌, ℕ, true, List, map, slice_get, Some, None};
 ghost use Rattle.std.specs.List.{Contains};
 ghost use Rattle.rhd_value.specs.declared.tag.TypeTag.{TypeTag};
 ghost use Rattle.rhd_func.specs.declared.request.CallRequest.{CallRequest};
@@ -16,12 +16,12 @@ ghost use Rattle.rhd_laws.specs.FirstAsks.{IsAnsweredFirst, IsUnanswered};
 ghost use Rattle.rhd_session.specs.Plans.{plan_of};
 ghost use Rattle.rhd_session.specs.Decisions.{decision, refusal};
 ghost use Rattle.rhd_laws.specs.Owners.{shown_pick};
-ghost use Rattle.rhd_session.specs.Runs.{Runs, received_by};
+ghost use Rattle.rhd_session.specs.Runs.{received_by};
 ghost use Rattle.rhd_value.specs.declared.fault.EvalAltResult.{EvalAltResult};
 ghost use Rattle.rhd_call.specs.declared.node.CallNode.{CallNode};
 ghost use Rattle.rhd_call.specs.declared.node.Whose.TheVariants as owners;
-ghost use Rattle.rhd_session.specs.World.{World, Moment};
 ghost use Rattle.rhd_session.specs.Objects.{objects_of};
+ghost use Rattle.rhd_laws.specs.Ran.{Ran};
 ghost use Rattle.rhd_call.specs.Seen.{seen};
 ghost use Rattle.rhd_call.specs.Trees.{InTree};
 ghost use Rattle.rhd_session.specs.Trees.{frame_at};
@@ -60,7 +60,7 @@ pub fn a_pick_matches_its_call()
 /// the first declaration that matches it in its frame, or else the built-in. Where the host answers a
 /// call, or it isn't found, no declaration matches it and the table has no built-in for it.
 pub fn each_call_of_a_tree_shows_its_first_match<H: Host, B: Bodies>(natives: &Natives)
-    ensures shown { let o = objects_of allows_call allows_resume B.allows_start B.allows_next H.allows_missing natives.now in (w : World) (f : Frame) (level : ℕ) (call : CallRequest) (root node : CallNode) (before after : Moment H B) (cut : Bool) (inside : InTree node root) (pick : Pick) → Runs o w f level call root before after cut → (seen node).begun ≡ true → ((seen node).pick ≡ Some pick) ↔ ((refusal w.engine (frame_at w f inside) (seen node).level (seen node).call ≡ None) × IsAnsweredBy w.engine (frame_at w f inside) (seen node).call pick) }
-    ensures host { let o = objects_of allows_call allows_resume B.allows_start B.allows_next H.allows_missing natives.now in (w : World) (f : Frame) (level : ℕ) (call : CallRequest) (root node : CallNode) (before after : Moment H B) (cut : Bool) (inside : InTree node root) → Runs o w f level call root before after cut → (seen node).end.whose ≡ owners.Host → NoneMatches w.engine (frame_at w f inside) (seen node).call × ((pick : Pick) → HasBuiltin w.engine (seen node).call pick → ⊥) }
-    ensures missing { let o = objects_of allows_call allows_resume B.allows_start B.allows_next H.allows_missing natives.now in (w : World) (f : Frame) (level : ℕ) (call : CallRequest) (root node : CallNode) (before after : Moment H B) (cut : Bool) (inside : InTree node root) (fault : EvalAltResult) → Runs o w f level call root before after cut → (seen node).begun ≡ true → fault_number fault ≤ 4 → IsOwn (seen node).end fault → NoneMatches w.engine (frame_at w f inside) (seen node).call × ((pick : Pick) → HasBuiltin w.engine (seen node).call pick → ⊥) }
+    ensures shown { let o = objects_of allows_call allows_resume B.allows_start B.allows_next H.allows_missing natives.now in (r : Ran o) (node : CallNode) (inside : InTree node r.node) (pick : Pick) → (seen node).begun ≡ true → ((seen node).pick ≡ Some pick) ↔ ((refusal r.world.engine (frame_at r.world r.frame inside) (seen node).level (seen node).call ≡ None) × IsAnsweredBy r.world.engine (frame_at r.world r.frame inside) (seen node).call pick) }
+    ensures host { let o = objects_of allows_call allows_resume B.allows_start B.allows_next H.allows_missing natives.now in (r : Ran o) (node : CallNode) (inside : InTree node r.node) → (seen node).end.whose ≡ owners.Host → NoneMatches r.world.engine (frame_at r.world r.frame inside) (seen node).call × ((pick : Pick) → HasBuiltin r.world.engine (seen node).call pick → ⊥) }
+    ensures missing { let o = objects_of allows_call allows_resume B.allows_start B.allows_next H.allows_missing natives.now in (r : Ran o) (node : CallNode) (inside : InTree node r.node) (fault : EvalAltResult) → (seen node).begun ≡ true → fault_number fault ≤ 4 → IsOwn (seen node).end fault → NoneMatches r.world.engine (frame_at r.world r.frame inside) (seen node).call × ((pick : Pick) → HasBuiltin r.world.engine (seen node).call pick → ⊥) }
 {}

@@ -1,19 +1,15 @@
 //! Laws of the trees of a run.
 
-ghost use Rattle.std.specs.Prelude.{◌≡◌, ℕ, List, length, slice_get, Some};
+ghost use Rattle.std.specs.Prelude.{◌≡◌, ℕ, length, slice_get, Some};
 ghost use Rattle.rhd_func.specs.declared.request.CallRequest.{CallRequest};
-ghost use Rattle.rhd_call.specs.declared.command.Command.{Command};
 ghost use Rattle.rhd_call.specs.declared.command.Command.TheVariants.{Call};
 ghost use Rattle.rhd_call.specs.declared.node.CallNode.{CallNode};
-ghost use Rattle.rhd_call.specs.declared.reply.Reply.{Reply};
 ghost use Rattle.rhd_call.specs.declared.reply.Reply.TheVariants.{Called};
 ghost use Rattle.rhd_call.specs.Trees.{InTree};
-ghost use Rattle.rhd_engine.specs.Engine.{Frame};
+ghost use Rattle.rhd_laws.specs.Ran.{RunOf};
 ghost use Rattle.rhd_laws.specs.Reached.{IsTreeAt};
-ghost use Rattle.rhd_session.specs.Answered.{Answered};
 ghost use Rattle.rhd_session.specs.Objects.{objects_of};
 ghost use Rattle.rhd_session.specs.Trees.{frame_at, RunsAt};
-ghost use Rattle.rhd_session.specs.World.{World, Moment};
 
 use rhd_func::{Bodies, Host, Natives};
 
@@ -22,8 +18,8 @@ use rhd_func::{Bodies, Host, Natives};
 /// the frame in which it is asked for. Each call of the run is answered by such a tree, and there are
 /// as many replies as commands.
 pub fn each_tree_of_a_run_runs_where_the_run_came<H: Host, B: Bodies>(natives: &Natives)
-    ensures tree { let o = objects_of allows_call allows_resume B.allows_start B.allows_next H.allows_missing natives.now in (w w2 : World) (f f2 : Frame) (before after : Moment H B) (commands : List Command) (replies : List Reply) (n : ℕ) (root : CallNode) → Answered o w f before commands replies w2 f2 after → slice_get replies n ≡ Some (Called root) → IsTreeAt o w f before commands replies n root }
-    ensures node { let o = objects_of allows_call allows_resume B.allows_start B.allows_next H.allows_missing natives.now in (w w2 : World) (f f2 : Frame) (before after : Moment H B) (commands : List Command) (replies : List Reply) (n : ℕ) (root node : CallNode) (inside : InTree node root) → Answered o w f before commands replies w2 f2 after → slice_get replies n ≡ Some (Called root) → (at : IsTreeAt o w f before commands replies n root) × RunsAt o at.world (frame_at at.world at.frame inside) node }
-    ensures call { let o = objects_of allows_call allows_resume B.allows_start B.allows_next H.allows_missing natives.now in (w w2 : World) (f f2 : Frame) (before after : Moment H B) (commands : List Command) (replies : List Reply) (n : ℕ) (request : CallRequest) → Answered o w f before commands replies w2 f2 after → slice_get commands n ≡ Some (Call request) → (root : CallNode) × (slice_get replies n ≡ Some (Called root)) }
-    ensures as_many { let o = objects_of allows_call allows_resume B.allows_start B.allows_next H.allows_missing natives.now in (w w2 : World) (f f2 : Frame) (before after : Moment H B) (commands : List Command) (replies : List Reply) → Answered o w f before commands replies w2 f2 after → length replies ≡ length commands }
+    ensures tree { let o = objects_of allows_call allows_resume B.allows_start B.allows_next H.allows_missing natives.now in (run : RunOf o) (n : ℕ) (root : CallNode) → slice_get run.replies n ≡ Some (Called root) → IsTreeAt o run n root }
+    ensures node { let o = objects_of allows_call allows_resume B.allows_start B.allows_next H.allows_missing natives.now in (run : RunOf o) (n : ℕ) (root node : CallNode) (inside : InTree node root) → slice_get run.replies n ≡ Some (Called root) → (tree : IsTreeAt o run n root) × RunsAt o tree.ran.world (frame_at tree.ran.world tree.ran.frame inside) node }
+    ensures call { let o = objects_of allows_call allows_resume B.allows_start B.allows_next H.allows_missing natives.now in (run : RunOf o) (n : ℕ) (request : CallRequest) → slice_get run.commands n ≡ Some (Call request) → (root : CallNode) × (slice_get run.replies n ≡ Some (Called root)) }
+    ensures as_many { let o = objects_of allows_call allows_resume B.allows_start B.allows_next H.allows_missing natives.now in (run : RunOf o) → length run.replies ≡ length run.commands }
 {}
