@@ -22,9 +22,17 @@ use rhd_func::{Bodies, Host, Natives};
 /// last step failed with it, and the host's exactly where the host was asked and gave it. So a fault
 /// of a call itself is told apart from one of its function with the same number.
 pub fn a_fault_of_a_call_is_told_apart<H: Host, B: Bodies>(natives: &Natives)
-    ensures number { let o = objects_of allows_call allows_resume B.allows_start B.allows_next H.allows_missing natives.now in (r : Ran o) (node : CallNode) (fault : EvalAltResult) → InTree node r.node → IsOwn (seen node).end fault → IsOwnNumber (fault_number fault) }
-    ensures refused { let o = objects_of allows_call allows_resume B.allows_start B.allows_next H.allows_missing natives.now in (r : Ran o) (node : CallNode) (fault : EvalAltResult) → InTree node r.node → IsOwn (seen node).end fault → ((value : Tree) × ((seen node).end.refused ≡ Some value)) ↔ IsRefusing (fault_number fault) }
-    ensures others { let o = objects_of allows_call allows_resume B.allows_start B.allows_next H.allows_missing natives.now in (r : Ran o) (node : CallNode) → InTree node r.node → ((seen node).end.whose ≡ Call → ⊥) → (seen node).end.refused ≡ None }
-    ensures function { let o = objects_of allows_call allows_resume B.allows_start B.allows_next H.allows_missing natives.now in (r : Ran o) (node : CallNode) (inside : InTree node r.node) (fault : EvalAltResult) → FaultOf Called (seen node).end fault ↔ FunctionFails o r.world (frame_at r.world r.frame inside) (seen node) fault }
-    ensures host { let o = objects_of allows_call allows_resume B.allows_start B.allows_next H.allows_missing natives.now in (r : Ran o) (node : CallNode) (inside : InTree node r.node) (fault : EvalAltResult) → FaultOf owners.Host (seen node).end fault ↔ ((from : H) × (to : H) × HostFails o r.world.engine (frame_at r.world r.frame inside) (seen node).level (seen node).call from to (seen node).end fault) }
+    ensures number { let o = objects_of allows_call allows_resume B.allows_start B.allows_next H.allows_missing natives.now in
+        (r : Ran o) (node : CallNode) (fault : EvalAltResult) → InTree node r.node → IsOwn (seen node).end fault → IsOwnNumber (fault_number fault) }
+    ensures refused { let o = objects_of allows_call allows_resume B.allows_start B.allows_next H.allows_missing natives.now in
+        (r : Ran o) (node : CallNode) (fault : EvalAltResult) → InTree node r.node → IsOwn (seen node).end fault
+        → ((value : Tree) × ((seen node).end.refused ≡ Some value)) ↔ IsRefusing (fault_number fault) }
+    ensures others { let o = objects_of allows_call allows_resume B.allows_start B.allows_next H.allows_missing natives.now in
+        (r : Ran o) (node : CallNode) → InTree node r.node → ((seen node).end.whose ≡ Call → ⊥) → (seen node).end.refused ≡ None }
+    ensures function { let o = objects_of allows_call allows_resume B.allows_start B.allows_next H.allows_missing natives.now in
+        (r : Ran o) (node : CallNode) (inside : InTree node r.node) (fault : EvalAltResult)
+        → FaultOf Called (seen node).end fault ↔ FunctionFails o r.world (frame_at r.world r.frame inside) (seen node) fault }
+    ensures host { let o = objects_of allows_call allows_resume B.allows_start B.allows_next H.allows_missing natives.now in
+        (r : Ran o) (node : CallNode) (inside : InTree node r.node) (fault : EvalAltResult) → FaultOf owners.Host (seen node).end fault
+        ↔ ((from : H) × (to : H) × HostFails o r.world.engine (frame_at r.world r.frame inside) (seen node).level (seen node).call from to (seen node).end fault) }
 {}

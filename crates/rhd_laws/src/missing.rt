@@ -20,16 +20,24 @@ use rhd_func::{Bodies, Host, Natives};
 /// number of arguments that it takes, 3 exactly for such an indexer, 4 exactly for one of these with
 /// another number of arguments, and 1 exactly for any other name.
 pub fn a_fault_of_a_missing_call_is_by_its_name()
-    ensures property { (e : EngineLists) (pos : Position) (name : Bytes) (args : List Tree) → (fault_number (not_found e pos name args) ≡ 2) ↔ IsProperty name (length args) }
+    ensures property { (e : EngineLists) (pos : Position) (name : Bytes) (args : List Tree)
+        → (fault_number (not_found e pos name args) ≡ 2) ↔ IsProperty name (length args) }
     ensures index { (e : EngineLists) (pos : Position) (name : Bytes) (args : List Tree) → (fault_number (not_found e pos name args) ≡ 3) ↔ IsIndexer name (length args) }
-    ensures number { (e : EngineLists) (pos : Position) (name : Bytes) (args : List Tree) → (fault_number (not_found e pos name args) ≡ 4) ↔ ((n : ℕ) × IsAccess name n × (length args ≡ n → ⊥)) }
-    ensures other { (e : EngineLists) (pos : Position) (name : Bytes) (args : List Tree) → (fault_number (not_found e pos name args) ≡ 1) ↔ ((n : ℕ) → IsAccess name n → ⊥) }
+    ensures number { (e : EngineLists) (pos : Position) (name : Bytes) (args : List Tree)
+        → (fault_number (not_found e pos name args) ≡ 4) ↔ ((n : ℕ) × IsAccess name n × (length args ≡ n → ⊥)) }
+    ensures other { (e : EngineLists) (pos : Position) (name : Bytes) (args : List Tree)
+        → (fault_number (not_found e pos name args) ≡ 1) ↔ ((n : ℕ) → IsAccess name n → ⊥) }
 {}
 
 /// A call that is begun ends with a fault of its own of the numbers 1 to 4 exactly where nothing
 /// refuses it, no ask is found, and the host isn't asked or gives nothing; the fault is that of its
 /// name and arguments. The node shows no function, and nothing runs.
 pub fn a_missing_call_ends_with_its_fault<H: Host, B: Bodies>(natives: &Natives)
-    ensures ends { let o = objects_of allows_call allows_resume B.allows_start B.allows_next H.allows_missing natives.now in (r : Ran o) (fault : EvalAltResult) → (seen r.node).begun ≡ true → fault_number fault ≤ 4 → IsOwn (seen r.node).end fault ↔ IsUnfound o r.world.engine r.frame r.level r.call r.before.host r.after.host (seen r.node).end fault }
-    ensures shown { let o = objects_of allows_call allows_resume B.allows_start B.allows_next H.allows_missing natives.now in (r : Ran o) (fault : EvalAltResult) → (seen r.node).begun ≡ true → IsUnfound o r.world.engine r.frame r.level r.call r.before.host r.after.host (seen r.node).end fault → seen r.node ≡ begun_node r.call r.level None [] [] (failed (given r.call) fault) }
+    ensures ends { let o = objects_of allows_call allows_resume B.allows_start B.allows_next H.allows_missing natives.now in
+        (r : Ran o) (fault : EvalAltResult) → (seen r.node).begun ≡ true → fault_number fault ≤ 4
+        → IsOwn (seen r.node).end fault ↔ IsUnfound o r.world.engine r.frame r.level r.call r.before.host r.after.host (seen r.node).end fault }
+    ensures shown { let o = objects_of allows_call allows_resume B.allows_start B.allows_next H.allows_missing natives.now in
+        (r : Ran o) (fault : EvalAltResult) → (seen r.node).begun ≡ true
+        → IsUnfound o r.world.engine r.frame r.level r.call r.before.host r.after.host (seen r.node).end fault
+        → seen r.node ≡ begun_node r.call r.level None [] [] (failed (given r.call) fault) }
 {}

@@ -35,7 +35,8 @@ use rhd_func::{Bodies, Host, Natives};
 /// of the kinds of some arguments, one goes before the other exactly where it is the more exact.
 pub fn the_patterns_of_kinds_match_them()
     ensures matching { (kinds types : List TypeTag) → Contains (patterns kinds) types ↔ TypesMatch types kinds }
-    ensures order { (args : List Tree) (types others : List TypeTag) (i j : ℕ) → slice_get (patterns (map tag_of args)) i ≡ Some types → slice_get (patterns (map tag_of args)) j ≡ Some others → (i < j) ↔ IsMoreExact (map tag_of args) types others }
+    ensures order { (args : List Tree) (types others : List TypeTag) (i j : ℕ) → slice_get (patterns (map tag_of args)) i ≡ Some types
+        → slice_get (patterns (map tag_of args)) j ≡ Some others → (i < j) ↔ IsMoreExact (map tag_of args) types others }
 {}
 
 /// A key is found in the first module of a frame that declares it, libraries latest first and then
@@ -51,16 +52,27 @@ pub fn a_key_is_found_in_the_first_module()
 /// native that is declared under a call's name receives arguments whose kinds match its types.
 pub fn a_pick_matches_its_call()
     ensures answered { (e : EngineLists) (f : Frame) (call : CallRequest) (pick : Pick) → IsAnsweredFirst e f call pick ↔ IsAnsweredBy e f call pick }
-    ensures unanswered { (e : EngineLists) (f : Frame) (call : CallRequest) → IsUnanswered e f call ↔ (NoneMatches e f call × ((pick : Pick) → HasBuiltin e call pick → ⊥)) }
-    ensures shown { (e : EngineLists) (f : Frame) (level : ℕ) (call : CallRequest) (pick : Pick) → (shown_pick (decision e f level call) ≡ Some pick) ↔ ((refusal e f level call ≡ None) × IsAnsweredBy e f call pick) }
-    ensures receives { (e : EngineLists) (f : Frame) (call : CallRequest) (name : Bytes) (types : List TypeTag) (pick : Pick) → IsFirstMatch e f call (Native None name types) pick → TypesMatch types (map tag_of (all_received (received_by e (plan_of call) pick))) }
+    ensures unanswered { (e : EngineLists) (f : Frame) (call : CallRequest)
+        → IsUnanswered e f call ↔ (NoneMatches e f call × ((pick : Pick) → HasBuiltin e call pick → ⊥)) }
+    ensures shown { (e : EngineLists) (f : Frame) (level : ℕ) (call : CallRequest) (pick : Pick)
+        → (shown_pick (decision e f level call) ≡ Some pick) ↔ ((refusal e f level call ≡ None) × IsAnsweredBy e f call pick) }
+    ensures receives { (e : EngineLists) (f : Frame) (call : CallRequest) (name : Bytes) (types : List TypeTag) (pick : Pick)
+        → IsFirstMatch e f call (Native None name types) pick → TypesMatch types (map tag_of (all_received (received_by e (plan_of call) pick))) }
 {}
 
 /// Each call of a tree that is begun shows a function exactly where nothing refuses it and that is of
 /// the first declaration that matches it in its frame, or else the built-in. Where the host answers a
 /// call, or it isn't found, no declaration matches it and the table has no built-in for it.
 pub fn each_call_of_a_tree_shows_its_first_match<H: Host, B: Bodies>(natives: &Natives)
-    ensures shown { let o = objects_of allows_call allows_resume B.allows_start B.allows_next H.allows_missing natives.now in (r : Ran o) (node : CallNode) (inside : InTree node r.node) (pick : Pick) → (seen node).begun ≡ true → ((seen node).pick ≡ Some pick) ↔ ((refusal r.world.engine (frame_at r.world r.frame inside) (seen node).level (seen node).call ≡ None) × IsAnsweredBy r.world.engine (frame_at r.world r.frame inside) (seen node).call pick) }
-    ensures host { let o = objects_of allows_call allows_resume B.allows_start B.allows_next H.allows_missing natives.now in (r : Ran o) (node : CallNode) (inside : InTree node r.node) → (seen node).end.whose ≡ owners.Host → NoneMatches r.world.engine (frame_at r.world r.frame inside) (seen node).call × ((pick : Pick) → HasBuiltin r.world.engine (seen node).call pick → ⊥) }
-    ensures missing { let o = objects_of allows_call allows_resume B.allows_start B.allows_next H.allows_missing natives.now in (r : Ran o) (node : CallNode) (inside : InTree node r.node) (fault : EvalAltResult) → (seen node).begun ≡ true → fault_number fault ≤ 4 → IsOwn (seen node).end fault → NoneMatches r.world.engine (frame_at r.world r.frame inside) (seen node).call × ((pick : Pick) → HasBuiltin r.world.engine (seen node).call pick → ⊥) }
+    ensures shown { let o = objects_of allows_call allows_resume B.allows_start B.allows_next H.allows_missing natives.now in
+        (r : Ran o) (node : CallNode) (inside : InTree node r.node) (pick : Pick) → (seen node).begun ≡ true → ((seen node).pick ≡ Some pick)
+        ↔ ((refusal r.world.engine (frame_at r.world r.frame inside) (seen node).level (seen node).call ≡ None)
+        × IsAnsweredBy r.world.engine (frame_at r.world r.frame inside) (seen node).call pick) }
+    ensures host { let o = objects_of allows_call allows_resume B.allows_start B.allows_next H.allows_missing natives.now in
+        (r : Ran o) (node : CallNode) (inside : InTree node r.node) → (seen node).end.whose ≡ owners.Host
+        → NoneMatches r.world.engine (frame_at r.world r.frame inside) (seen node).call × ((pick : Pick) → HasBuiltin r.world.engine (seen node).call pick → ⊥) }
+    ensures missing { let o = objects_of allows_call allows_resume B.allows_start B.allows_next H.allows_missing natives.now in
+        (r : Ran o) (node : CallNode) (inside : InTree node r.node) (fault : EvalAltResult) → (seen node).begun ≡ true → fault_number fault ≤ 4
+        → IsOwn (seen node).end fault
+        → NoneMatches r.world.engine (frame_at r.world r.frame inside) (seen node).call × ((pick : Pick) → HasBuiltin r.world.engine (seen node).call pick → ⊥) }
 {}

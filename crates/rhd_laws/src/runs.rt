@@ -18,8 +18,14 @@ use rhd_func::{Bodies, Host, Natives};
 /// the frame in which it is asked for. Each call of the run is answered by such a tree, and there are
 /// as many replies as commands.
 pub fn each_tree_of_a_run_runs_where_the_run_came<H: Host, B: Bodies>(natives: &Natives)
-    ensures tree { let o = objects_of allows_call allows_resume B.allows_start B.allows_next H.allows_missing natives.now in (run : RunOf o) (n : ℕ) (root : CallNode) → slice_get run.replies n ≡ Some (Called root) → IsTreeAt o run n root }
-    ensures node { let o = objects_of allows_call allows_resume B.allows_start B.allows_next H.allows_missing natives.now in (run : RunOf o) (n : ℕ) (root node : CallNode) (inside : InTree node root) → slice_get run.replies n ≡ Some (Called root) → (tree : IsTreeAt o run n root) × RunsAt o tree.ran.world (frame_at tree.ran.world tree.ran.frame inside) node }
-    ensures call { let o = objects_of allows_call allows_resume B.allows_start B.allows_next H.allows_missing natives.now in (run : RunOf o) (n : ℕ) (request : CallRequest) → slice_get run.commands n ≡ Some (Call request) → (root : CallNode) × (slice_get run.replies n ≡ Some (Called root)) }
-    ensures as_many { let o = objects_of allows_call allows_resume B.allows_start B.allows_next H.allows_missing natives.now in (run : RunOf o) → length run.replies ≡ length run.commands }
+    ensures tree { let o = objects_of allows_call allows_resume B.allows_start B.allows_next H.allows_missing natives.now in
+        (run : RunOf o) (n : ℕ) (root : CallNode) → slice_get run.replies n ≡ Some (Called root) → IsTreeAt o run n root }
+    ensures node { let o = objects_of allows_call allows_resume B.allows_start B.allows_next H.allows_missing natives.now in
+        (run : RunOf o) (n : ℕ) (root node : CallNode) (inside : InTree node root) → slice_get run.replies n ≡ Some (Called root)
+        → (tree : IsTreeAt o run n root) × RunsAt o tree.ran.world (frame_at tree.ran.world tree.ran.frame inside) node }
+    ensures call { let o = objects_of allows_call allows_resume B.allows_start B.allows_next H.allows_missing natives.now in
+        (run : RunOf o) (n : ℕ) (request : CallRequest) → slice_get run.commands n ≡ Some (Call request)
+        → (root : CallNode) × (slice_get run.replies n ≡ Some (Called root)) }
+    ensures as_many { let o = objects_of allows_call allows_resume B.allows_start B.allows_next H.allows_missing natives.now in
+        (run : RunOf o) → length run.replies ≡ length run.commands }
 {}
