@@ -1,8 +1,7 @@
 -- What is left of a first argument after the call.
-use Rattle.std.proofs.Common.{◌≡◌, ℕ, Bool, true, false, List, [], ◌∷◌, refl, sym, ap, ◌∙◌, subst, ◌⊎◌, inl, inr}
-use Rattle.std.specs.Prelude.{◌↔◌, Option, None, Some, is_some, Err}
+use Rattle.std.proofs.Common.{◌≡◌, ℕ, Bool, true, false, List, [], ◌∷◌, refl, sym, ap, ◌∙◌}
+use Rattle.std.specs.Prelude.{◌↔◌, Option, None, Some, is_some}
 use Rattle.rhd_value.specs.Tree.{Tree}
-use Rattle.rhd_value.specs.declared.fault.EvalAltResult.TheVariants.{ErrorTooManyOperations}
 use Rattle.rhd_func.specs.declared.request.Carry.{Carry}
 use Rattle.rhd_func.specs.declared.request.CallRequest.{CallRequest}
 use Rattle.rhd_func.specs.declared.request.CallRequest.TheVariants.{Named}
@@ -13,7 +12,7 @@ use Rattle.rhd_func.specs.GivenBack.{back_of}
 use Rattle.rhd_func.specs.declared.func.RhaiFunc.{RhaiFunc}
 use Rattle.rhd_func.specs.declared.request.NativeCallContext.{NativeCallContext}
 use Rattle.rhd_func.specs.Natives.{NativeInfo}
-use Rattle.rhd_func.specs.Shapes.{first_given, given, pos_of}
+use Rattle.rhd_func.specs.Shapes.{first_given, given}
 use Rattle.rhd_call.specs.End.{End}
 use Rattle.rhd_call.specs.Seen.{Seen, seen, cut_end}
 use Rattle.rhd_call.specs.Trees.{InTree}
@@ -27,7 +26,7 @@ use Rattle.rhd_session.specs.Runs.{Runs, not_begun, ended, host_answered, finish
 use Rattle.rhd_session.specs.Steps.{Starts, native_starts, body_starts, Resumes, native_resumes, body_resumes}
 use Rattle.rhd_session.specs.World.{World, Objects, Moment}
 use Rattle.rhd_laws.specs.Arguments.{HasFirstGiven, by_reference, of_method, IsCut}
-use Rattle.rhd_laws.specs.Causes.{IsOwn, EndsWith}
+use Rattle.rhd_laws.specs.Causes.{EndsWith}
 use Rattle.rhd_laws.proofs.HostEnds.{host_first}
 use Rattle.rhd_laws.proofs.NodeEnds.{ends_first, plan_given, given_shape, ShowsEnd, isnt_begun, is_deep, is_locked, is_missing, by_host, is_constant, has_ended, was_cut, runs_end}
 use Rattle.rhd_laws.proofs.TreeFaults.{cut_exactly}

@@ -28,7 +28,7 @@ use Rattle.rhd_session.specs.Ends.{not_wanted, too_large, first_at_end, first_to
 use Rattle.rhd_session.specs.Printed.{printer, no_text, printed_text, answer_after_printing}
 use Rattle.rhd_laws.specs.Prints.{IsPrintable, Makes}
 use Rattle.rhd_laws.specs.Causes.{IsWithin, Passes, by_arrays, by_maps, by_texts, HasFirst, AreWithin, IsTooLarge, the_value, the_first, IsOfOtherKind, IsMismatch, isnt_text, isnt_wanted}
-use Rattle.rhd_laws.proofs.PrintedEnds.{makes_printing, said_makes, untold, no_text_untold, unprinted, printable, printable_text}
+use Rattle.rhd_laws.proofs.PrintedEnds.{makes_printing, printing_makes, text_missing, missing_text, unprinted, printable, printable_text}
 
 some_same : {A : Type 0} (a b : A) → Some a ≡ Some b → b ≡ a
 some_same a b h = cc
@@ -236,7 +236,7 @@ done_by e plan pick v back end (Some fault) t p is n k h =
     let l = unfit_large e plan pick back v fault is in
     is_large v back l.0 refl l.1 (h ∙ ap (refusing (first_at_end e plan pick back) v) l.2)
 done_by e plan pick v back end None (Some fault) p is n k h =
-    let u = untold e plan pick v fault n in
+    let u = text_missing e plan pick v fault n in
     is_other v v back (codes "string") refl (fit_within e plan pick back v is) (isnt_text u.prints u.none refl refl)
     (h ∙ (λ i. with_printed (sym u.unprinted i) (refusing (first_at_end e plan pick back) v (u.says i))))
 done_by e plan pick v back end None None (Some fault) is n k h =
@@ -274,10 +274,10 @@ pub other_ends : (e : EngineLists) (plan : Plan) (pick : Pick) (v made : Tree) (
     → end ≡ with_printed (shown_by e plan pick v) (refusing (first_at_end e plan pick back) made (ErrorMismatchOutputType wanted (display e made) plan.pos))
 other_ends e plan pick v made back wanted end within (isnt_text prints none says is) h =
     within_ends e plan pick v back end within h
-    ∙ ap (λ (t : Option EvalAltResult). tests e plan pick back v None t (not_wanted e plan.want plan.pos (made_by e plan pick v))) (no_text_untold e plan pick v prints none)
+    ∙ ap (λ (t : Option EvalAltResult). tests e plan pick back v None t (not_wanted e plan.want plan.pos (made_by e plan pick v))) (missing_text e plan pick v prints none)
     ∙ (λ i. with_printed (sym (unprinted e plan pick v prints none) i) (refusing (first_at_end e plan pick back) (sym is i) (ErrorMismatchOutputType (sym says i) (display e (sym is i)) plan.pos)))
 other_ends e plan pick v made back wanted end within (isnt_wanted kind text makes other says) h =
-    let same : made ≡ made_by e plan pick v = said_makes e plan pick v made makes in
+    let same : made ≡ made_by e plan pick v = printing_makes e plan pick v made makes in
     within_ends e plan pick v back end within h
     ∙ (λ i. tests e plan pick back v None (printable_text e plan pick v text i) (not_wanted e plan.want plan.pos (sym same i)))
     ∙ ap (λ (k : Option EvalAltResult). done_from (first_at_end e plan pick back) v (shown_by e plan pick v) (made_by e plan pick v) None None k) (other_unwanted e plan.want plan.pos made kind other)
@@ -285,7 +285,7 @@ other_ends e plan pick v made back wanted end within (isnt_wanted kind text make
 
 -- within the limits a call shows what it prints
 printed_from : (e : EngineLists) (plan : Plan) (pick : Pick) (v : Tree) (back : Option Tree) (t p : Option EvalAltResult) → no_text e (printer e.printers plan pick) plan.pos v ≡ t → (tests e plan pick back v None t p).printed ≡ shown_by e plan pick v
-printed_from e plan pick v back (Some fault) p is = sym ((untold e plan pick v fault is).unprinted)
+printed_from e plan pick v back (Some fault) p is = sym ((text_missing e plan pick v fault is).unprinted)
 printed_from e plan pick v back None (Some fault) is = refl
 printed_from e plan pick v back None None is = refl
 
@@ -304,7 +304,7 @@ none_other e want pos v kind h other = none_some (ErrorMismatchOutputType (type_
 pub value_ends : (e : EngineLists) (plan : Plan) (pick : Pick) (v made : Tree) (back : Option Tree) (end : End) → AreWithin e plan pick back v → IsPrintable e.printers plan pick v → Makes e.printers plan pick v made
     → ((kind : TypeTag) → IsOfOtherKind plan.want kind made → ⊥) → end_of e plan pick (Done v back) ≡ Some end → end ≡ with_printed (shown_by e plan pick v) (fits_end (first_at_end e plan pick back) made)
 value_ends e plan pick v made back end within text makes wanted h =
-    let same : made ≡ made_by e plan pick v = said_makes e plan pick v made makes in
+    let same : made ≡ made_by e plan pick v = printing_makes e plan pick v made makes in
     within_ends e plan pick v back end within h
     ∙ (λ i. tests e plan pick back v None (printable_text e plan pick v text i) (not_wanted e plan.want plan.pos (sym same i)))
     ∙ ap (λ (k : Option EvalAltResult). done_from (first_at_end e plan pick back) v (shown_by e plan pick v) (made_by e plan pick v) None None k) (wanted_by e plan.want plan.pos made (not_wanted e plan.want plan.pos made) refl wanted)

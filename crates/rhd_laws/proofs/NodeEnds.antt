@@ -25,7 +25,6 @@ use Rattle.rhd_func.specs.Shapes.{all_args, first_given, given, pos_of}
 use Rattle.rhd_engine.specs.Engine.{EngineLists, Frame}
 use Rattle.rhd_session.specs.World.{World, Objects, Moment}
 use Rattle.rhd_call.specs.End.{End, failed, refusing}
-use Rattle.rhd_engine.specs.declared.limits.Limits.{Limits}
 use Rattle.rhd_call.specs.declared.node.CallNode.{CallNode}
 use Rattle.rhd_call.specs.declared.node.Whose.TheVariants.{Call, Called, Host}
 use Rattle.rhd_call.specs.declared.pick.Pick.{Pick}
@@ -258,7 +257,7 @@ module _ {H B : Type 0} (o : Objects H B) (w : World) where
   race_only {node = node} text pos (is_deep deep s) begun h = absurd (no_fault (seen node).end (ap (λ (x : Seen). x.end.answer) s) h.1 (λ q. absurd (omega (arith, q))))
   race_only {call = call} {node = node} text pos (is_locked n l place s) begun h = (l, (n, place_first (plan_of call).shape n place, not_own (seen node).end (ap (λ (x : Seen). x.end.answer) s) h.1))
   race_only {call = call} {node = node} text pos (is_missing l none s) begun h = absurd (no_missing w.engine call (seen node).end (ap (λ (x : Seen). x.end) s) h (λ q. absurd (omega (arith, q))))
-  race_only {node = node} text pos (by_host from to answer l none c told alone says) begun h = absurd (no_host (seen node).end says h (λ q. absurd (omega (arith, q))) (λ q. absurd (omega (arith, q))))
+  race_only {node = node} text pos (by_host from to answer l none c asked alone says) begun h = absurd (no_host (seen node).end says h (λ q. absurd (omega (arith, q))) (λ q. absurd (omega (arith, q))))
   race_only {node = node} text pos (is_constant own l none u first on s) begun h = absurd (no_fault (seen node).end (ap (λ (x : Seen). x.end.answer) s) h.1 (λ q. absurd (omega (arith, q))))
   race_only {node = node} text pos (has_ended pick last l none c came by) begun h =
       let no : OwnSize w.engine (plan_of (seen node).call) pick last (seen node).end (ErrorDataRace text pos) ⊎ OwnKind w.engine (plan_of (seen node).call) pick last (seen node).end (ErrorDataRace text pos) → ⊥ =
@@ -275,7 +274,7 @@ module _ {H B : Type 0} (o : Objects H B) (w : World) where
       let same : m ≡ n = cc in
       s ∙ ap (λ (k : ℕ). begun_node call level None [] [] (locked_end call k)) same
   race_shown {call = call} n (is_missing l' none s) begun l first = let q : None ≡ Some n = sym none ∙ first_place (plan_of call).shape n first in absurd cc
-  race_shown {call = call} n (by_host from to answer l' none c told alone says) begun l first = let q : None ≡ Some n = sym none ∙ first_place (plan_of call).shape n first in absurd cc
+  race_shown {call = call} n (by_host from to answer l' none c asked alone says) begun l first = let q : None ≡ Some n = sym none ∙ first_place (plan_of call).shape n first in absurd cc
   race_shown {call = call} n (is_constant own l' none u found on s) begun l first = let q : None ≡ Some n = sym none ∙ first_place (plan_of call).shape n first in absurd cc
   race_shown {call = call} n (has_ended pick last l' none c came by) begun l first = let q : None ≡ Some n = sym none ∙ first_place (plan_of call).shape n first in absurd cc
   race_shown {call = call} n (was_cut pick c l' none begun' shown e) begun l first = let q : None ≡ Some n = sym none ∙ first_place (plan_of call).shape n first in absurd cc
@@ -297,7 +296,7 @@ module _ {H B : Type 0} (o : Objects H B) (w : World) where
   constant_only {node = node} name pos (is_deep deep s) begun h = absurd (no_fault (seen node).end (ap (λ (x : Seen). x.end.answer) s) h.1 (λ q. absurd (omega (arith, q))))
   constant_only {node = node} name pos (is_locked n l place s) begun h = absurd (no_fault (seen node).end (ap (λ (x : Seen). x.end.answer) s) h.1 (λ q. absurd (omega (arith, q))))
   constant_only {call = call} {node = node} name pos (is_missing l none s) begun h = absurd (no_missing w.engine call (seen node).end (ap (λ (x : Seen). x.end) s) h (λ q. absurd (omega (arith, q))))
-  constant_only {node = node} name pos (by_host from to answer l none c told alone says) begun h = absurd (no_host (seen node).end says h (λ q. absurd (omega (arith, q))) (λ q. absurd (omega (arith, q))))
+  constant_only {node = node} name pos (by_host from to answer l none c asked alone says) begun h = absurd (no_host (seen node).end says h (λ q. absurd (omega (arith, q))) (λ q. absurd (omega (arith, q))))
   constant_only {node = node} name pos (is_constant own l none u first on s) begun h = record { pick = own; unrefused = u; first = first; on = on; says = not_own (seen node).end (ap (λ (x : Seen). x.end.answer) s) h.1 }
   constant_only {node = node} name pos (has_ended pick last l none c came by) begun h =
       absurd (no_other (seen node).end (ErrorNonPureMethodCallOnConstant name pos) by (λ q. absurd (omega (arith, q))) (λ q. absurd (omega (arith, q))) h)
@@ -358,13 +357,13 @@ module _ {H B : Type 0} (o : Objects H B) (w : World) where
   hosts_other : (node : CallNode) {from to : H} {answer : HostAnswer} (v : Tree) (kind : TypeTag) → (seen node).pick ≡ None → HostEnds o w.engine (seen node).call from answer to (seen node).end → answer ≡ Value v → IsOfOtherKind (plan_of (seen node).call).want kind v
       → (seen node).end ≡ refusing (plan_of (seen node).call).given v (ErrorMismatchOutputType (type_name kind) (display w.engine v) (plan_of (seen node).call).pos)
       → RefusesHosts o w.engine (seen node) (ErrorMismatchOutputType (type_name kind) (display w.engine v) (plan_of (seen node).call).pos)
-  hosts_other node {from} {to} v kind alone told is other e = record {
+  hosts_other node {from} {to} v kind alone asked is other e = record {
     from = from;
     to = to;
     value = v;
     kind = kind;
     alone = alone;
-    ended = subst (λ (x : HostAnswer). HostEnds o w.engine (seen node).call from x to (seen node).end) is told;
+    ended = subst (λ (x : HostAnswer). HostEnds o w.engine (seen node).call from x to (seen node).end) is asked;
     other = other;
     says = ap (λ (p : Position). ErrorMismatchOutputType (type_name kind) (display w.engine v) p) (plan_pos (seen node).call);
     refused = ap (λ (x : End). x.refused) e;
@@ -372,27 +371,27 @@ module _ {H B : Type 0} (o : Objects H B) (w : World) where
 
   hosts_kind : (node : CallNode) {from to : H} {answer : HostAnswer} {fault : EvalAltResult} → HostEnds o w.engine (seen node).call from answer to (seen node).end → (seen node).pick ≡ None → HostSays w.engine (plan_of (seen node).call) answer (seen node).end → IsOwn (seen node).end fault → (number fault ≤ 4 → ⊥)
       → RefusesHosts o w.engine (seen node) fault
-  hosts_kind node told alone (says_nothing is e) h n = absurd (no_unfound w.engine (plan_of (seen node).call) (seen node).end e h n)
-  hosts_kind node told alone (says_fault own is e) h n = absurd (is_hosts (seen node).end (ap (λ (x : End). x.whose) e) h)
-  hosts_kind node told alone (says_other v kind is other e) h n = subst (RefusesHosts o w.engine (seen node)) (sym (not_own (seen node).end (ap (λ (x : End). x.answer) e) h.1)) (hosts_other node v kind alone told is other e)
-  hosts_kind node told alone (says_value v is e) h n = absurd (is_hosts (seen node).end (ap (λ (x : End). x.whose) e) h)
+  hosts_kind node asked alone (says_nothing is e) h n = absurd (no_unfound w.engine (plan_of (seen node).call) (seen node).end e h n)
+  hosts_kind node asked alone (says_fault own is e) h n = absurd (is_hosts (seen node).end (ap (λ (x : End). x.whose) e) h)
+  hosts_kind node asked alone (says_other v kind is other e) h n = subst (RefusesHosts o w.engine (seen node)) (sym (not_own (seen node).end (ap (λ (x : End). x.answer) e) h.1)) (hosts_other node v kind alone asked is other e)
+  hosts_kind node asked alone (says_value v is e) h n = absurd (is_hosts (seen node).end (ap (λ (x : End). x.whose) e) h)
 
   hosts_refused : {f : Frame} (node : CallNode) {from to : H} {answer : HostAnswer} (value : Tree) → HostEnds o w.engine (seen node).call from answer to (seen node).end → (seen node).pick ≡ None → HostSays w.engine (plan_of (seen node).call) answer (seen node).end → (seen node).end.refused ≡ Some value
       → RefusesValue o w f (seen node) value
   unfolding hosts_other
-  hosts_refused node value told alone (says_nothing is e) h = let q : None ≡ Some value = sym (ap (λ (x : End). x.refused) e) ∙ h in absurd cc
-  hosts_refused node value told alone (says_fault own is e) h = let q : None ≡ Some value = sym (ap (λ (x : End). x.refused) e) ∙ h in absurd cc
-  hosts_refused node value told alone (says_other v kind is other e) h =
+  hosts_refused node value asked alone (says_nothing is e) h = let q : None ≡ Some value = sym (ap (λ (x : End). x.refused) e) ∙ h in absurd cc
+  hosts_refused node value asked alone (says_fault own is e) h = let q : None ≡ Some value = sym (ap (λ (x : End). x.refused) e) ∙ h in absurd cc
+  hosts_refused node value asked alone (says_other v kind is other e) h =
       let q : Some v ≡ Some value = sym (ap (λ (x : End). x.refused) e) ∙ h in
-      let same : v ≡ value = cc in for_host (hosts_other node v kind alone told is other e) same
-  hosts_refused node value told alone (says_value v is e) h = let q : None ≡ Some value = sym (ap (λ (x : End). x.refused) e) ∙ h in absurd cc
+      let same : v ≡ value = cc in for_host (hosts_other node v kind alone asked is other e) same
+  hosts_refused node value asked alone (says_value v is e) h = let q : None ≡ Some value = sym (ap (λ (x : End). x.refused) e) ∙ h in absurd cc
 
   kind_only : {f : Frame} {level : ℕ} {call : CallRequest} {node : CallNode} {cut : Bool} (wanted got : Bytes) (pos : Position) → ShowsEnd f level call node cut → IsOwn (seen node).end (ErrorMismatchOutputType wanted got pos) → RefusesKind o w f (seen node) (ErrorMismatchOutputType wanted got pos) ⊎ RefusesHosts o w.engine (seen node) (ErrorMismatchOutputType wanted got pos)
   kind_only {node = node} wanted got pos (isnt_begun s) h = absurd (no_fault (seen node).end (ap (λ (x : Seen). x.end.answer) s) h.1 (λ q. absurd (omega (arith, q))))
   kind_only {node = node} wanted got pos (is_deep deep s) h = absurd (no_fault (seen node).end (ap (λ (x : Seen). x.end.answer) s) h.1 (λ q. absurd (omega (arith, q))))
   kind_only {node = node} wanted got pos (is_locked n l place s) h = absurd (no_fault (seen node).end (ap (λ (x : Seen). x.end.answer) s) h.1 (λ q. absurd (omega (arith, q))))
   kind_only {call = call} {node = node} wanted got pos (is_missing l none s) h = absurd (no_missing w.engine call (seen node).end (ap (λ (x : Seen). x.end) s) h (λ q. absurd (omega (arith, q))))
-  kind_only {node = node} wanted got pos (by_host from to answer l none c told alone says) h = inr (hosts_kind node told alone says h (λ q. absurd (omega (arith, q))))
+  kind_only {node = node} wanted got pos (by_host from to answer l none c asked alone says) h = inr (hosts_kind node asked alone says h (λ q. absurd (omega (arith, q))))
   kind_only {node = node} wanted got pos (is_constant own l none u first on s) h = absurd (no_fault (seen node).end (ap (λ (x : Seen). x.end.answer) s) h.1 (λ q. absurd (omega (arith, q))))
   kind_only {f = f} {node = node} wanted got pos (has_ended pick last l none c came by) h =
       let one : OwnSize w.engine (plan_of (seen node).call) pick last (seen node).end (ErrorMismatchOutputType wanted got pos) ⊎ OwnKind w.engine (plan_of (seen node).call) pick last (seen node).end (ErrorMismatchOutputType wanted got pos) → RefusesKind o w f (seen node) (ErrorMismatchOutputType wanted got pos) =
@@ -423,7 +422,7 @@ module _ {H B : Type 0} (o : Objects H B) (w : World) where
   size_only {node = node} what pos (is_deep deep s) h = absurd (no_fault (seen node).end (ap (λ (x : Seen). x.end.answer) s) h.1 (λ q. absurd (omega (arith, q))))
   size_only {node = node} what pos (is_locked n l place s) h = absurd (no_fault (seen node).end (ap (λ (x : Seen). x.end.answer) s) h.1 (λ q. absurd (omega (arith, q))))
   size_only {call = call} {node = node} what pos (is_missing l none s) h = absurd (no_missing w.engine call (seen node).end (ap (λ (x : Seen). x.end) s) h (λ q. absurd (omega (arith, q))))
-  size_only {node = node} what pos (by_host from to answer l none c told alone says) h = absurd (no_host (seen node).end says h (λ q. absurd (omega (arith, q))) (λ q. absurd (omega (arith, q))))
+  size_only {node = node} what pos (by_host from to answer l none c asked alone says) h = absurd (no_host (seen node).end says h (λ q. absurd (omega (arith, q))) (λ q. absurd (omega (arith, q))))
   size_only {node = node} what pos (is_constant own l none u first on s) h = absurd (no_fault (seen node).end (ap (λ (x : Seen). x.end.answer) s) h.1 (λ q. absurd (omega (arith, q))))
   size_only {f = f} {node = node} what pos (has_ended pick last l none c came by) h =
       let one : OwnSize w.engine (plan_of (seen node).call) pick last (seen node).end (ErrorDataTooLarge what pos) ⊎ OwnKind w.engine (plan_of (seen node).call) pick last (seen node).end (ErrorDataTooLarge what pos) → RefusesSize o w f (seen node) (ErrorDataTooLarge what pos) =
@@ -446,7 +445,7 @@ module _ {H B : Type 0} (o : Objects H B) (w : World) where
   spends_not {node = node} (is_deep deep s) lasts begun h = no_fault (seen node).end (ap (λ (x : Seen). x.end.answer) s) h.1 (λ q. absurd (omega (arith, q)))
   spends_not {node = node} (is_locked n l place s) lasts begun h = no_fault (seen node).end (ap (λ (x : Seen). x.end.answer) s) h.1 (λ q. absurd (omega (arith, q)))
   spends_not {call = call} {node = node} (is_missing l none s) lasts begun h = no_missing w.engine call (seen node).end (ap (λ (x : Seen). x.end) s) h (λ q. absurd (omega (arith, q)))
-  spends_not {node = node} (by_host from to answer l none c told alone says) lasts begun h = no_host (seen node).end says h (λ q. absurd (omega (arith, q))) (λ q. absurd (omega (arith, q)))
+  spends_not {node = node} (by_host from to answer l none c asked alone says) lasts begun h = no_host (seen node).end says h (λ q. absurd (omega (arith, q))) (λ q. absurd (omega (arith, q)))
   spends_not {node = node} (is_constant own l none u first on s) lasts begun h = no_fault (seen node).end (ap (λ (x : Seen). x.end.answer) s) h.1 (λ q. absurd (omega (arith, q)))
   spends_not {call = call} {node = node} (has_ended pick last l none c came by) lasts begun h = no_other (seen node).end (ErrorTooManyOperations (pos_of call)) by (λ q. absurd (omega (arith, q))) (λ q. absurd (omega (arith, q))) h
   spends_not (was_cut pick c l none begun' shown e) lasts begun h = let q : true ≡ false = sym c ∙ lasts in absurd cc
@@ -457,7 +456,7 @@ module _ {H B : Type 0} (o : Objects H B) (w : World) where
   overflows {call = call} {node = node} pos (is_deep deep s) begun h = (deep, same_overflow (not_own (seen node).end (ap (λ (x : Seen). x.end.answer) s) h.1))
   overflows {node = node} pos (is_locked n l place s) begun h = absurd (no_fault (seen node).end (ap (λ (x : Seen). x.end.answer) s) h.1 (λ q. absurd (omega (arith, q))))
   overflows {call = call} {node = node} pos (is_missing l none s) begun h = absurd (no_missing w.engine call (seen node).end (ap (λ (x : Seen). x.end) s) h (λ q. absurd (omega (arith, q))))
-  overflows {node = node} pos (by_host from to answer l none c told alone says) begun h = absurd (no_host (seen node).end says h (λ q. absurd (omega (arith, q))) (λ q. absurd (omega (arith, q))))
+  overflows {node = node} pos (by_host from to answer l none c asked alone says) begun h = absurd (no_host (seen node).end says h (λ q. absurd (omega (arith, q))) (λ q. absurd (omega (arith, q))))
   overflows {node = node} pos (is_constant own l none u first on s) begun h = absurd (no_fault (seen node).end (ap (λ (x : Seen). x.end.answer) s) h.1 (λ q. absurd (omega (arith, q))))
   overflows {call = call} {node = node} pos (has_ended pick last l none c came by) begun h = absurd (no_other (seen node).end (ErrorStackOverflow pos) by (λ q. absurd (omega (arith, q))) (λ q. absurd (omega (arith, q))) h)
   overflows {node = node} pos (was_cut pick c l none begun' shown e) begun h = absurd (no_fault (seen node).end (ap (λ (x : End). x.answer) e) h.1 (λ q. absurd (omega (arith, q))))
@@ -469,7 +468,7 @@ module _ {H B : Type 0} (o : Objects H B) (w : World) where
   refused_only value (is_deep deep s) h = let q : None ≡ Some value = sym (ap (λ (x : Seen). x.end.refused) s) ∙ h in absurd cc
   refused_only value (is_locked n l place s) h = let q : None ≡ Some value = sym (ap (λ (x : Seen). x.end.refused) s) ∙ h in absurd cc
   refused_only value (is_missing l none s) h = let q : None ≡ Some value = sym (ap (λ (x : Seen). x.end.refused) s) ∙ h in absurd cc
-  refused_only {node = node} value (by_host from to answer l none c told alone says) h = hosts_refused node value told alone says h
+  refused_only {node = node} value (by_host from to answer l none c asked alone says) h = hosts_refused node value asked alone says h
   refused_only value (is_constant own l none u first on s) h = let q : None ≡ Some value = sym (ap (λ (x : Seen). x.end.refused) s) ∙ h in absurd cc
   refused_only {f = f} {node = node} value (has_ended pick last l none c came by) h =
       let one : RefusedLast w.engine (plan_of (seen node).call) pick last (seen node).end value → RefusesValue o w f (seen node) value =
@@ -491,7 +490,7 @@ module _ {H B : Type 0} (o : Objects H B) (w : World) where
   first_alone (is_deep deep s) h = ap (λ (x : Seen). x.end.first_after) s
   first_alone (is_locked n l place s) h = ap (λ (x : Seen). x.end.first_after) s
   first_alone {call = call} (is_missing l none s) h = ap (λ (x : Seen). x.end.first_after) s ∙ plan_given call
-  first_alone {call = call} (by_host from to answer l none c told alone says) h = host_first says ∙ ap (λ (k : CallRequest). (plan_of k).given) c ∙ plan_given call
+  first_alone {call = call} (by_host from to answer l none c asked alone says) h = host_first says ∙ ap (λ (k : CallRequest). (plan_of k).given) c ∙ plan_given call
   first_alone (is_constant own l none u first on s) h = let q : Some own ≡ None = sym (ap (λ (x : Seen). x.pick) s) ∙ h in absurd cc
   first_alone (has_ended pick last l none c came by) h = let q : Some pick ≡ None = sym came.shown ∙ h in absurd cc
   first_alone (was_cut pick c l none begun shown e) h = let q : Some pick ≡ None = sym shown ∙ h in absurd cc
@@ -507,7 +506,7 @@ module _ {H B : Type 0} (o : Objects H B) (w : World) where
   ran_first pick (is_deep deep s) lasts h = let q : None ≡ Some pick = sym (ap (λ (x : Seen). x.pick) s) ∙ h in absurd cc
   ran_first pick (is_locked n l place s) lasts h = let q : None ≡ Some pick = sym (ap (λ (x : Seen). x.pick) s) ∙ h in absurd cc
   ran_first pick (is_missing l none s) lasts h = let q : None ≡ Some pick = sym (ap (λ (x : Seen). x.pick) s) ∙ h in absurd cc
-  ran_first pick (by_host from to answer l none c told alone says) lasts h = let q : None ≡ Some pick = sym alone ∙ h in absurd cc
+  ran_first pick (by_host from to answer l none c asked alone says) lasts h = let q : None ≡ Some pick = sym alone ∙ h in absurd cc
   ran_first {call = call} pick (is_constant own l none u first on s) lasts h =
       let q : Some own ≡ Some pick = sym (ap (λ (x : Seen). x.pick) s) ∙ h in
       let same : own ≡ pick = cc in inr (subst (IsOnConstant w.engine (plan_of call)) same on, ap (λ (x : Seen). x.end.first_after) s ∙ plan_given call)

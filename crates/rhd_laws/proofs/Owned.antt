@@ -102,13 +102,13 @@ says_host (says_fault fault is e) h = hosts_fault fault is (ap (λ (x : End). x.
 says_host {end = end} (says_other v kind is other e) h = absurd (not_both end (ap (λ (x : End). x.whose) e) h call_host)
 says_host (says_value v is e) h = hosts_value v is (ap (λ (x : End). x.answer) e)
 
-host_said : {e : EngineLists} {plan : Plan} {gave : HostAnswer} {end : End} → HostSays e plan gave end → IsHosts gave end.answer → end.whose ≡ Host
-host_said (says_nothing is e) (hosts_value v is' a) = let q = sym is ∙ is' in absurd cc
-host_said (says_nothing is e) (hosts_fault fault is' a) = let q = sym is ∙ is' in absurd cc
-host_said (says_fault fault is e) h = ap (λ (x : End). x.whose) e
-host_said (says_other v kind is other e) (hosts_value u is' a) = let q = sym (ap (λ (x : End). x.answer) e) ∙ a in absurd cc
-host_said (says_other v kind is other e) (hosts_fault fault is' a) = let q = sym is ∙ is' in absurd cc
-host_said (says_value v is e) h = ap (λ (x : End). x.whose) e
+host_whose : {e : EngineLists} {plan : Plan} {gave : HostAnswer} {end : End} → HostSays e plan gave end → IsHosts gave end.answer → end.whose ≡ Host
+host_whose (says_nothing is e) (hosts_value v is' a) = let q = sym is ∙ is' in absurd cc
+host_whose (says_nothing is e) (hosts_fault fault is' a) = let q = sym is ∙ is' in absurd cc
+host_whose (says_fault fault is e) h = ap (λ (x : End). x.whose) e
+host_whose (says_other v kind is other e) (hosts_value u is' a) = let q = sym (ap (λ (x : End). x.answer) e) ∙ a in absurd cc
+host_whose (says_other v kind is other e) (hosts_fault fault is' a) = let q = sym is ∙ is' in absurd cc
+host_whose (says_value v is e) h = ap (λ (x : End). x.whose) e
 
 pub not_called : {e : EngineLists} {plan : Plan} {gave : HostAnswer} {end : End} → HostSays e plan gave end → end.whose ≡ Called → ⊥
 not_called {end = end} (says_nothing is e) h = not_both end (ap (λ (x : End). x.whose) e) h call_called
@@ -137,13 +137,13 @@ module _ {H B : Type 0} (o : Objects H B) (w : World) where
       absurd (not_both (seen node).end (ap (λ (x : Seen). x.end.whose) s ∙ alone_whose (ends_missing w.engine f level call pick end d)) h call_host)
   host_only {node = node} (host_answered {f = f} {level = level} {call = call} {before = before} {plan = plan} {answer = answer} {host = host} b d a s) h =
       let r = asks_first w.engine f level call plan d in
-      let told = host_ends o w.engine call plan before.host answer host r.0 a (ap (λ (x : Seen). x.end) s) in
-      record { asked = r.1; gave = answer; ended = told; shown = says_host (host_says w.engine (plan_of call) answer (seen node).end told.ends) h }
+      let asked = host_ends o w.engine call plan before.host answer host r.0 a (ap (λ (x : Seen). x.end) s) in
+      record { asked = r.1; gave = answer; ended = asked; shown = says_host (host_says w.engine (plan_of call) answer (seen node).end asked.ends) h }
   host_only {node = node} (finished {plan = plan} {pick = pick} {last = last} {end = end} b d starts steps e s) h = absurd (last_host (ends_by w.engine plan pick last end e) (sym (ap (λ (x : Seen). x.end.whose) s) ∙ h))
   host_only {node = node} (cut_short b d starts steps r s) h = absurd (not_both (seen node).end (ap (λ (x : Seen). x.end.whose) s) h call_host)
 
   host_back : {f : Frame} {level : ℕ} {call : CallRequest} {from to : H} {end : End} → IsAnsweredByHost o w.engine f level call from to end → end.whose ≡ Host
-  host_back {call = call} {end = end} h = host_said (host_says w.engine (plan_of call) h.gave end h.ended.ends) h.shown
+  host_back {call = call} {end = end} h = host_whose (host_says w.engine (plan_of call) h.gave end h.ended.ends) h.shown
 
   -- an answer is the host's exactly where the host was asked, and its value or fault is the answer
   pub host_exactly : {f : Frame} {level : ℕ} {call : CallRequest} {node : CallNode} {before after : Moment H B} {cut : Bool} → Runs o w f level call node before after cut → ((seen node).end.whose ≡ Host) ↔ IsAnsweredByHost o w.engine f level call before.host after.host (seen node).end
@@ -154,7 +154,7 @@ module _ {H B : Type 0} (o : Objects H B) (w : World) where
   called_only {node = node} (is_deep deep s) h = absurd (not_both (seen node).end (ap (λ (x : Seen). x.end.whose) s) h call_called)
   called_only {node = node} (is_locked n l place s) h = absurd (not_both (seen node).end (ap (λ (x : Seen). x.end.whose) s) h call_called)
   called_only {node = node} (is_missing l none s) h = absurd (not_both (seen node).end (ap (λ (x : Seen). x.end.whose) s) h call_called)
-  called_only (by_host from to answer l none c told alone says) h = absurd (not_called says h)
+  called_only (by_host from to answer l none c asked alone says) h = absurd (not_called says h)
   called_only {node = node} (is_constant own l none u first on s) h = absurd (not_both (seen node).end (ap (λ (x : Seen). x.end.whose) s) h call_called)
   called_only (has_ended pick last l none c came by) h = record { pick = pick; last = last; ended = came; shown = last_called by h }
   called_only {node = node} (was_cut pick c l none begun shown e) h = absurd (not_both (seen node).end (ap (λ (x : End). x.whose) e) h call_called)
@@ -179,9 +179,9 @@ module _ {H B : Type 0} (o : Objects H B) (w : World) where
       alone_fails before.host before.host (subst (EndsAlone w.engine f level call pick) (sym (ap (λ (x : Seen). x.end) s)) (ends_missing w.engine f level call pick end d)) h.1 l
   unfound_only {node = node} fault (host_answered {f = f} {level = level} {call = call} {before = before} {plan = plan} {answer = answer} {host = host} b d a s) begun l h =
       let r = asks_first w.engine f level call plan d in
-      let told = host_ends o w.engine call plan before.host answer host r.0 a (ap (λ (x : Seen). x.end) s) in
-      let k = says_unfound (host_says w.engine (plan_of call) answer (seen node).end told.ends) h l in
-      record { all_fail = and_host r.1 (subst (λ (x : HostAnswer). HostEnds o w.engine call before.host x host (seen node).end) k.0 told); says = k.1 }
+      let asked = host_ends o w.engine call plan before.host answer host r.0 a (ap (λ (x : Seen). x.end) s) in
+      let k = says_unfound (host_says w.engine (plan_of call) answer (seen node).end asked.ends) h l in
+      record { all_fail = and_host r.1 (subst (λ (x : HostAnswer). HostEnds o w.engine call before.host x host (seen node).end) k.0 asked); says = k.1 }
   unfound_only fault (finished {plan = plan} {pick = pick} {last = last} {end = end} b d starts steps e s) begun l h =
       absurd (no_other o w end fault (ends_by w.engine plan pick last end e) (λ q. absurd (omega (arith, q, l))) (λ q. absurd (omega (arith, q, l))) (sym (ap (λ (x : Seen). x.end.whose) s) ∙ h.0, sym (ap (λ (x : Seen). x.end.answer) s) ∙ h.1))
   unfound_only {node = node} fault (cut_short b d starts steps r s) begun l h = absurd (no_fault (seen node).end (ap (λ (x : Seen). x.end.answer) s) h.1 (λ q. absurd (omega (arith, q, l))))
@@ -207,8 +207,8 @@ module _ {H B : Type 0} (o : Objects H B) (w : World) where
 
   fails_shown : {f : Frame} {level : ℕ} {call : CallRequest} {node : CallNode} {before after : Moment H B} {cut : Bool} {from to : H} → Runs o w f level call node before after cut → (seen node).begun ≡ true → AllFail o w.engine f level call from to (seen node).end → seen node ≡ begun_node call level None [] [] (missing_end w.engine (plan_of call))
   fails_shown {f = f} {level = level} {call = call} r begun (without_host u only un) = ends_shown (missing_end w.engine (plan_of call)) r begun (missing_ends w.engine f level call None (missing_end w.engine (plan_of call)) (isnt_found refl u only refl un))
-  fails_shown {f = f} {level = level} {call = call} {node = node} r begun (and_host asked told) =
-      host_shown (plan_of call) r begun (first_asks w.engine f level call (plan_of call) (refl, asked)) ∙ ap (λ (x : End). begun_node call level None [] [] x) (nothing_missing w.engine call (seen node).end told.ends)
+  fails_shown {f = f} {level = level} {call = call} {node = node} r begun (and_host asked answers) =
+      host_shown (plan_of call) r begun (first_asks w.engine f level call (plan_of call) (refl, asked)) ∙ ap (λ (x : End). begun_node call level None [] [] x) (nothing_missing w.engine call (seen node).end answers.ends)
 
   pub unfound_shown : {f : Frame} {level : ℕ} {call : CallRequest} {node : CallNode} {before after : Moment H B} {cut : Bool} {from to : H} (fault : EvalAltResult) → Runs o w f level call node before after cut → (seen node).begun ≡ true → IsUnfound o w.engine f level call from to (seen node).end fault
       → seen node ≡ begun_node call level None [] [] (failed (given call) fault)

@@ -1,5 +1,5 @@
 -- Whose a fault is, and which faults are a call's own.
-use Rattle.std.proofs.Common.{◌≡◌, ℕ, ◌≤◌, Bool, refl, sym, ap, ◌∙◌, subst, ◌⊎◌, inl, inr, arith}
+use Rattle.std.proofs.Common.{◌≡◌, ℕ, ◌≤◌, Bool, refl, sym, ap, ◌∙◌, subst, inl, inr, arith}
 use Rattle.std.specs.Prelude.{◌↔◌, Option, None, Some, Result, Ok, Err}
 use Rattle.rhd_value.specs.Tree.{Tree}
 use Rattle.rhd_value.specs.declared.fault.EvalAltResult.{EvalAltResult}
@@ -23,7 +23,7 @@ use Rattle.rhd_session.specs.Trees.{frame_at}
 use Rattle.rhd_session.specs.World.{World, Objects, Moment}
 use Rattle.rhd_laws.specs.Causes.{IsOwn, EndsWith}
 use Rattle.rhd_laws.specs.Hosts.{HostEnds}
-use Rattle.rhd_laws.specs.Owners.{IsHosts, hosts_value, hosts_fault, IsAnsweredByHost, IsFunctions, own_value, own_fault, IsAnsweredByFunction}
+use Rattle.rhd_laws.specs.Owners.{IsHosts, hosts_value, hosts_fault, IsAnsweredByHost, IsFunctions, own_value, own_fault}
 use Rattle.rhd_laws.specs.OwnFaults.{IsOwnNumber, one_to_seven, nine_to_eleven, IsRefusing, FaultOf, FunctionFails, HostFails}
 use Rattle.rhd_laws.specs.Unfound.{fault_number as number}
 use Rattle.rhd_laws.proofs.HostEnds.{HostSays, says_nothing, says_fault, says_other, says_value, host_says}
@@ -116,13 +116,13 @@ failed_last fault back (is_other v made given wanted is within other h) same = l
 failed_last fault back (fits v made given is within printable makes wanted h) same = let q = sym is ∙ same in absurd cc
 
 -- so does the host
-fault_said : {e : EngineLists} {plan : Plan} {answer : HostAnswer} {end : End} (fault : EvalAltResult) → HostSays e plan answer end → answer ≡ Fault fault → FaultOf Host end fault
-fault_said fault (says_nothing is h) same = let q = sym is ∙ same in absurd cc
-fault_said fault (says_fault own is h) same =
+fault_given : {e : EngineLists} {plan : Plan} {answer : HostAnswer} {end : End} (fault : EvalAltResult) → HostSays e plan answer end → answer ≡ Fault fault → FaultOf Host end fault
+fault_given fault (says_nothing is h) same = let q = sym is ∙ same in absurd cc
+fault_given fault (says_fault own is h) same =
     let q : Fault own ≡ Fault fault = sym is ∙ same in
     let k : own ≡ fault = cc in (ap (λ (x : End). x.whose) h, ap (λ (x : End). x.answer) h ∙ ap Err k)
-fault_said fault (says_other v kind is other h) same = let q = sym is ∙ same in absurd cc
-fault_said fault (says_value v is h) same = let q = sym is ∙ same in absurd cc
+fault_given fault (says_other v kind is other h) same = let q = sym is ∙ same in absurd cc
+fault_given fault (says_value v is h) same = let q = sym is ∙ same in absurd cc
 
 module _ {H B : Type 0} (o : Objects H B) (w : World) where
   end_of_node : {f : Frame} {level : ℕ} {call : CallRequest} {node : CallNode} {cut : Bool} → ShowsEnd o w f level call node cut → EndOf (seen node).end
@@ -182,7 +182,7 @@ module _ {H B : Type 0} (o : Objects H B) (w : World) where
       record { asked = r.asked; ended = by r.shown }
 
   hosts_back : {f : Frame} {level : ℕ} {call : CallRequest} {from to : H} {end : End} (fault : EvalAltResult) → HostFails o w.engine f level call from to end fault → FaultOf Host end fault
-  hosts_back {call = call} {end = end} fault r = fault_said fault (host_says w.engine (plan_of call) (Fault fault) end r.ended.ends) refl
+  hosts_back {call = call} {end = end} fault r = fault_given fault (host_says w.engine (plan_of call) (Fault fault) end r.ended.ends) refl
 
   pub host_fails : {node root : CallNode} (inside : InTree node root) {f : Frame} {level : ℕ} {call : CallRequest} {before after : Moment H B} {cut : Bool} (fault : EvalAltResult) → Runs o w f level call root before after cut →
       FaultOf Host (seen node).end fault ↔ ((from : H) × (to : H) × HostFails o w.engine (frame_at w f inside) (seen node).level (seen node).call from to (seen node).end fault)

@@ -60,31 +60,31 @@ pub makes_printing : (e : EngineLists) (plan : Plan) (pick : Pick) (v : Tree) (p
 makes_printing e plan pick v (Some set) is = unit_for_it set (printer_prints e plan pick set is) refl
 makes_printing e plan pick v None is = itself (λ set prints. let q : None ≡ Some set = sym is ∙ prints_printer e plan pick set prints in absurd cc) refl
 
-pub said_makes : (e : EngineLists) (plan : Plan) (pick : Pick) (v made : Tree) → Makes e.printers plan pick v made → made ≡ answer_after_printing (printer e.printers plan pick) v
-said_makes e plan pick v made (unit_for_it set prints is) = is ∙ ap (λ (p : Option Bool). answer_after_printing p v) (sym (prints_printer e plan pick set prints))
-said_makes e plan pick v made (itself none is) = is ∙ ap (λ (p : Option Bool). answer_after_printing p v) (sym (no_printer e plan pick (printer e.printers plan pick) refl none))
+pub printing_makes : (e : EngineLists) (plan : Plan) (pick : Pick) (v made : Tree) → Makes e.printers plan pick v made → made ≡ answer_after_printing (printer e.printers plan pick) v
+printing_makes e plan pick v made (unit_for_it set prints is) = is ∙ ap (λ (p : Option Bool). answer_after_printing p v) (sym (prints_printer e plan pick set prints))
+printing_makes e plan pick v made (itself none is) = is ∙ ap (λ (p : Option Bool). answer_after_printing p v) (sym (no_printer e plan pick (printer e.printers plan pick) refl none))
 
 -- a value is no text for a printer exactly where that is set and takes none
-pub record Untold (e : EngineLists) (plan : Plan) (pick : Pick) (v : Tree) (fault : EvalAltResult) : Type 0 where
+pub record TextMissing (e : EngineLists) (plan : Plan) (pick : Pick) (v : Tree) (fault : EvalAltResult) : Type 0 where
   pub prints : Prints e.printers plan pick true
   pub none : text_in v.kind ≡ None
   pub says : fault ≡ ErrorMismatchOutputType (codes "string") (display e v) plan.pos
   pub unprinted : printed_text (printer e.printers plan pick) v ≡ None
 
-untold_by : (e : EngineLists) (plan : Plan) (pick : Pick) (v : Tree) (fault : EvalAltResult) (p : Option Bool) (text : Option Bytes) → printer e.printers plan pick ≡ p → text_in v.kind ≡ text → no_text e p plan.pos v ≡ Some fault → Untold e plan pick v fault
-untold_by e plan pick v fault None text is t h = absurd cc
-untold_by e plan pick v fault (Some false) text is t h = absurd cc
-untold_by e plan pick v fault (Some true) (Some s) is t h =
+no_text_by : (e : EngineLists) (plan : Plan) (pick : Pick) (v : Tree) (fault : EvalAltResult) (p : Option Bool) (text : Option Bytes) → printer e.printers plan pick ≡ p → text_in v.kind ≡ text → no_text e p plan.pos v ≡ Some fault → TextMissing e plan pick v fault
+no_text_by e plan pick v fault None text is t h = absurd cc
+no_text_by e plan pick v fault (Some false) text is t h = absurd cc
+no_text_by e plan pick v fault (Some true) (Some s) is t h =
     let q : None ≡ Some fault = sym (ap (λ (o : Option Bytes). where_holds (is_none o) (ErrorMismatchOutputType (codes "string") (display e v) plan.pos)) t) ∙ h in absurd cc
-untold_by e plan pick v fault (Some true) None is t h =
+no_text_by e plan pick v fault (Some true) None is t h =
     let q : Some (ErrorMismatchOutputType (codes "string") (display e v) plan.pos) ≡ Some fault = sym (ap (λ (o : Option Bytes). where_holds (is_none o) (ErrorMismatchOutputType (codes "string") (display e v) plan.pos)) t) ∙ h in
     record { prints = printer_prints e plan pick true is; none = t; says = cc; unprinted = ap (λ (p : Option Bool). printed_text p v) is ∙ t }
 
-pub untold : (e : EngineLists) (plan : Plan) (pick : Pick) (v : Tree) (fault : EvalAltResult) → no_text e (printer e.printers plan pick) plan.pos v ≡ Some fault → Untold e plan pick v fault
-untold e plan pick v fault h = untold_by e plan pick v fault (printer e.printers plan pick) (text_in v.kind) refl refl h
+pub text_missing : (e : EngineLists) (plan : Plan) (pick : Pick) (v : Tree) (fault : EvalAltResult) → no_text e (printer e.printers plan pick) plan.pos v ≡ Some fault → TextMissing e plan pick v fault
+text_missing e plan pick v fault h = no_text_by e plan pick v fault (printer e.printers plan pick) (text_in v.kind) refl refl h
 
-pub no_text_untold : (e : EngineLists) (plan : Plan) (pick : Pick) (v : Tree) → Prints e.printers plan pick true → text_in v.kind ≡ None → no_text e (printer e.printers plan pick) plan.pos v ≡ Some (ErrorMismatchOutputType (codes "string") (display e v) plan.pos)
-no_text_untold e plan pick v prints none =
+pub missing_text : (e : EngineLists) (plan : Plan) (pick : Pick) (v : Tree) → Prints e.printers plan pick true → text_in v.kind ≡ None → no_text e (printer e.printers plan pick) plan.pos v ≡ Some (ErrorMismatchOutputType (codes "string") (display e v) plan.pos)
+missing_text e plan pick v prints none =
     ap (λ (p : Option Bool). no_text e p plan.pos v) (prints_printer e plan pick true prints) ∙ ap (λ (o : Option Bytes). where_holds (is_none o) (ErrorMismatchOutputType (codes "string") (display e v) plan.pos)) none
 
 pub unprinted : (e : EngineLists) (plan : Plan) (pick : Pick) (v : Tree) → Prints e.printers plan pick true → text_in v.kind ≡ None → printed_text (printer e.printers plan pick) v ≡ None
@@ -93,7 +93,7 @@ unprinted e plan pick v prints none = ap (λ (p : Option Bool). printed_text p v
 printable_by : (e : EngineLists) (plan : Plan) (pick : Pick) (v : Tree) (text : Option Bytes) → text_in v.kind ≡ text → no_text e (printer e.printers plan pick) plan.pos v ≡ None → IsPrintable e.printers plan pick v
 printable_by e plan pick v (Some s) t h prints = (s, t)
 printable_by e plan pick v None t h prints =
-    let q : None ≡ Some (ErrorMismatchOutputType (codes "string") (display e v) plan.pos) = sym h ∙ no_text_untold e plan pick v prints t in absurd cc
+    let q : None ≡ Some (ErrorMismatchOutputType (codes "string") (display e v) plan.pos) = sym h ∙ missing_text e plan pick v prints t in absurd cc
 
 pub printable : (e : EngineLists) (plan : Plan) (pick : Pick) (v : Tree) → no_text e (printer e.printers plan pick) plan.pos v ≡ None → IsPrintable e.printers plan pick v
 printable e plan pick v h = printable_by e plan pick v (text_in v.kind) refl h

@@ -123,7 +123,7 @@ module _ {H B : Type 0} (o : Objects H B) (w : World) where
   ran_or_not {node = node} (is_deep deep s) = inr (says_nothing node _ _ (ap (λ (x : Seen). x.end) s))
   ran_or_not {node = node} (is_locked n l place s) = inr (says_nothing node _ _ (ap (λ (x : Seen). x.end) s))
   ran_or_not {node = node} (is_missing l none s) = inr (says_nothing node _ _ (ap (λ (x : Seen). x.end) s))
-  ran_or_not {node = node} (by_host from to answer l none c told alone says) = inr (hosts_nothing node alone says)
+  ran_or_not {node = node} (by_host from to answer l none c asked alone says) = inr (hosts_nothing node alone says)
   ran_or_not {node = node} (is_constant own l none u first on s) = inr (says_nothing node _ _ (ap (λ (x : Seen). x.end) s))
   ran_or_not (has_ended pick last l none c came by) = inl (record { pick = pick; last = last; came = came; by = by })
   ran_or_not {node = node} (was_cut pick c l none begun shown e) = inr (says_nothing node _ _ e)

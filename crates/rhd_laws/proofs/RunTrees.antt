@@ -1,11 +1,9 @@
 -- Where the trees of a run stand.
 use Rattle.std.proofs.Common.{◌≡◌, ℕ, Bool, List, [], ◌∷◌, length, refl, sym, ap, subst, ◌∙◌}
 use Rattle.std.specs.Prelude.{zero, suc, take, slice_get, Option, None, Some, option_map}
-use Rattle.rhd_value.specs.declared.tag.FnId.{FnId}
 use Rattle.rhd_func.specs.declared.request.CallRequest.{CallRequest}
-use Rattle.rhd_func.specs.Natives.{NativeInfo, info_of}
+use Rattle.rhd_func.specs.Natives.{info_of}
 use Rattle.rhd_module.specs.declared.fault.DeclFault.{DeclFault}
-use Rattle.rhd_module.specs.Tree.{ModuleTree}
 use Rattle.rhd_call.specs.declared.command.Command.{Command}
 use Rattle.rhd_call.specs.declared.command.Command.TheVariants.{NewModule, Script, RegisterFn, PushLib, PopLib, Call}
 use Rattle.rhd_call.specs.declared.command.ModuleId.{ModuleId}

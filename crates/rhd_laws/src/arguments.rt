@@ -1,6 +1,6 @@
 //! Laws of the arguments of a call.
 
-ghost use Rattle.std.specs.Prelude.{◌≡◌, ◌↔◌, ℕ, false, List, slice_get, Some, None};
+ghost use Rattle.std.specs.Prelude.{◌≡◌, ◌↔◌, ℕ, List, slice_get, Some, None};
 ghost use Rattle.rhd_value.specs.Tree.{Tree, copied};
 ghost use Rattle.rhd_func.specs.declared.request.CallRequest.{CallRequest};
 ghost use Rattle.rhd_func.specs.declared.request.CallShape.TheVariants.{Plain};
@@ -10,7 +10,7 @@ ghost use Rattle.rhd_call.specs.declared.pick.Pick.{Pick};
 ghost use Rattle.rhd_call.specs.Seen.{seen};
 ghost use Rattle.rhd_call.specs.Trees.{InTree};
 ghost use Rattle.rhd_engine.specs.Engine.{EngineLists};
-ghost use Rattle.rhd_laws.specs.Arguments.{HasFirstGiven, IsCut, GetsCopy, HasItself};
+ghost use Rattle.rhd_laws.specs.Arguments.{HasFirstGiven, IsCut, GetsCopy, HasItself, IsWritable};
 ghost use Rattle.rhd_laws.specs.Matches.{all_received};
 ghost use Rattle.rhd_session.specs.Objects.{objects_of};
 ghost use Rattle.rhd_laws.specs.Ran.{Ran};
@@ -26,7 +26,7 @@ use rhd_func::{Bodies, Host, Natives};
 pub fn a_function_receives_its_arguments()
     ensures copy { (e : EngineLists) (call : CallRequest) (pick : Pick) (value : Tree) → GetsCopy e.natives pick.func (plan_of call).shape
         → slice_get (all_args (plan_of call).shape) 0 ≡ Some value → slice_get (all_received (received_by e (plan_of call) pick)) 0 ≡ Some (copied value) }
-    ensures writable { (value : Tree) → (copied value).marks.read_only ≡ false }
+    ensures writable { (value : Tree) → IsWritable (copied value) }
     ensures given { (e : EngineLists) (call : CallRequest) (pick : Pick) (n : ℕ) → ((n ≡ 0) × GetsCopy e.natives pick.func (plan_of call).shape → ⊥)
         → slice_get (all_received (received_by e (plan_of call) pick)) n ≡ slice_get (all_args (plan_of call).shape) n }
     ensures itself { (e : EngineLists) (call : CallRequest) (pick : Pick) (value : Tree)

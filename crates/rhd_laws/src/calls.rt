@@ -96,7 +96,7 @@ pub fn a_spent_budget_ends_the_tree<H: Host, B: Bodies>(natives: &Natives)
     ensures unbegun { let o = objects_of allows_call allows_resume B.allows_start B.allows_next H.allows_missing natives.now in
         (r : Ran o) → ((seen r.node).begun ≡ false) ↔ (r.before.begun ≡ r.world.engine.limits.budget) }
     ensures answered { let o = objects_of allows_call allows_resume B.allows_start B.allows_next H.allows_missing natives.now in
-        (r : Ran o) → (r.cut ≡ true) ↔ (((seen r.node).end.whose ≡ Call) × ((seen r.node).end.answer ≡ Err (ErrorTooManyOperations (pos_of r.call)))) }
+        (r : Ran o) → (r.cut ≡ true) ↔ IsOwn (seen r.node).end (ErrorTooManyOperations (pos_of r.call)) }
 {}
 
 /// The children of a node are the requests of its function, in order, each with that very request,

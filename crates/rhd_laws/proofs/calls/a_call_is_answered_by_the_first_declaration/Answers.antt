@@ -1,4 +1,4 @@
-use Rattle.rhd_laws.proofs.FirstAnswered.{picked_exactly, runs_first, first_runs, ends_missing, missing_ends, asks_first, first_asks, first_is-first, is-first_first, looked_first, first_looked, key_first, first_key}
+use Rattle.rhd_laws.proofs.FirstAnswered.{picked_exactly, runs_first, first_runs, ends_missing, missing_ends, asks_first, first_asks, looked_first, first_looked, key_first, first_key}
 use Rattle.rhd_laws.proofs.calls.a_call_is_answered_by_the_first_declaration.Goals as goal
 
 pub returns-clause-runs : goal.returns-clause-runs
