@@ -68,7 +68,8 @@ not_true : (b : Bool) → not b ≡ true → b ≡ false
 not_true true h = absurd cc
 not_true false h = refl
 
-read_only_by : (e : EngineLists) (plan : Plan) (pick : Pick) (o : Option Tree) → is_script pick.func ≡ false → is_pure e.natives pick.func ≡ false → first_received (received (convention_of e.natives pick.func) plan.shape) ≡ o → is_read_only o ≡ true → IsOnConstant e plan pick
+read_only_by : (e : EngineLists) (plan : Plan) (pick : Pick) (o : Option Tree) → is_script pick.func ≡ false → is_pure e.natives pick.func ≡ false
+    → first_received (received (convention_of e.natives pick.func) plan.shape) ≡ o → is_read_only o ≡ true → IsOnConstant e plan pick
 read_only_by e plan pick None s p is h = absurd cc
 read_only_by e plan pick (Some first) s p is h = record { native = s; impure = p; first = first; receives = is; constant = h }
 
@@ -90,7 +91,8 @@ is_free e plan pick free =
     in by (is_on_constant e plan pick) refl
 
 -- a function runs exactly where nothing refuses the call, as the first ask's that is found, unless it isn't for a constant
-pub runs_first : (e : EngineLists) (f : Frame) (level : ℕ) (call : CallRequest) (plan : Plan) (pick : Pick) → decision e f level call ≡ runs plan pick → (refusal e f level call ≡ None) × (plan ≡ plan_of call) × IsAnsweredFirst e f call pick × (IsOnConstant e (plan_of call) pick → ⊥)
+pub runs_first : (e : EngineLists) (f : Frame) (level : ℕ) (call : CallRequest) (plan : Plan) (pick : Pick) → decision e f level call ≡ runs plan pick
+    → (refusal e f level call ≡ None) × (plan ≡ plan_of call) × IsAnsweredFirst e f call pick × (IsOnConstant e (plan_of call) pick → ⊥)
 unfolding decision
 runs_first e f level call plan pick d =
     let r = runs_only e (refusal e f level call) (plan_of call) (pick_of e f (plan_of call)) plan pick d in
@@ -99,21 +101,25 @@ runs_first e f level call plan pick d =
 found_first : (e : EngineLists) (f : Frame) (call : CallRequest) (pick : Pick) → IsAnsweredFirst e f call pick → Some pick ≡ pick_of e f (plan_of call)
 found_first e f call pick first = sym (pick_asks e f call ∙ is-first_first (looked e f.lib f.imports) pick (asks_of e call) first)
 
-pub first_runs : (e : EngineLists) (f : Frame) (level : ℕ) (call : CallRequest) (plan : Plan) (pick : Pick) → (refusal e f level call ≡ None) × (plan ≡ plan_of call) × IsAnsweredFirst e f call pick × (IsOnConstant e (plan_of call) pick → ⊥) → decision e f level call ≡ runs plan pick
+pub first_runs : (e : EngineLists) (f : Frame) (level : ℕ) (call : CallRequest) (plan : Plan) (pick : Pick)
+    → (refusal e f level call ≡ None) × (plan ≡ plan_of call) × IsAnsweredFirst e f call pick × (IsOnConstant e (plan_of call) pick → ⊥) → decision e f level call ≡ runs plan pick
 first_runs e f level call plan pick r =
     decided_runs e f level call pick r.0 (found_first e f call pick r.2) (is_free e (plan_of call) pick r.3) ∙ (λ i. runs (sym r.1 i) pick)
 
-pub first_constant : (e : EngineLists) (f : Frame) (level : ℕ) (call : CallRequest) (pick : Pick) → refusal e f level call ≡ None → IsAnsweredFirst e f call pick → IsOnConstant e (plan_of call) pick → decision e f level call ≡ ends (Some pick) (constant_end (plan_of call))
+pub first_constant : (e : EngineLists) (f : Frame) (level : ℕ) (call : CallRequest) (pick : Pick) → refusal e f level call ≡ None → IsAnsweredFirst e f call pick → IsOnConstant e (plan_of call) pick
+    → decision e f level call ≡ ends (Some pick) (constant_end (plan_of call))
 first_constant e f level call pick unrefused first on = decided_constant e f level call pick unrefused (found_first e f call pick first) (is_constant e (plan_of call) pick on)
 
 -- nothing runs exactly where the call is refused, or no ask is found, or the function isn't for a constant
-ends_picked : (e : EngineLists) (f : Frame) (level : ℕ) (call : CallRequest) (own : Pick) (pick : Option Pick) (end : End) (b : Bool) → is_on_constant e (plan_of call) own ≡ b → refusal e f level call ≡ None → pick_of e f (plan_of call) ≡ Some own
+ends_picked : (e : EngineLists) (f : Frame) (level : ℕ) (call : CallRequest) (own : Pick) (pick : Option Pick) (end : End) (b : Bool) → is_on_constant e (plan_of call) own ≡ b
+    → refusal e f level call ≡ None → pick_of e f (plan_of call) ≡ Some own
     → (if b then ends (Some own) (constant_end (plan_of call)) else runs (plan_of call) own) ≡ ends pick end → EndsAlone e f level call pick end
 ends_picked e f level call own pick end true on unrefused found d =
     on_constant own (cc) unrefused (first_is-first (looked e f.lib f.imports) own (asks_of e call) (sym (pick_asks e f call) ∙ found)) (constant_is e (plan_of call) own on) (cc)
 ends_picked e f level call own pick end false on unrefused found d = absurd cc
 
-ends_by : (e : EngineLists) (f : Frame) (level : ℕ) (call : CallRequest) (r : Option End) (o : Option Pick) (pick : Option Pick) (end : End) → refusal e f level call ≡ r → pick_of e f (plan_of call) ≡ o → unless_refused r (decided e (plan_of call) o) ≡ ends pick end → EndsAlone e f level call pick end
+ends_by : (e : EngineLists) (f : Frame) (level : ℕ) (call : CallRequest) (r : Option End) (o : Option Pick) (pick : Option Pick) (end : End) → refusal e f level call ≡ r
+    → pick_of e f (plan_of call) ≡ o → unless_refused r (decided e (plan_of call) o) ≡ ends pick end → EndsAlone e f level call pick end
 ends_by e f level call (Some x) o pick end u is d = is_refused (cc) (u ∙ (let same : x ≡ end = cc in ap Some same))
 ends_by e f level call None None pick end u is d =
     let h = unpicked_ends e (plan_of call) (plan_of call).search pick end d in isnt_found h.1 u h.0 h.2 (first_none (looked e f.lib f.imports) (asks_of e call) (sym (pick_asks e f call) ∙ is))
@@ -129,7 +135,8 @@ missing_ends e f level call pick end (isnt_found none u only m un) =
     decided_ends e f level call u only (sym (pick_asks e f call ∙ none_first (looked e f.lib f.imports) (asks_of e call) un)) ∙ (λ i. ends (sym none i) (sym m i))
 missing_ends e f level call pick end (on_constant own some u first on m) = first_constant e f level call own u first on ∙ (λ i. ends (sym some i) (sym m i))
 
-alone_first : (e : EngineLists) (f : Frame) (level : ℕ) (call : CallRequest) (shown : Option Pick) (end : End) (pick : Pick) → EndsAlone e f level call shown end → shown ≡ Some pick → (refusal e f level call ≡ None) × IsAnsweredFirst e f call pick
+alone_first : (e : EngineLists) (f : Frame) (level : ℕ) (call : CallRequest) (shown : Option Pick) (end : End) (pick : Pick) → EndsAlone e f level call shown end → shown ≡ Some pick
+    → (refusal e f level call ≡ None) × IsAnsweredFirst e f call pick
 alone_first e f level call shown end pick (is_refused none u) h = let q : None ≡ Some pick = sym none ∙ h in absurd cc
 alone_first e f level call shown end pick (isnt_found none u only m un) h = let q : None ≡ Some pick = sym none ∙ h in absurd cc
 alone_first e f level call shown end pick (on_constant own some u first on m) h =
@@ -150,7 +157,8 @@ picked_asks : (plan : Plan) (own : Pick) (other : Plan) (b : Bool) → (if b the
 picked_asks plan own other true h = absurd cc
 picked_asks plan own other false h = absurd cc
 
-asks_by_host : (e : EngineLists) (f : Frame) (level : ℕ) (call : CallRequest) (plan : Plan) (r : Option End) (o : Option Pick) → refusal e f level call ≡ r → pick_of e f (plan_of call) ≡ o → unless_refused r (decided e (plan_of call) o) ≡ asks_host plan → (plan ≡ plan_of call) × IsForHost e f level call
+asks_by_host : (e : EngineLists) (f : Frame) (level : ℕ) (call : CallRequest) (plan : Plan) (r : Option End) (o : Option Pick) → refusal e f level call ≡ r → pick_of e f (plan_of call) ≡ o
+    → unless_refused r (decided e (plan_of call) o) ≡ asks_host plan → (plan ≡ plan_of call) × IsForHost e f level call
 asks_by_host e f level call plan (Some x) o u is d = absurd cc
 asks_by_host e f level call plan None (Some own) u is d = absurd (picked_asks (plan_of call) own plan (is_on_constant e (plan_of call) own) d)
 asks_by_host e f level call plan None None u is d =
@@ -179,10 +187,12 @@ runs_shown : (plan : Plan) (pick : Pick) (other : Plan) (shown : Pick) (b : Bool
 runs_shown plan pick other shown true h = absurd cc
 runs_shown plan pick other shown false h = cc
 
-pub ends_pick : (e : EngineLists) (f : Frame) (level : ℕ) (call : CallRequest) (pick : Pick) (shown : Option Pick) (end : End) → (refusal e f level call ≡ None) × IsAnsweredFirst e f call pick → decision e f level call ≡ ends shown end → shown ≡ Some pick
+pub ends_pick : (e : EngineLists) (f : Frame) (level : ℕ) (call : CallRequest) (pick : Pick) (shown : Option Pick) (end : End) → (refusal e f level call ≡ None) × IsAnsweredFirst e f call pick
+    → decision e f level call ≡ ends shown end → shown ≡ Some pick
 ends_pick e f level call pick shown end h d = ends_shows (plan_of call) pick shown end (is_on_constant e (plan_of call) pick) (sym (first_picked e f level call pick h.0 h.1) ∙ d)
 
-pub runs_pick : (e : EngineLists) (f : Frame) (level : ℕ) (call : CallRequest) (pick : Pick) (plan : Plan) (shown : Pick) → (refusal e f level call ≡ None) × IsAnsweredFirst e f call pick → decision e f level call ≡ runs plan shown → shown ≡ pick
+pub runs_pick : (e : EngineLists) (f : Frame) (level : ℕ) (call : CallRequest) (pick : Pick) (plan : Plan) (shown : Pick) → (refusal e f level call ≡ None) × IsAnsweredFirst e f call pick
+    → decision e f level call ≡ runs plan shown → shown ≡ pick
 runs_pick e f level call pick plan shown h d = runs_shown (plan_of call) pick plan shown (is_on_constant e (plan_of call) pick) (sym (first_picked e f level call pick h.0 h.1) ∙ d)
 
 pub asks_no_pick : (e : EngineLists) (f : Frame) (level : ℕ) (call : CallRequest) (pick : Pick) (plan : Plan) → (refusal e f level call ≡ None) × IsAnsweredFirst e f call pick → decision e f level call ≡ asks_host plan → ⊥
@@ -205,7 +215,8 @@ picked_exactly e f level call pick =
     (λ h. shows_picked e f level call pick (decision e f level call) refl h, λ h. ap shown_pick (first_picked e f level call pick h.0 h.1) ∙ picked_shows (plan_of call) pick (is_on_constant e (plan_of call) pick))
 
 -- what the native ask gives
-looked_by : (e : EngineLists) (f : Frame) (name : Bytes) (kinds : List TypeTag) (token : Option OpToken) (pick : Pick) (o : Option Pick) → first_of (native_found e f.lib f.imports name) (patterns kinds) ≡ o → option_or o (builtin e token kinds) ≡ Some pick → IsOfFirstPattern e f name kinds token pick
+looked_by : (e : EngineLists) (f : Frame) (name : Bytes) (kinds : List TypeTag) (token : Option OpToken) (pick : Pick) (o : Option Pick)
+    → first_of (native_found e f.lib f.imports name) (patterns kinds) ≡ o → option_or o (builtin e token kinds) ≡ Some pick → IsOfFirstPattern e f name kinds token pick
 looked_by e f name kinds token pick None is h = inr (first_none (native_found e f.lib f.imports name) (patterns kinds) is, h)
 looked_by e f name kinds token pick (Some p) is h = inl (first_is-first (native_found e f.lib f.imports name) pick (patterns kinds) (is ∙ h))
 
@@ -226,12 +237,14 @@ unfolding found
 first_key e f key pick h = is-first_first (pick_at key) pick (searched e f.lib f.imports) h
 
 -- the answer of a host to the plan of a call
-pub host_ends : {H B : Type 0} (o : Objects H B) (e : EngineLists) (call : CallRequest) (plan : Plan) (from : H) (answer : HostAnswer) (to : H) {end : End} → plan ≡ plan_of call → o.host_answers from plan.name (all_args plan.shape) (is_method_shape plan.shape) answer to → end ≡ host_end e plan answer → HostEnds o e call from answer to end
+pub host_ends : {H B : Type 0} (o : Objects H B) (e : EngineLists) (call : CallRequest) (plan : Plan) (from : H) (answer : HostAnswer) (to : H) {end : End} → plan ≡ plan_of call
+    → o.host_answers from plan.name (all_args plan.shape) (is_method_shape plan.shape) answer to → end ≡ host_end e plan answer → HostEnds o e call from answer to end
 host_ends o e call plan from answer to {end} is a k =
     subst (λ (p : Plan). o.host_answers from p.name (all_args p.shape) (is_method_shape p.shape) answer to → end ≡ host_end e p answer → HostEnds o e call from answer to end) (sym is) (λ b h. record { answers = b; ends = h }) a k
 
 -- what a node that was begun shows: its pick is the first ask's that is found, or it ends alone
-pub shows_first : {H B : Type 0} {o : Objects H B} {w : World} {f : Frame} {level : ℕ} {call : CallRequest} {node : CallNode} {before after : Moment H B} {cut : Bool} (pick : Pick) → Runs o w f level call node before after cut → (seen node).pick ≡ Some pick → (refusal w.engine f level call ≡ None) × IsAnsweredFirst w.engine f call pick
+pub shows_first : {H B : Type 0} {o : Objects H B} {w : World} {f : Frame} {level : ℕ} {call : CallRequest} {node : CallNode} {before after : Moment H B} {cut : Bool} (pick : Pick)
+    → Runs o w f level call node before after cut → (seen node).pick ≡ Some pick → (refusal w.engine f level call ≡ None) × IsAnsweredFirst w.engine f call pick
 shows_first pick (not_begun b s) h = let q : None ≡ Some pick = sym (ap (λ x. x.pick) s) ∙ h in absurd cc
 shows_first {w = w} {f = f} {level = level} {call = call} pick (ended {pick = p} {end = end} b d s) h =
     alone_first w.engine f level call p end pick (ends_missing w.engine f level call p end d) (sym (ap (λ x. x.pick) s) ∙ h)
@@ -245,7 +258,9 @@ shows_first {w = w} {f = f} {level = level} {call = call} pick (cut_short {plan 
     let same : p ≡ pick = cc in
     let r = runs_first w.engine f level call plan pick (d ∙ ap (runs plan) same) in (r.0, r.2)
 
-pub shows_missing : {H B : Type 0} {o : Objects H B} {w : World} {f : Frame} {level : ℕ} {call : CallRequest} {node : CallNode} {before after : Moment H B} {cut : Bool} → Runs o w f level call node before after cut → (seen node).begun ≡ true → (seen node).pick ≡ None → EndsAlone w.engine f level call None (seen node).end ⊎ EndsByHost o w.engine f level call before.host after.host (seen node).end
+pub shows_missing : {H B : Type 0} {o : Objects H B} {w : World} {f : Frame} {level : ℕ} {call : CallRequest} {node : CallNode} {before after : Moment H B} {cut : Bool}
+    → Runs o w f level call node before after cut → (seen node).begun ≡ true → (seen node).pick ≡ None
+    → EndsAlone w.engine f level call None (seen node).end ⊎ EndsByHost o w.engine f level call before.host after.host (seen node).end
 shows_missing (not_begun b s) begun h = let q : false ≡ true = sym (ap (λ x. x.begun) s) ∙ begun in absurd cc
 shows_missing {w = w} {f = f} {level = level} {call = call} {node = node} (ended {pick = p} {end = end} b d s) begun h =
     inl (subst (λ (q : Option Pick). EndsAlone w.engine f level call q (seen node).end) (sym (ap (λ x. x.pick) s) ∙ h)
@@ -257,7 +272,8 @@ shows_missing (finished {pick = p} b d starts steps e s) begun h = let q : Some 
 shows_missing (cut_short {pick = p} b d starts steps r s) begun h = let q : Some p ≡ None = sym (ap (λ x. x.pick) s) ∙ h in absurd cc
 
 -- a node shows a call that isn't begun exactly where the budget was spent before it, and the calls begun never get fewer
-pub shows_unbegun : {H B : Type 0} {o : Objects H B} {w : World} {f : Frame} {level : ℕ} {call : CallRequest} {node : CallNode} {before after : Moment H B} {cut : Bool} → Runs o w f level call node before after cut → (seen node).begun ≡ false → (before.begun ≡ w.engine.limits.budget) × (after ≡ before) × (seen node ≡ unbegun_node call level)
+pub shows_unbegun : {H B : Type 0} {o : Objects H B} {w : World} {f : Frame} {level : ℕ} {call : CallRequest} {node : CallNode} {before after : Moment H B} {cut : Bool}
+    → Runs o w f level call node before after cut → (seen node).begun ≡ false → (before.begun ≡ w.engine.limits.budget) × (after ≡ before) × (seen node ≡ unbegun_node call level)
 shows_unbegun (not_begun b s) h = (b, refl, s)
 shows_unbegun (ended b d s) h = let q : true ≡ false = sym (ap (λ x. x.begun) s) ∙ h in absurd cc
 shows_unbegun (host_answered b d a s) h = let q : true ≡ false = sym (ap (λ x. x.begun) s) ∙ h in absurd cc

@@ -34,11 +34,13 @@ use Rattle.rhd_laws.proofs.TreeLaws.{tree_runs}
 
 -- A step gives a first argument back exactly where one was given.
 
-starts_give : {H B : Type 0} {o : Objects H B} {natives : List NativeInfo} {ctx : NativeCallContext} {func : RhaiFunc} {r : Received} {s t : Moment H B} {step : NativeStep} → Starts o natives ctx func r s step t → is_some (back_of step) ≡ is_some r.first
+starts_give : {H B : Type 0} {o : Objects H B} {natives : List NativeInfo} {ctx : NativeCallContext} {func : RhaiFunc} {r : Received} {s t : Moment H B} {step : NativeStep}
+    → Starts o natives ctx func r s step t → is_some (back_of step) ≡ is_some r.first
 starts_give (native_starts i a b) = b
 starts_give (body_starts a b) = b
 
-resumes_give : {H B : Type 0} {o : Objects H B} {natives : List NativeInfo} {ctx : NativeCallContext} {func : RhaiFunc} {carry : Carry} {done : _} {s t : Moment H B} {step : NativeStep} → Resumes o natives ctx func carry done s step t → is_some (back_of step) ≡ is_some carry.first
+resumes_give : {H B : Type 0} {o : Objects H B} {natives : List NativeInfo} {ctx : NativeCallContext} {func : RhaiFunc} {carry : Carry} {done : _} {s t : Moment H B} {step : NativeStep}
+    → Resumes o natives ctx func carry done s step t → is_some (back_of step) ≡ is_some carry.first
 resumes_give (native_resumes i a b) = b
 resumes_give (body_resumes a b) = b
 
@@ -53,7 +55,8 @@ kept_by script (Plain args) back h = refl
 kept_by script (ByRef a args) back h = refl
 kept_by script (Method object args) back h = h
 
-end_kept : (e : EngineLists) (call : CallRequest) (pick : Pick) (back : Option Tree) → is_some back ≡ is_some (received (convention_of e.natives pick.func) (plan_of call).shape).first → is_some (first_at_end e (plan_of call) pick back) ≡ is_some (given call)
+end_kept : (e : EngineLists) (call : CallRequest) (pick : Pick) (back : Option Tree) → is_some back ≡ is_some (received (convention_of e.natives pick.func) (plan_of call).shape).first
+    → is_some (first_at_end e (plan_of call) pick back) ≡ is_some (given call)
 end_kept e (Named name token native_only shape want pos) pick back h = kept_by (convention_of e.natives pick.func) shape back h
 
 -- a request has a first argument given exactly where it is by reference or of a method
@@ -75,7 +78,8 @@ none_of None h = refl
 none_of (Some v) h = absurd cc
 
 module _ {H B : Type 0} (o : Objects H B) (w : World) where
-  steps_give : {f : Frame} {level : ℕ} {plan : Plan} {pick : Pick} {first last : NativeStep} {carries : List Carry} {children : List CallNode} {before after : Moment H B} → Steps o w f level plan pick first carries children last before after → is_some (back_of last) ≡ is_some (back_of first)
+  steps_give : {f : Frame} {level : ℕ} {plan : Plan} {pick : Pick} {first last : NativeStep} {carries : List Carry} {children : List CallNode} {before after : Moment H B}
+      → Steps o w f level plan pick first carries children last before after → is_some (back_of last) ≡ is_some (back_of first)
   steps_give none_yet = refl
   steps_give (one_more steps r next p q) = resumes_give next ∙ steps_give steps
 
@@ -117,7 +121,8 @@ module _ {H B : Type 0} (o : Objects H B) (w : World) where
   none_kept node args (is_kept h) is = none_of (seen node).end.first_after (h ∙ sym (ap is_some (given_shape (seen node).call)) ∙ ap (λ (s : CallShape). is_some (first_given s)) is)
 
   -- a plain call has none
-  pub tree_plain : {node root : CallNode} (inside : InTree node root) {f : Frame} {level : ℕ} {call : CallRequest} {before after : Moment H B} {cut : Bool} (args : List Tree) → Runs o w f level call root before after cut → (plan_of (seen node).call).shape ≡ Plain args → (seen node).end.first_after ≡ None
+  pub tree_plain : {node root : CallNode} (inside : InTree node root) {f : Frame} {level : ℕ} {call : CallRequest} {before after : Moment H B} {cut : Bool} (args : List Tree)
+      → Runs o w f level call root before after cut → (plan_of (seen node).call).shape ≡ Plain args → (seen node).end.first_after ≡ None
   tree_plain {node} inside args r is = none_kept node args (first_shown (runs_end o w (tree_runs o w inside r).3)) is
 
   cut_shows : {f : Frame} {level : ℕ} {call : CallRequest} {node : CallNode} {before after : Moment H B} {cut : Bool} → Runs o w f level call node before after cut → cut ≡ true → (seen node).begun ≡ true → (seen node).end.first_after ≡ None
@@ -128,5 +133,6 @@ module _ {H B : Type 0} (o : Objects H B) (w : World) where
   cut_shows (cut_short b d starts steps r s) spent begun = ap (λ (x : Seen). x.end.first_after) s
 
   -- nor has one that is cut
-  pub tree_lost : {node root : CallNode} (inside : InTree node root) {f : Frame} {level : ℕ} {call : CallRequest} {before after : Moment H B} {cut : Bool} → Runs o w f level call root before after cut → IsCut (seen node) → (seen node).end.first_after ≡ None
+  pub tree_lost : {node root : CallNode} (inside : InTree node root) {f : Frame} {level : ℕ} {call : CallRequest} {before after : Moment H B} {cut : Bool} → Runs o w f level call root before after cut
+      → IsCut (seen node) → (seen node).end.first_after ≡ None
   tree_lost inside r is = let own = (tree_runs o w inside r).3 in cut_shows own ((cut_exactly o w own).1 is.1) is.0

@@ -58,7 +58,8 @@ host_says engine plan (Value v) end h = value_by engine plan v end (not_wanted e
 host_says engine plan (Fault fault) end h = says_fault fault refl h
 
 -- a value of the host that isn't of the wanted kind
-pub host_other : (engine : EngineLists) (plan : Plan) (v : Tree) (kind : TypeTag) (end : End) → IsOfOtherKind plan.want kind v → end ≡ host_end engine plan (Value v) → end ≡ refusing plan.given v (ErrorMismatchOutputType (type_name kind) (display engine v) plan.pos)
+pub host_other : (engine : EngineLists) (plan : Plan) (v : Tree) (kind : TypeTag) (end : End) → IsOfOtherKind plan.want kind v → end ≡ host_end engine plan (Value v)
+    → end ≡ refusing plan.given v (ErrorMismatchOutputType (type_name kind) (display engine v) plan.pos)
 unfolding host_end
 host_other engine plan v kind end other h = h ∙ value_tests engine plan v ∙ ap (value_from plan v) (other_unwanted engine plan.want plan.pos v kind other)
 

@@ -85,30 +85,35 @@ within_tested limits pos s h = λ i. sizes_fault pos (le-ltb limits.array s.arra
 abbrev first_fault : Limits → Position → Bool → Option Tree → Option EvalAltResult
 first_fault limits pos script first = if script then None else option_and_then (too_large limits pos) first
 
-first_passes : (engine : EngineLists) (plan : Plan) (pick : Pick) (back : Option Tree) (fault : EvalAltResult) (script : Bool) (o : Option Tree) → is_script pick.func ≡ script → first_at_end engine plan pick back ≡ o → first_fault engine.limits plan.pos script o ≡ Some fault
+first_passes : (engine : EngineLists) (plan : Plan) (pick : Pick) (back : Option Tree) (fault : EvalAltResult) (script : Bool) (o : Option Tree) → is_script pick.func ≡ script
+    → first_at_end engine plan pick back ≡ o → first_fault engine.limits plan.pos script o ≡ Some fault
     → (first : Tree) × HasFirst engine plan pick back first × ((what : Bytes) × Passes engine.limits (sizes_of first) what × (fault ≡ ErrorDataTooLarge what plan.pos))
 first_passes engine plan pick back fault true o is e h = absurd (none_some fault h)
 first_passes engine plan pick back fault false None is e h = absurd (none_some fault h)
 first_passes engine plan pick back fault false (Some first) is e h = (first, (is, e), tested_passes engine.limits plan.pos (sizes_of first) fault h)
 
-first_within : (engine : EngineLists) (plan : Plan) (pick : Pick) (back : Option Tree) (script : Bool) (o : Option Tree) → is_script pick.func ≡ script → first_at_end engine plan pick back ≡ o → first_fault engine.limits plan.pos script o ≡ None
+first_within : (engine : EngineLists) (plan : Plan) (pick : Pick) (back : Option Tree) (script : Bool) (o : Option Tree) → is_script pick.func ≡ script → first_at_end engine plan pick back ≡ o
+    → first_fault engine.limits plan.pos script o ≡ None
     → (first : Tree) → HasFirst engine plan pick back first → IsWithin engine.limits (sizes_of first)
 first_within engine plan pick back true o is e h first has = let q : true ≡ false = sym is ∙ has.0 in absurd cc
 first_within engine plan pick back false None is e h first has = absurd (none_some first (sym e ∙ has.1))
 first_within engine plan pick back false (Some x) is e h first has =
     subst (λ (y : Tree). IsWithin engine.limits (sizes_of y)) (some_same first x (sym has.1 ∙ e)) (tested_within engine.limits plan.pos (sizes_of x) h)
 
-first_fits : (engine : EngineLists) (plan : Plan) (pick : Pick) (back : Option Tree) (script : Bool) (o : Option Tree) → is_script pick.func ≡ script → first_at_end engine plan pick back ≡ o → ((first : Tree) → HasFirst engine plan pick back first → IsWithin engine.limits (sizes_of first))
+first_fits : (engine : EngineLists) (plan : Plan) (pick : Pick) (back : Option Tree) (script : Bool) (o : Option Tree) → is_script pick.func ≡ script → first_at_end engine plan pick back ≡ o
+    → ((first : Tree) → HasFirst engine plan pick back first → IsWithin engine.limits (sizes_of first))
     → first_fault engine.limits plan.pos script o ≡ None
 first_fits engine plan pick back true o is e within = refl
 first_fits engine plan pick back false None is e within = refl
 first_fits engine plan pick back false (Some first) is e within = within_tested engine.limits plan.pos (sizes_of first) (within first (is, e))
 
-first_is_large : (engine : EngineLists) (plan : Plan) (pick : Pick) (back : Option Tree) (first : Tree) (what : Bytes) → HasFirst engine plan pick back first → Passes engine.limits (sizes_of first) what → first_too_large engine plan pick back ≡ Some (ErrorDataTooLarge what plan.pos)
+first_is_large : (engine : EngineLists) (plan : Plan) (pick : Pick) (back : Option Tree) (first : Tree) (what : Bytes) → HasFirst engine plan pick back first
+    → Passes engine.limits (sizes_of first) what → first_too_large engine plan pick back ≡ Some (ErrorDataTooLarge what plan.pos)
 first_is_large engine plan pick back first what has p = (λ i. first_fault engine.limits plan.pos (has.0 i) (has.1 i)) ∙ passes_tested engine.limits plan.pos (sizes_of first) what p
 
 -- a value is unfit exactly where it or such an argument is too large
-unfit_by : (engine : EngineLists) (plan : Plan) (pick : Pick) (back : Option Tree) (v : Tree) (fault : EvalAltResult) (own : Option EvalAltResult) → too_large engine.limits plan.pos v ≡ own → option_or own (option_or (first_too_large engine plan pick back) None) ≡ Some fault
+unfit_by : (engine : EngineLists) (plan : Plan) (pick : Pick) (back : Option Tree) (v : Tree) (fault : EvalAltResult) (own : Option EvalAltResult) → too_large engine.limits plan.pos v ≡ own
+    → option_or own (option_or (first_too_large engine plan pick back) None) ≡ Some fault
     → (what : Bytes) × IsTooLarge engine plan pick back v what × (fault ≡ ErrorDataTooLarge what plan.pos)
 unfit_by engine plan pick back v fault (Some x) is h =
     let p = tested_passes engine.limits plan.pos (sizes_of v) fault (is ∙ h) in
@@ -123,10 +128,12 @@ unfit_by engine plan pick back v fault None is h =
     ] in
     by (first_too_large engine plan pick back) refl h
 
-pub unfit_large : (engine : EngineLists) (plan : Plan) (pick : Pick) (back : Option Tree) (v : Tree) (fault : EvalAltResult) → unfit engine plan pick back v ≡ Some fault → (what : Bytes) × IsTooLarge engine plan pick back v what × (fault ≡ ErrorDataTooLarge what plan.pos)
+pub unfit_large : (engine : EngineLists) (plan : Plan) (pick : Pick) (back : Option Tree) (v : Tree) (fault : EvalAltResult) → unfit engine plan pick back v ≡ Some fault
+    → (what : Bytes) × IsTooLarge engine plan pick back v what × (fault ≡ ErrorDataTooLarge what plan.pos)
 unfit_large engine plan pick back v fault h = unfit_by engine plan pick back v fault (too_large engine.limits plan.pos v) refl h
 
-fit_by : (engine : EngineLists) (plan : Plan) (pick : Pick) (back : Option Tree) (v : Tree) (own first : Option EvalAltResult) → too_large engine.limits plan.pos v ≡ own → first_too_large engine plan pick back ≡ first → option_or own (option_or first None) ≡ None
+fit_by : (engine : EngineLists) (plan : Plan) (pick : Pick) (back : Option Tree) (v : Tree) (own first : Option EvalAltResult) → too_large engine.limits plan.pos v ≡ own
+    → first_too_large engine plan pick back ≡ first → option_or own (option_or first None) ≡ None
     → AreWithin engine plan pick back v
 fit_by engine plan pick back v (Some x) first is e h = absurd (some_none x h)
 fit_by engine plan pick back v None (Some x) is e h = absurd (some_none x h)
@@ -145,7 +152,8 @@ within_fit engine plan pick back v h =
     (λ i. option_or (within_tested engine.limits plan.pos (sizes_of v) h.0 i) (option_or (first_fits engine plan pick back (is_script pick.func) (first_at_end engine plan pick back) refl refl h.1 i) None))
 
 -- the test of a kind that is wanted
-kind_tested : (e : EngineLists) (kind : TypeTag) (pos : Position) (v : Tree) → (kind ≡ tags.Dynamic → ⊥) → not_wanted e (Some kind) pos v ≡ where_holds (not (tag_eq kind (tag_of v))) (ErrorMismatchOutputType (type_name kind) (display e v) pos)
+kind_tested : (e : EngineLists) (kind : TypeTag) (pos : Position) (v : Tree) → (kind ≡ tags.Dynamic → ⊥)
+    → not_wanted e (Some kind) pos v ≡ where_holds (not (tag_eq kind (tag_of v))) (ErrorMismatchOutputType (type_name kind) (display e v) pos)
 kind_tested e tags.Unit pos v h = refl
 kind_tested e tags.Bool pos v h = refl
 kind_tested e tags.Int pos v h = refl
@@ -159,12 +167,14 @@ kind_tested e tags.Dynamic pos v h = absurd (h refl)
 kind_tested e tags.Str pos v h = refl
 kind_tested e tags.StdString pos v h = refl
 
-kind_by : (e : EngineLists) (kind : TypeTag) (pos : Position) (v : Tree) (fault : EvalAltResult) (same : Bool) → tag_eq kind (tag_of v) ≡ same → where_holds (not same) (ErrorMismatchOutputType (type_name kind) (display e v) pos) ≡ Some fault
+kind_by : (e : EngineLists) (kind : TypeTag) (pos : Position) (v : Tree) (fault : EvalAltResult) (same : Bool) → tag_eq kind (tag_of v) ≡ same
+    → where_holds (not same) (ErrorMismatchOutputType (type_name kind) (display e v) pos) ≡ Some fault
     → (kind ≡ tag_of v → ⊥) × (fault ≡ ErrorMismatchOutputType (type_name kind) (display e v) pos)
 kind_by e kind pos v fault true is h = absurd (none_some fault h)
 kind_by e kind pos v fault false is h = ((λ same. let q : false ≡ true = sym is ∙ (tag_eq-Decides kind (tag_of v)).1 same in absurd cc), some_same _ fault h)
 
-kind_other : (e : EngineLists) (kind : TypeTag) (pos : Position) (v : Tree) (same : Bool) → tag_eq kind (tag_of v) ≡ same → (kind ≡ tag_of v → ⊥) → where_holds (not same) (ErrorMismatchOutputType (type_name kind) (display e v) pos) ≡ Some (ErrorMismatchOutputType (type_name kind) (display e v) pos)
+kind_other : (e : EngineLists) (kind : TypeTag) (pos : Position) (v : Tree) (same : Bool) → tag_eq kind (tag_of v) ≡ same → (kind ≡ tag_of v → ⊥)
+    → where_holds (not same) (ErrorMismatchOutputType (type_name kind) (display e v) pos) ≡ Some (ErrorMismatchOutputType (type_name kind) (display e v) pos)
 kind_other e kind pos v true is h = absurd (h ((tag_eq-Decides kind (tag_of v)).0 is))
 kind_other e kind pos v false is h = refl
 
@@ -177,7 +187,8 @@ any_by e kind pos v fault false is h =
     (not_any, p.0, p.1)
 
 -- a value isn't wanted exactly where it is of another kind
-pub unwanted_other : (e : EngineLists) (want : Option TypeTag) (pos : Position) (v : Tree) (fault : EvalAltResult) → not_wanted e want pos v ≡ Some fault → (kind : TypeTag) × IsOfOtherKind want kind v × (fault ≡ ErrorMismatchOutputType (type_name kind) (display e v) pos)
+pub unwanted_other : (e : EngineLists) (want : Option TypeTag) (pos : Position) (v : Tree) (fault : EvalAltResult) → not_wanted e want pos v ≡ Some fault
+    → (kind : TypeTag) × IsOfOtherKind want kind v × (fault ≡ ErrorMismatchOutputType (type_name kind) (display e v) pos)
 unwanted_other e None pos v fault h = absurd (none_some fault h)
 unwanted_other e (Some kind) pos v fault h = let p = any_by e kind pos v fault (tag_eq kind tags.Dynamic) refl h in (kind, (refl, p.0, p.1), p.2)
 
@@ -230,7 +241,8 @@ pub data EndsBy (e : EngineLists) (plan : Plan) (pick : Pick) (step : NativeStep
   fits : (v made : Tree) (back : Option Tree) → step ≡ Done v back → AreWithin e plan pick back v → IsPrintable e.printers plan pick v → Makes e.printers plan pick v made → not_wanted e plan.want plan.pos made ≡ None
       → end ≡ with_printed (shown_by e plan pick v) (fits_end (first_at_end e plan pick back) made) → EndsBy e plan pick step end
 
-done_by : (e : EngineLists) (plan : Plan) (pick : Pick) (v : Tree) (back : Option Tree) (end : End) (o t p : Option EvalAltResult) → unfit e plan pick back v ≡ o → no_text e (printer e.printers plan pick) plan.pos v ≡ t → not_wanted e plan.want plan.pos (made_by e plan pick v) ≡ p
+done_by : (e : EngineLists) (plan : Plan) (pick : Pick) (v : Tree) (back : Option Tree) (end : End) (o t p : Option EvalAltResult) → unfit e plan pick back v ≡ o
+    → no_text e (printer e.printers plan pick) plan.pos v ≡ t → not_wanted e plan.want plan.pos (made_by e plan pick v) ≡ p
     → end ≡ tests e plan pick back v o t p → EndsBy e plan pick (Done v back) end
 done_by e plan pick v back end (Some fault) t p is n k h =
     let l = unfit_large e plan pick back v fault is in
@@ -256,7 +268,8 @@ ends_by e plan pick (Failed fault back) end h = fails fault back refl (some_same
 ends_by e plan pick (Ask request carry) end h = absurd (none_some end h)
 
 -- the ends that refuse a value
-pub large_ends : (e : EngineLists) (plan : Plan) (pick : Pick) (v : Tree) (back : Option Tree) (what : Bytes) (end : End) → IsTooLarge e plan pick back v what → end_of e plan pick (Done v back) ≡ Some end → end ≡ refusing (first_at_end e plan pick back) v (ErrorDataTooLarge what plan.pos)
+pub large_ends : (e : EngineLists) (plan : Plan) (pick : Pick) (v : Tree) (back : Option Tree) (what : Bytes) (end : End) → IsTooLarge e plan pick back v what
+    → end_of e plan pick (Done v back) ≡ Some end → end ≡ refusing (first_at_end e plan pick back) v (ErrorDataTooLarge what plan.pos)
 unfolding end_of
 large_ends e plan pick v back what end large h =
     some_same (done e plan pick back v) end h ∙ done_tests e plan pick back v
@@ -270,7 +283,8 @@ within_ends e plan pick v back end within h =
     some_same (done e plan pick back v) end h ∙ done_tests e plan pick back v
     ∙ ap (λ (o : Option EvalAltResult). tests e plan pick back v o (no_text e (printer e.printers plan pick) plan.pos v) (not_wanted e plan.want plan.pos (made_by e plan pick v))) (within_fit e plan pick back v within)
 
-pub other_ends : (e : EngineLists) (plan : Plan) (pick : Pick) (v made : Tree) (back : Option Tree) (wanted : Bytes) (end : End) → AreWithin e plan pick back v → IsMismatch e.printers plan pick v wanted made → end_of e plan pick (Done v back) ≡ Some end
+pub other_ends : (e : EngineLists) (plan : Plan) (pick : Pick) (v made : Tree) (back : Option Tree) (wanted : Bytes) (end : End) → AreWithin e plan pick back v
+    → IsMismatch e.printers plan pick v wanted made → end_of e plan pick (Done v back) ≡ Some end
     → end ≡ with_printed (shown_by e plan pick v) (refusing (first_at_end e plan pick back) made (ErrorMismatchOutputType wanted (display e made) plan.pos))
 other_ends e plan pick v made back wanted end within (isnt_text prints none says is) h =
     within_ends e plan pick v back end within h
@@ -284,7 +298,8 @@ other_ends e plan pick v made back wanted end within (isnt_wanted kind text make
     ∙ (λ i. with_printed (shown_by e plan pick v) (refusing (first_at_end e plan pick back) (sym same i) (ErrorMismatchOutputType (sym says i) (display e made) plan.pos)))
 
 -- within the limits a call shows what it prints
-printed_from : (e : EngineLists) (plan : Plan) (pick : Pick) (v : Tree) (back : Option Tree) (t p : Option EvalAltResult) → no_text e (printer e.printers plan pick) plan.pos v ≡ t → (tests e plan pick back v None t p).printed ≡ shown_by e plan pick v
+printed_from : (e : EngineLists) (plan : Plan) (pick : Pick) (v : Tree) (back : Option Tree) (t p : Option EvalAltResult) → no_text e (printer e.printers plan pick) plan.pos v ≡ t
+    → (tests e plan pick back v None t p).printed ≡ shown_by e plan pick v
 printed_from e plan pick v back (Some fault) p is = sym ((text_missing e plan pick v fault is).unprinted)
 printed_from e plan pick v back None (Some fault) is = refl
 printed_from e plan pick v back None None is = refl

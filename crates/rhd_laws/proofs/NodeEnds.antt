@@ -184,9 +184,13 @@ module _ {H B : Type 0} (o : Objects H B) (w : World) where
     is_deep : w.engine.limits.level < level → seen node ≡ begun_node call level None [] [] (deep_end call) → ShowsEnd f level call node cut
     is_locked : (n : ℕ) → level ≤ w.engine.limits.level → locked_place (plan_of call).shape ≡ Some n → seen node ≡ begun_node call level None [] [] (locked_end call n) → ShowsEnd f level call node cut
     is_missing : level ≤ w.engine.limits.level → locked_place (plan_of call).shape ≡ None → seen node ≡ begun_node call level None [] [] (missing_end w.engine (plan_of call)) → ShowsEnd f level call node cut
-    by_host : (from to : H) (answer : HostAnswer) → level ≤ w.engine.limits.level → locked_place (plan_of call).shape ≡ None → (seen node).call ≡ call → HostEnds o w.engine (seen node).call from answer to (seen node).end → (seen node).pick ≡ None → HostSays w.engine (plan_of (seen node).call) answer (seen node).end → ShowsEnd f level call node cut
-    is_constant : (own : Pick) → level ≤ w.engine.limits.level → locked_place (plan_of call).shape ≡ None → refusal w.engine f level call ≡ None → IsAnsweredFirst w.engine f call own → IsOnConstant w.engine (plan_of call) own → seen node ≡ begun_node call level (Some own) [] [] (constant_end (plan_of call)) → ShowsEnd f level call node cut
-    has_ended : (pick : Pick) (last : NativeStep) → level ≤ w.engine.limits.level → locked_place (plan_of call).shape ≡ None → (seen node).call ≡ call → EndsWith o w f (seen node) pick last → EndsBy w.engine (plan_of (seen node).call) pick last (seen node).end → ShowsEnd f level call node cut
+    by_host : (from to : H) (answer : HostAnswer) → level ≤ w.engine.limits.level → locked_place (plan_of call).shape ≡ None → (seen node).call ≡ call
+        → HostEnds o w.engine (seen node).call from answer to (seen node).end → (seen node).pick ≡ None → HostSays w.engine (plan_of (seen node).call) answer (seen node).end
+        → ShowsEnd f level call node cut
+    is_constant : (own : Pick) → level ≤ w.engine.limits.level → locked_place (plan_of call).shape ≡ None → refusal w.engine f level call ≡ None → IsAnsweredFirst w.engine f call own
+        → IsOnConstant w.engine (plan_of call) own → seen node ≡ begun_node call level (Some own) [] [] (constant_end (plan_of call)) → ShowsEnd f level call node cut
+    has_ended : (pick : Pick) (last : NativeStep) → level ≤ w.engine.limits.level → locked_place (plan_of call).shape ≡ None → (seen node).call ≡ call → EndsWith o w f (seen node) pick last
+        → EndsBy w.engine (plan_of (seen node).call) pick last (seen node).end → ShowsEnd f level call node cut
     was_cut : (pick : Pick) → cut ≡ true → level ≤ w.engine.limits.level → locked_place (plan_of call).shape ≡ None → (seen node).begun ≡ true → (seen node).pick ≡ Some pick → (seen node).end ≡ cut_end call → ShowsEnd f level call node cut
 
   -- nothing refuses a call whose function runs
@@ -211,7 +215,8 @@ module _ {H B : Type 0} (o : Objects H B) (w : World) where
         ends = subst (λ (p : Plan). end_of w.engine p pick last ≡ Some end) is e;
       })
 
-  alone_by : (f : Frame) (level : ℕ) (call : CallRequest) (node : CallNode) (cut : Bool) (pick : Option Pick) (end : End) → EndsAlone w.engine f level call pick end → seen node ≡ begun_node call level pick [] [] end → ShowsEnd f level call node cut
+  alone_by : (f : Frame) (level : ℕ) (call : CallRequest) (node : CallNode) (cut : Bool) (pick : Option Pick) (end : End) → EndsAlone w.engine f level call pick end
+      → seen node ≡ begun_node call level pick [] [] end → ShowsEnd f level call node cut
   alone_by f level call node cut pick end (is_refused none refused) s =
       let by : ((w.engine.limits.level < level) × (end ≡ deep_end call)) ⊎ ((level ≤ w.engine.limits.level) × (n : ℕ) × (locked_place (plan_of call).shape ≡ Some n) × (end ≡ locked_end call n)) → ShowsEnd f level call node cut =
       elim [
@@ -279,7 +284,8 @@ module _ {H B : Type 0} (o : Objects H B) (w : World) where
   race_shown {call = call} n (has_ended pick last l' none c came by) begun l first = let q : None ≡ Some n = sym none ∙ first_place (plan_of call).shape n first in absurd cc
   race_shown {call = call} n (was_cut pick c l' none begun' shown e) begun l first = let q : None ≡ Some n = sym none ∙ first_place (plan_of call).shape n first in absurd cc
 
-  race_back : {f : Frame} {level : ℕ} {call : CallRequest} {node : CallNode} {cut : Bool} (text : Bytes) (pos : Position) → ShowsEnd f level call node cut → (seen node).begun ≡ true → (level ≤ w.engine.limits.level) × NamesLocked call (ErrorDataRace text pos)
+  race_back : {f : Frame} {level : ℕ} {call : CallRequest} {node : CallNode} {cut : Bool} (text : Bytes) (pos : Position) → ShowsEnd f level call node cut → (seen node).begun ≡ true
+      → (level ≤ w.engine.limits.level) × NamesLocked call (ErrorDataRace text pos)
       → IsOwn (seen node).end (ErrorDataRace text pos)
   race_back text pos ends begun h =
       let s = race_shown h.1.0 ends begun h.0 h.1.1 in
@@ -290,7 +296,8 @@ module _ {H B : Type 0} (o : Objects H B) (w : World) where
   race_exactly text pos ends begun = (race_only text pos ends begun, race_back text pos ends begun)
 
   -- fault 5
-  pub constant_only : {f : Frame} {level : ℕ} {call : CallRequest} {node : CallNode} {cut : Bool} (name : Bytes) (pos : Position) → ShowsEnd f level call node cut → (seen node).begun ≡ true → IsOwn (seen node).end (ErrorNonPureMethodCallOnConstant name pos)
+  pub constant_only : {f : Frame} {level : ℕ} {call : CallRequest} {node : CallNode} {cut : Bool} (name : Bytes) (pos : Position) → ShowsEnd f level call node cut → (seen node).begun ≡ true
+      → IsOwn (seen node).end (ErrorNonPureMethodCallOnConstant name pos)
       → IsForNoConstant w.engine f level call (ErrorNonPureMethodCallOnConstant name pos)
   constant_only name pos (isnt_begun s) begun h = let q : false ≡ true = sym (ap (λ (x : Seen). x.begun) s) ∙ begun in absurd cc
   constant_only {node = node} name pos (is_deep deep s) begun h = absurd (no_fault (seen node).end (ap (λ (x : Seen). x.end.answer) s) h.1 (λ q. absurd (omega (arith, q))))
@@ -302,7 +309,8 @@ module _ {H B : Type 0} (o : Objects H B) (w : World) where
       absurd (no_other (seen node).end (ErrorNonPureMethodCallOnConstant name pos) by (λ q. absurd (omega (arith, q))) (λ q. absurd (omega (arith, q))) h)
   constant_only {node = node} name pos (was_cut pick c l none begun' shown e) begun h = absurd (no_fault (seen node).end (ap (λ (x : End). x.answer) e) h.1 (λ q. absurd (omega (arith, q))))
 
-  pub constant_shown : {f : Frame} {level : ℕ} {call : CallRequest} {node : CallNode} {before after : Moment H B} {cut : Bool} (pick : Pick) → Runs o w f level call node before after cut → (seen node).begun ≡ true → refusal w.engine f level call ≡ None → IsAnsweredFirst w.engine f call pick → IsOnConstant w.engine (plan_of call) pick
+  pub constant_shown : {f : Frame} {level : ℕ} {call : CallRequest} {node : CallNode} {before after : Moment H B} {cut : Bool} (pick : Pick) → Runs o w f level call node before after cut
+      → (seen node).begun ≡ true → refusal w.engine f level call ≡ None → IsAnsweredFirst w.engine f call pick → IsOnConstant w.engine (plan_of call) pick
       → seen node ≡ begun_node call level (Some pick) [] [] (constant_end (plan_of call))
   constant_shown pick (not_begun b s) begun u first on = let q : false ≡ true = sym (ap (λ (x : Seen). x.begun) s) ∙ begun in absurd cc
   constant_shown pick (ended {f = f} {level = level} {call = call} {pick = p} {end = end} b d s) begun u first on =
@@ -316,7 +324,8 @@ module _ {H B : Type 0} (o : Objects H B) (w : World) where
   constant_shown pick (cut_short {f = f} {level = level} {call = call} {plan = plan} {pick = p} b d starts steps r s) begun u first on =
       let q : decisions.runs plan p ≡ decisions.ends (Some pick) (constant_end (plan_of call)) = sym d ∙ first_constant w.engine f level call pick u first on in absurd cc
 
-  constant_back : {f : Frame} {level : ℕ} {call : CallRequest} {node : CallNode} {before after : Moment H B} {cut : Bool} (name : Bytes) (pos : Position) → Runs o w f level call node before after cut → (seen node).begun ≡ true → IsForNoConstant w.engine f level call (ErrorNonPureMethodCallOnConstant name pos)
+  constant_back : {f : Frame} {level : ℕ} {call : CallRequest} {node : CallNode} {before after : Moment H B} {cut : Bool} (name : Bytes) (pos : Position) → Runs o w f level call node before after cut
+      → (seen node).begun ≡ true → IsForNoConstant w.engine f level call (ErrorNonPureMethodCallOnConstant name pos)
       → IsOwn (seen node).end (ErrorNonPureMethodCallOnConstant name pos)
   constant_back name pos r begun h =
       let s = constant_shown h.pick r begun h.unrefused h.first h.on in
@@ -327,7 +336,8 @@ module _ {H B : Type 0} (o : Objects H B) (w : World) where
   constant_exactly name pos r begun = (constant_only name pos (runs_end r) begun, constant_back name pos r begun)
 
   -- faults 7 and 11
-  kind_of_last : {f : Frame} (node : CallNode) {pick : Pick} {last : NativeStep} {fault : EvalAltResult} → EndsWith o w f (seen node) pick last → OwnKind w.engine (plan_of (seen node).call) pick last (seen node).end fault → RefusesKind o w f (seen node) fault
+  kind_of_last : {f : Frame} (node : CallNode) {pick : Pick} {last : NativeStep} {fault : EvalAltResult} → EndsWith o w f (seen node) pick last
+      → OwnKind w.engine (plan_of (seen node).call) pick last (seen node).end fault → RefusesKind o w f (seen node) fault
   kind_of_last {f} node {pick} came r = record {
     pick = pick;
     back = r.back;
@@ -341,7 +351,8 @@ module _ {H B : Type 0} (o : Objects H B) (w : World) where
     refused = r.refused;
   }
 
-  size_of_last : {f : Frame} (node : CallNode) {pick : Pick} {last : NativeStep} {fault : EvalAltResult} → EndsWith o w f (seen node) pick last → OwnSize w.engine (plan_of (seen node).call) pick last (seen node).end fault → RefusesSize o w f (seen node) fault
+  size_of_last : {f : Frame} (node : CallNode) {pick : Pick} {last : NativeStep} {fault : EvalAltResult} → EndsWith o w f (seen node) pick last
+      → OwnSize w.engine (plan_of (seen node).call) pick last (seen node).end fault → RefusesSize o w f (seen node) fault
   size_of_last {f} node {pick} came r = record {
     pick = pick;
     back = r.back;
@@ -354,7 +365,8 @@ module _ {H B : Type 0} (o : Objects H B) (w : World) where
   }
 
   -- a value of the host's that isn't of the wanted kind
-  hosts_other : (node : CallNode) {from to : H} {answer : HostAnswer} (v : Tree) (kind : TypeTag) → (seen node).pick ≡ None → HostEnds o w.engine (seen node).call from answer to (seen node).end → answer ≡ Value v → IsOfOtherKind (plan_of (seen node).call).want kind v
+  hosts_other : (node : CallNode) {from to : H} {answer : HostAnswer} (v : Tree) (kind : TypeTag) → (seen node).pick ≡ None → HostEnds o w.engine (seen node).call from answer to (seen node).end
+      → answer ≡ Value v → IsOfOtherKind (plan_of (seen node).call).want kind v
       → (seen node).end ≡ refusing (plan_of (seen node).call).given v (ErrorMismatchOutputType (type_name kind) (display w.engine v) (plan_of (seen node).call).pos)
       → RefusesHosts o w.engine (seen node) (ErrorMismatchOutputType (type_name kind) (display w.engine v) (plan_of (seen node).call).pos)
   hosts_other node {from} {to} v kind alone asked is other e = record {
@@ -369,14 +381,16 @@ module _ {H B : Type 0} (o : Objects H B) (w : World) where
     refused = ap (λ (x : End). x.refused) e;
   }
 
-  hosts_kind : (node : CallNode) {from to : H} {answer : HostAnswer} {fault : EvalAltResult} → HostEnds o w.engine (seen node).call from answer to (seen node).end → (seen node).pick ≡ None → HostSays w.engine (plan_of (seen node).call) answer (seen node).end → IsOwn (seen node).end fault → (number fault ≤ 4 → ⊥)
+  hosts_kind : (node : CallNode) {from to : H} {answer : HostAnswer} {fault : EvalAltResult} → HostEnds o w.engine (seen node).call from answer to (seen node).end → (seen node).pick ≡ None
+      → HostSays w.engine (plan_of (seen node).call) answer (seen node).end → IsOwn (seen node).end fault → (number fault ≤ 4 → ⊥)
       → RefusesHosts o w.engine (seen node) fault
   hosts_kind node asked alone (says_nothing is e) h n = absurd (no_unfound w.engine (plan_of (seen node).call) (seen node).end e h n)
   hosts_kind node asked alone (says_fault own is e) h n = absurd (is_hosts (seen node).end (ap (λ (x : End). x.whose) e) h)
   hosts_kind node asked alone (says_other v kind is other e) h n = subst (RefusesHosts o w.engine (seen node)) (sym (not_own (seen node).end (ap (λ (x : End). x.answer) e) h.1)) (hosts_other node v kind alone asked is other e)
   hosts_kind node asked alone (says_value v is e) h n = absurd (is_hosts (seen node).end (ap (λ (x : End). x.whose) e) h)
 
-  hosts_refused : {f : Frame} (node : CallNode) {from to : H} {answer : HostAnswer} (value : Tree) → HostEnds o w.engine (seen node).call from answer to (seen node).end → (seen node).pick ≡ None → HostSays w.engine (plan_of (seen node).call) answer (seen node).end → (seen node).end.refused ≡ Some value
+  hosts_refused : {f : Frame} (node : CallNode) {from to : H} {answer : HostAnswer} (value : Tree) → HostEnds o w.engine (seen node).call from answer to (seen node).end → (seen node).pick ≡ None
+      → HostSays w.engine (plan_of (seen node).call) answer (seen node).end → (seen node).end.refused ≡ Some value
       → RefusesValue o w f (seen node) value
   unfolding hosts_other
   hosts_refused node value asked alone (says_nothing is e) h = let q : None ≡ Some value = sym (ap (λ (x : End). x.refused) e) ∙ h in absurd cc
@@ -386,7 +400,9 @@ module _ {H B : Type 0} (o : Objects H B) (w : World) where
       let same : v ≡ value = cc in for_host (hosts_other node v kind alone asked is other e) same
   hosts_refused node value asked alone (says_value v is e) h = let q : None ≡ Some value = sym (ap (λ (x : End). x.refused) e) ∙ h in absurd cc
 
-  kind_only : {f : Frame} {level : ℕ} {call : CallRequest} {node : CallNode} {cut : Bool} (wanted got : Bytes) (pos : Position) → ShowsEnd f level call node cut → IsOwn (seen node).end (ErrorMismatchOutputType wanted got pos) → RefusesKind o w f (seen node) (ErrorMismatchOutputType wanted got pos) ⊎ RefusesHosts o w.engine (seen node) (ErrorMismatchOutputType wanted got pos)
+  kind_only : {f : Frame} {level : ℕ} {call : CallRequest} {node : CallNode} {cut : Bool} (wanted got : Bytes) (pos : Position) → ShowsEnd f level call node cut
+      → IsOwn (seen node).end (ErrorMismatchOutputType wanted got pos)
+      → RefusesKind o w f (seen node) (ErrorMismatchOutputType wanted got pos) ⊎ RefusesHosts o w.engine (seen node) (ErrorMismatchOutputType wanted got pos)
   kind_only {node = node} wanted got pos (isnt_begun s) h = absurd (no_fault (seen node).end (ap (λ (x : Seen). x.end.answer) s) h.1 (λ q. absurd (omega (arith, q))))
   kind_only {node = node} wanted got pos (is_deep deep s) h = absurd (no_fault (seen node).end (ap (λ (x : Seen). x.end.answer) s) h.1 (λ q. absurd (omega (arith, q))))
   kind_only {node = node} wanted got pos (is_locked n l place s) h = absurd (no_fault (seen node).end (ap (λ (x : Seen). x.end.answer) s) h.1 (λ q. absurd (omega (arith, q))))
@@ -417,7 +433,8 @@ module _ {H B : Type 0} (o : Objects H B) (w : World) where
       → IsOwn (seen node).end (ErrorMismatchOutputType wanted got pos) ↔ (RefusesKind o w f (seen node) (ErrorMismatchOutputType wanted got pos) ⊎ RefusesHosts o w.engine (seen node) (ErrorMismatchOutputType wanted got pos))
   kind_exactly {node = node} wanted got pos ends = (kind_only wanted got pos ends, kinds_back node (ErrorMismatchOutputType wanted got pos))
 
-  size_only : {f : Frame} {level : ℕ} {call : CallRequest} {node : CallNode} {cut : Bool} (what : Bytes) (pos : Position) → ShowsEnd f level call node cut → IsOwn (seen node).end (ErrorDataTooLarge what pos) → RefusesSize o w f (seen node) (ErrorDataTooLarge what pos)
+  size_only : {f : Frame} {level : ℕ} {call : CallRequest} {node : CallNode} {cut : Bool} (what : Bytes) (pos : Position) → ShowsEnd f level call node cut
+      → IsOwn (seen node).end (ErrorDataTooLarge what pos) → RefusesSize o w f (seen node) (ErrorDataTooLarge what pos)
   size_only {node = node} what pos (isnt_begun s) h = absurd (no_fault (seen node).end (ap (λ (x : Seen). x.end.answer) s) h.1 (λ q. absurd (omega (arith, q))))
   size_only {node = node} what pos (is_deep deep s) h = absurd (no_fault (seen node).end (ap (λ (x : Seen). x.end.answer) s) h.1 (λ q. absurd (omega (arith, q))))
   size_only {node = node} what pos (is_locked n l place s) h = absurd (no_fault (seen node).end (ap (λ (x : Seen). x.end.answer) s) h.1 (λ q. absurd (omega (arith, q))))
@@ -451,7 +468,8 @@ module _ {H B : Type 0} (o : Objects H B) (w : World) where
   spends_not (was_cut pick c l none begun' shown e) lasts begun h = let q : true ≡ false = sym c ∙ lasts in absurd cc
 
   -- and fault 10 that of a level above the limit
-  pub overflows : {f : Frame} {level : ℕ} {call : CallRequest} {node : CallNode} {cut : Bool} (pos : Position) → ShowsEnd f level call node cut → (seen node).begun ≡ true → IsOwn (seen node).end (ErrorStackOverflow pos) → (w.engine.limits.level < level) × (pos ≡ pos_of call)
+  pub overflows : {f : Frame} {level : ℕ} {call : CallRequest} {node : CallNode} {cut : Bool} (pos : Position) → ShowsEnd f level call node cut → (seen node).begun ≡ true
+      → IsOwn (seen node).end (ErrorStackOverflow pos) → (w.engine.limits.level < level) × (pos ≡ pos_of call)
   overflows pos (isnt_begun s) begun h = let q : false ≡ true = sym (ap (λ (x : Seen). x.begun) s) ∙ begun in absurd cc
   overflows {call = call} {node = node} pos (is_deep deep s) begun h = (deep, same_overflow (not_own (seen node).end (ap (λ (x : Seen). x.end.answer) s) h.1))
   overflows {node = node} pos (is_locked n l place s) begun h = absurd (no_fault (seen node).end (ap (λ (x : Seen). x.end.answer) s) h.1 (λ q. absurd (omega (arith, q))))
@@ -501,7 +519,8 @@ module _ {H B : Type 0} (o : Objects H B) (w : World) where
     came : EndsWith o w f (seen node) pick last
     first : (seen node).end.first_after ≡ first_at_end w.engine (plan_of call) pick (back_of last)
 
-  ran_first : {f : Frame} {level : ℕ} {call : CallRequest} {node : CallNode} {cut : Bool} (pick : Pick) → ShowsEnd f level call node cut → cut ≡ false → (seen node).pick ≡ Some pick → RanFirst f call node pick ⊎ (IsOnConstant w.engine (plan_of call) pick × ((seen node).end.first_after ≡ given call))
+  ran_first : {f : Frame} {level : ℕ} {call : CallRequest} {node : CallNode} {cut : Bool} (pick : Pick) → ShowsEnd f level call node cut → cut ≡ false → (seen node).pick ≡ Some pick
+      → RanFirst f call node pick ⊎ (IsOnConstant w.engine (plan_of call) pick × ((seen node).end.first_after ≡ given call))
   ran_first pick (isnt_begun s) lasts h = let q : None ≡ Some pick = sym (ap (λ (x : Seen). x.pick) s) ∙ h in absurd cc
   ran_first pick (is_deep deep s) lasts h = let q : None ≡ Some pick = sym (ap (λ (x : Seen). x.pick) s) ∙ h in absurd cc
   ran_first pick (is_locked n l place s) lasts h = let q : None ≡ Some pick = sym (ap (λ (x : Seen). x.pick) s) ∙ h in absurd cc
@@ -520,7 +539,8 @@ module _ {H B : Type 0} (o : Objects H B) (w : World) where
       })
   ran_first pick (was_cut own c l none begun shown e) lasts h = let q : true ≡ false = sym c ∙ lasts in absurd cc
 
-  pub first_copied : {f : Frame} {level : ℕ} {call : CallRequest} {node : CallNode} {cut : Bool} (pick : Pick) → ShowsEnd f level call node cut → cut ≡ false → (seen node).pick ≡ Some pick → has_the_given (convention_of w.engine.natives pick.func) (plan_of call).shape ≡ false
+  pub first_copied : {f : Frame} {level : ℕ} {call : CallRequest} {node : CallNode} {cut : Bool} (pick : Pick) → ShowsEnd f level call node cut → cut ≡ false → (seen node).pick ≡ Some pick
+      → has_the_given (convention_of w.engine.natives pick.func) (plan_of call).shape ≡ false
       → (seen node).end.first_after ≡ given call
   first_copied {f} {call = call} {node = node} pick ends lasts h copy =
       let by : RanFirst f call node pick ⊎ (IsOnConstant w.engine (plan_of call) pick × ((seen node).end.first_after ≡ given call)) → (seen node).end.first_after ≡ given call =
@@ -530,7 +550,8 @@ module _ {H B : Type 0} (o : Objects H B) (w : World) where
       ] in
       by (ran_first pick ends lasts h)
 
-  pub first_itself : {f : Frame} {level : ℕ} {call : CallRequest} {node : CallNode} {cut : Bool} (pick : Pick) → ShowsEnd f level call node cut → cut ≡ false → (seen node).pick ≡ Some pick → has_the_given (convention_of w.engine.natives pick.func) (plan_of call).shape ≡ true
+  pub first_itself : {f : Frame} {level : ℕ} {call : CallRequest} {node : CallNode} {cut : Bool} (pick : Pick) → ShowsEnd f level call node cut → cut ≡ false → (seen node).pick ≡ Some pick
+      → has_the_given (convention_of w.engine.natives pick.func) (plan_of call).shape ≡ true
       → ShowsGivenBack o w f (seen node) pick ⊎ (IsOnConstant w.engine (plan_of call) pick × ((seen node).end.first_after ≡ given call))
   first_itself {f} {call = call} {node = node} pick ends lasts h itself =
       let by : RanFirst f call node pick ⊎ (IsOnConstant w.engine (plan_of call) pick × ((seen node).end.first_after ≡ given call)) → ShowsGivenBack o w f (seen node) pick ⊎ (IsOnConstant w.engine (plan_of call) pick × ((seen node).end.first_after ≡ given call)) =
@@ -541,20 +562,24 @@ module _ {H B : Type 0} (o : Objects H B) (w : World) where
       by (ran_first pick ends lasts h)
 
   -- by the function and the shape
-  pub native_leaves : {f : Frame} {level : ℕ} {call : CallRequest} {node : CallNode} {cut : Bool} (pick : Pick) → ShowsEnd f level call node cut → cut ≡ false → (seen node).pick ≡ Some pick → is_script pick.func ≡ false → is_method w.engine.natives pick.func ≡ false
+  pub native_leaves : {f : Frame} {level : ℕ} {call : CallRequest} {node : CallNode} {cut : Bool} (pick : Pick) → ShowsEnd f level call node cut → cut ≡ false → (seen node).pick ≡ Some pick
+      → is_script pick.func ≡ false → is_method w.engine.natives pick.func ≡ false
       → (seen node).end.first_after ≡ given call
   native_leaves {call = call} pick ends lasts h s m = first_copied pick ends lasts h (copies_native w.engine pick.func (plan_of call).shape s m)
 
-  pub script_leaves : {f : Frame} {level : ℕ} {call : CallRequest} {node : CallNode} {cut : Bool} (pick : Pick) (first : Tree) (args : List Tree) → ShowsEnd f level call node cut → cut ≡ false → (seen node).pick ≡ Some pick → is_script pick.func ≡ true
+  pub script_leaves : {f : Frame} {level : ℕ} {call : CallRequest} {node : CallNode} {cut : Bool} (pick : Pick) (first : Tree) (args : List Tree) → ShowsEnd f level call node cut → cut ≡ false
+      → (seen node).pick ≡ Some pick → is_script pick.func ≡ true
       → (plan_of call).shape ≡ ByRef first args → (seen node).end.first_after ≡ Some first
   script_leaves {call = call} pick first args ends lasts h s is =
       first_copied pick ends lasts h (ap (has_the_given (convention_of w.engine.natives pick.func)) is ∙ copies_script w.engine pick.func first args s) ∙ sym (given_shape call) ∙ ap first_given is
 
-  pub method_gives : {f : Frame} {level : ℕ} {call : CallRequest} {node : CallNode} {cut : Bool} (pick : Pick) (first : Tree) → ShowsEnd f level call node cut → cut ≡ false → (seen node).pick ≡ Some pick → is_method w.engine.natives pick.func ≡ true → given call ≡ Some first
+  pub method_gives : {f : Frame} {level : ℕ} {call : CallRequest} {node : CallNode} {cut : Bool} (pick : Pick) (first : Tree) → ShowsEnd f level call node cut → cut ≡ false
+      → (seen node).pick ≡ Some pick → is_method w.engine.natives pick.func ≡ true → given call ≡ Some first
       → ShowsGivenBack o w f (seen node) pick ⊎ (IsOnConstant w.engine (plan_of call) pick × ((seen node).end.first_after ≡ given call))
   method_gives {call = call} pick first ends lasts h m is = first_itself pick ends lasts h (has_in_method w.engine pick.func (plan_of call).shape first m (given_shape call ∙ is))
 
-  pub object_gives : {f : Frame} {level : ℕ} {call : CallRequest} {node : CallNode} {cut : Bool} (pick : Pick) (object : Tree) (args : List Tree) → ShowsEnd f level call node cut → cut ≡ false → (seen node).pick ≡ Some pick → is_script pick.func ≡ true
+  pub object_gives : {f : Frame} {level : ℕ} {call : CallRequest} {node : CallNode} {cut : Bool} (pick : Pick) (object : Tree) (args : List Tree) → ShowsEnd f level call node cut → cut ≡ false
+      → (seen node).pick ≡ Some pick → is_script pick.func ≡ true
       → (plan_of call).shape ≡ Method object args → ShowsGivenBack o w f (seen node) pick
   object_gives {f} {call = call} {node = node} pick object args ends lasts h s is =
       let by : ShowsGivenBack o w f (seen node) pick ⊎ (IsOnConstant w.engine (plan_of call) pick × ((seen node).end.first_after ≡ given call)) → ShowsGivenBack o w f (seen node) pick =

@@ -117,7 +117,8 @@ not_called {end = end} (says_other v kind is other e) h = not_both end (ap (λ (
 not_called {end = end} (says_value v is e) h = not_both end (ap (λ (x : End). x.whose) e) h host_called
 
 -- the host gave nothing exactly where the call isn't found
-says_unfound : {e : EngineLists} {plan : Plan} {gave : HostAnswer} {end : End} {fault : EvalAltResult} → HostSays e plan gave end → IsOwn end fault → number fault ≤ 4 → (gave ≡ Nothing) × (fault ≡ not_found e plan.pos plan.name (all_args plan.shape))
+says_unfound : {e : EngineLists} {plan : Plan} {gave : HostAnswer} {end : End} {fault : EvalAltResult} → HostSays e plan gave end → IsOwn end fault → number fault ≤ 4
+    → (gave ≡ Nothing) × (fault ≡ not_found e plan.pos plan.name (all_args plan.shape))
 says_unfound {end = end} (says_nothing is e) h l = (is, not_own end (ap (λ (x : End). x.answer) e) h.1)
 says_unfound {end = end} (says_fault fault is e) h l = absurd (not_both end h.0 (ap (λ (x : End). x.whose) e) call_host)
 says_unfound {end = end} (says_other v kind is other e) h l = absurd (no_fault end (ap (λ (x : End). x.answer) e) h.1 (λ q. absurd (omega (arith, q, l))))
@@ -131,7 +132,8 @@ missing_is : (e : EngineLists) (call : CallRequest) (fault : EvalAltResult) → 
 missing_is e (Named name token native_only shape want pos) fault says = ap (failed (given (Named name token native_only shape want pos))) (sym says)
 
 module _ {H B : Type 0} (o : Objects H B) (w : World) where
-  host_only : {f : Frame} {level : ℕ} {call : CallRequest} {node : CallNode} {before after : Moment H B} {cut : Bool} → Runs o w f level call node before after cut → (seen node).end.whose ≡ Host → IsAnsweredByHost o w.engine f level call before.host after.host (seen node).end
+  host_only : {f : Frame} {level : ℕ} {call : CallRequest} {node : CallNode} {before after : Moment H B} {cut : Bool} → Runs o w f level call node before after cut → (seen node).end.whose ≡ Host
+      → IsAnsweredByHost o w.engine f level call before.host after.host (seen node).end
   host_only {node = node} (not_begun b s) h = absurd (not_both (seen node).end (ap (λ (x : Seen). x.end.whose) s) h call_host)
   host_only {node = node} (ended {f = f} {level = level} {call = call} {pick = pick} {end = end} b d s) h =
       absurd (not_both (seen node).end (ap (λ (x : Seen). x.end.whose) s ∙ alone_whose (ends_missing w.engine f level call pick end d)) h call_host)
@@ -146,7 +148,8 @@ module _ {H B : Type 0} (o : Objects H B) (w : World) where
   host_back {call = call} {end = end} h = host_whose (host_says w.engine (plan_of call) h.gave end h.ended.ends) h.shown
 
   -- an answer is the host's exactly where the host was asked, and its value or fault is the answer
-  pub host_exactly : {f : Frame} {level : ℕ} {call : CallRequest} {node : CallNode} {before after : Moment H B} {cut : Bool} → Runs o w f level call node before after cut → ((seen node).end.whose ≡ Host) ↔ IsAnsweredByHost o w.engine f level call before.host after.host (seen node).end
+  pub host_exactly : {f : Frame} {level : ℕ} {call : CallRequest} {node : CallNode} {before after : Moment H B} {cut : Bool} → Runs o w f level call node before after cut
+      → ((seen node).end.whose ≡ Host) ↔ IsAnsweredByHost o w.engine f level call before.host after.host (seen node).end
   host_exactly r = (host_only r, host_back)
 
   called_only : {f : Frame} {level : ℕ} {call : CallRequest} {node : CallNode} {cut : Bool} → ShowsEnd o w f level call node cut → (seen node).end.whose ≡ Called → IsAnsweredByFunction o w f (seen node)
@@ -163,16 +166,19 @@ module _ {H B : Type 0} (o : Objects H B) (w : World) where
   called_back node h = called_last (ends_by w.engine (plan_of node.call) h.pick h.last node.end h.ended.ends) h.shown
 
   -- and its function's exactly where what that gave is the answer
-  pub called_exactly : {f : Frame} {level : ℕ} {call : CallRequest} {node : CallNode} {before after : Moment H B} {cut : Bool} → Runs o w f level call node before after cut → ((seen node).end.whose ≡ Called) ↔ IsAnsweredByFunction o w f (seen node)
+  pub called_exactly : {f : Frame} {level : ℕ} {call : CallRequest} {node : CallNode} {before after : Moment H B} {cut : Bool} → Runs o w f level call node before after cut
+      → ((seen node).end.whose ≡ Called) ↔ IsAnsweredByFunction o w f (seen node)
   called_exactly {node = node} r = (called_only (runs_end o w r), called_back (seen node))
 
   -- a call isn't found where nothing refuses it and all three fail
-  alone_fails : {f : Frame} {level : ℕ} {call : CallRequest} {pick : Option Pick} {end : End} {fault : EvalAltResult} (from to : H) → EndsAlone w.engine f level call pick end → end.answer ≡ Err fault → number fault ≤ 4 → IsUnfound o w.engine f level call from to end fault
+  alone_fails : {f : Frame} {level : ℕ} {call : CallRequest} {pick : Option Pick} {end : End} {fault : EvalAltResult} (from to : H) → EndsAlone w.engine f level call pick end → end.answer ≡ Err fault
+      → number fault ≤ 4 → IsUnfound o w.engine f level call from to end fault
   alone_fails {f = f} {level = level} {call = call} {end = end} from to (is_refused none u) a l = absurd (refused_found call end (refused_parts_of w.engine f level call end u) a l)
   alone_fails {end = end} from to (isnt_found none u only m un) a l = record { all_fail = without_host u only un; says = not_own end (ap (λ (x : End). x.answer) m) a }
   alone_fails {end = end} from to (on_constant own some u first on m) a l = absurd (no_fault end (ap (λ (x : End). x.answer) m) a (λ q. absurd (omega (arith, q, l))))
 
-  unfound_only : {f : Frame} {level : ℕ} {call : CallRequest} {node : CallNode} {before after : Moment H B} {cut : Bool} (fault : EvalAltResult) → Runs o w f level call node before after cut → (seen node).begun ≡ true → number fault ≤ 4 → IsOwn (seen node).end fault
+  unfound_only : {f : Frame} {level : ℕ} {call : CallRequest} {node : CallNode} {before after : Moment H B} {cut : Bool} (fault : EvalAltResult) → Runs o w f level call node before after cut
+      → (seen node).begun ≡ true → number fault ≤ 4 → IsOwn (seen node).end fault
       → IsUnfound o w.engine f level call before.host after.host (seen node).end fault
   unfound_only fault (not_begun b s) begun l h = let q : false ≡ true = sym (ap (λ (x : Seen). x.begun) s) ∙ begun in absurd cc
   unfound_only {node = node} fault (ended {f = f} {level = level} {call = call} {before = before} {pick = pick} {end = end} b d s) begun l h =
@@ -187,7 +193,8 @@ module _ {H B : Type 0} (o : Objects H B) (w : World) where
   unfound_only {node = node} fault (cut_short b d starts steps r s) begun l h = absurd (no_fault (seen node).end (ap (λ (x : Seen). x.end.answer) s) h.1 (λ q. absurd (omega (arith, q, l))))
 
   -- what such a call shows
-  ends_shown : {f : Frame} {level : ℕ} {call : CallRequest} {node : CallNode} {before after : Moment H B} {cut : Bool} (end : End) → Runs o w f level call node before after cut → (seen node).begun ≡ true → decision w.engine f level call ≡ decisions.ends None end → seen node ≡ begun_node call level None [] [] end
+  ends_shown : {f : Frame} {level : ℕ} {call : CallRequest} {node : CallNode} {before after : Moment H B} {cut : Bool} (end : End) → Runs o w f level call node before after cut
+      → (seen node).begun ≡ true → decision w.engine f level call ≡ decisions.ends None end → seen node ≡ begun_node call level None [] [] end
   ends_shown end (not_begun b s) begun m = let q : false ≡ true = sym (ap (λ (x : Seen). x.begun) s) ∙ begun in absurd cc
   ends_shown end (ended {level = level} {call = call} {pick = pick} {end = own} b d s) begun m =
       let q : decisions.ends pick own ≡ decisions.ends None end = sym d ∙ m in
@@ -198,29 +205,34 @@ module _ {H B : Type 0} (o : Objects H B) (w : World) where
   ends_shown end (finished {plan = plan} {pick = pick} b d starts steps e s) begun m = let q : decisions.runs plan pick ≡ decisions.ends None end = sym d ∙ m in absurd cc
   ends_shown end (cut_short {plan = plan} {pick = pick} b d starts steps r s) begun m = let q : decisions.runs plan pick ≡ decisions.ends None end = sym d ∙ m in absurd cc
 
-  host_shown : {f : Frame} {level : ℕ} {call : CallRequest} {node : CallNode} {before after : Moment H B} {cut : Bool} (other : Plan) → Runs o w f level call node before after cut → (seen node).begun ≡ true → decision w.engine f level call ≡ decisions.asks_host other → seen node ≡ begun_node call level None [] [] (seen node).end
+  host_shown : {f : Frame} {level : ℕ} {call : CallRequest} {node : CallNode} {before after : Moment H B} {cut : Bool} (other : Plan) → Runs o w f level call node before after cut
+      → (seen node).begun ≡ true → decision w.engine f level call ≡ decisions.asks_host other → seen node ≡ begun_node call level None [] [] (seen node).end
   host_shown other (not_begun b s) begun m = let q : false ≡ true = sym (ap (λ (x : Seen). x.begun) s) ∙ begun in absurd cc
   host_shown other (ended {pick = pick} {end = end} b d s) begun m = let q : decisions.ends pick end ≡ decisions.asks_host other = sym d ∙ m in absurd cc
   host_shown other (host_answered {level = level} {call = call} b d a s) begun m = s ∙ ap (λ (x : End). begun_node call level None [] [] x) (sym (ap (λ (x : Seen). x.end) s))
   host_shown other (finished {plan = plan} {pick = pick} b d starts steps e s) begun m = let q : decisions.runs plan pick ≡ decisions.asks_host other = sym d ∙ m in absurd cc
   host_shown other (cut_short {plan = plan} {pick = pick} b d starts steps r s) begun m = let q : decisions.runs plan pick ≡ decisions.asks_host other = sym d ∙ m in absurd cc
 
-  fails_shown : {f : Frame} {level : ℕ} {call : CallRequest} {node : CallNode} {before after : Moment H B} {cut : Bool} {from to : H} → Runs o w f level call node before after cut → (seen node).begun ≡ true → AllFail o w.engine f level call from to (seen node).end → seen node ≡ begun_node call level None [] [] (missing_end w.engine (plan_of call))
+  fails_shown : {f : Frame} {level : ℕ} {call : CallRequest} {node : CallNode} {before after : Moment H B} {cut : Bool} {from to : H} → Runs o w f level call node before after cut
+      → (seen node).begun ≡ true → AllFail o w.engine f level call from to (seen node).end → seen node ≡ begun_node call level None [] [] (missing_end w.engine (plan_of call))
   fails_shown {f = f} {level = level} {call = call} r begun (without_host u only un) = ends_shown (missing_end w.engine (plan_of call)) r begun (missing_ends w.engine f level call None (missing_end w.engine (plan_of call)) (isnt_found refl u only refl un))
   fails_shown {f = f} {level = level} {call = call} {node = node} r begun (and_host asked answers) =
       host_shown (plan_of call) r begun (first_asks w.engine f level call (plan_of call) (refl, asked)) ∙ ap (λ (x : End). begun_node call level None [] [] x) (nothing_missing w.engine call (seen node).end answers.ends)
 
-  pub unfound_shown : {f : Frame} {level : ℕ} {call : CallRequest} {node : CallNode} {before after : Moment H B} {cut : Bool} {from to : H} (fault : EvalAltResult) → Runs o w f level call node before after cut → (seen node).begun ≡ true → IsUnfound o w.engine f level call from to (seen node).end fault
+  pub unfound_shown : {f : Frame} {level : ℕ} {call : CallRequest} {node : CallNode} {before after : Moment H B} {cut : Bool} {from to : H} (fault : EvalAltResult)
+      → Runs o w f level call node before after cut → (seen node).begun ≡ true → IsUnfound o w.engine f level call from to (seen node).end fault
       → seen node ≡ begun_node call level None [] [] (failed (given call) fault)
   unfound_shown {level = level} {call = call} fault r begun h = fails_shown r begun h.all_fail ∙ ap (λ (x : End). begun_node call level None [] [] x) (missing_is w.engine call fault h.says)
 
-  unfound_back : {f : Frame} {level : ℕ} {call : CallRequest} {node : CallNode} {before after : Moment H B} {cut : Bool} {from to : H} (fault : EvalAltResult) → Runs o w f level call node before after cut → (seen node).begun ≡ true → IsUnfound o w.engine f level call from to (seen node).end fault
+  unfound_back : {f : Frame} {level : ℕ} {call : CallRequest} {node : CallNode} {before after : Moment H B} {cut : Bool} {from to : H} (fault : EvalAltResult)
+      → Runs o w f level call node before after cut → (seen node).begun ≡ true → IsUnfound o w.engine f level call from to (seen node).end fault
       → IsOwn (seen node).end fault
   unfound_back fault r begun h =
       let s = unfound_shown fault r begun h in
       (ap (λ (x : Seen). x.end.whose) s, ap (λ (x : Seen). x.end.answer) s)
 
-  pub unfound_exactly : {f : Frame} {level : ℕ} {call : CallRequest} {node : CallNode} {before after : Moment H B} {cut : Bool} (fault : EvalAltResult) → Runs o w f level call node before after cut → (seen node).begun ≡ true → number fault ≤ 4
+  pub unfound_exactly : {f : Frame} {level : ℕ} {call : CallRequest} {node : CallNode} {before after : Moment H B} {cut : Bool} (fault : EvalAltResult) → Runs o w f level call node before after cut
+      → (seen node).begun ≡ true → number fault ≤ 4
       → IsOwn (seen node).end fault ↔ IsUnfound o w.engine f level call before.host after.host (seen node).end fault
   unfound_exactly fault r begun l = (unfound_only fault r begun l, unfound_back fault r begun)
 
@@ -229,6 +241,7 @@ module _ {H B : Type 0} (o : Objects H B) (w : World) where
       ((seen node).end.whose ≡ Host) ↔ ((from : H) × (to : H) × IsAnsweredByHost o w.engine (frame_at w f inside) (seen node).level (seen node).call from to (seen node).end)
   tree_host inside r = let own = tree_runs o w inside r in (λ h. (own.0.host, own.1.host, host_only own.3 h), λ h. host_back h.2)
 
-  pub tree_unfound : {node root : CallNode} (inside : InTree node root) {f : Frame} {level : ℕ} {call : CallRequest} {before after : Moment H B} {cut : Bool} (fault : EvalAltResult) → Runs o w f level call root before after cut → (seen node).begun ≡ true → number fault ≤ 4 →
+  pub tree_unfound : {node root : CallNode} (inside : InTree node root) {f : Frame} {level : ℕ} {call : CallRequest} {before after : Moment H B} {cut : Bool} (fault : EvalAltResult)
+      → Runs o w f level call root before after cut → (seen node).begun ≡ true → number fault ≤ 4 →
       IsOwn (seen node).end fault ↔ ((from : H) × (to : H) × IsUnfound o w.engine (frame_at w f inside) (seen node).level (seen node).call from to (seen node).end fault)
   tree_unfound inside fault r begun l = let own = tree_runs o w inside r in (λ h. (own.0.host, own.1.host, unfound_only fault own.3 begun l h), λ h. unfound_back fault own.3 begun h.2)

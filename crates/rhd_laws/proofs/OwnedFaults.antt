@@ -139,20 +139,24 @@ module _ {H B : Type 0} (o : Objects H B) (w : World) where
   tree_end inside r = end_of_node (runs_end o w (tree_runs o w inside r).3)
 
   -- a fault of a call itself has one of these numbers
-  pub own_number : {node root : CallNode} (inside : InTree node root) {f : Frame} {level : ℕ} {call : CallRequest} {before after : Moment H B} {cut : Bool} (fault : EvalAltResult) → Runs o w f level call root before after cut → IsOwn (seen node).end fault → IsOwnNumber (number fault)
+  pub own_number : {node root : CallNode} (inside : InTree node root) {f : Frame} {level : ℕ} {call : CallRequest} {before after : Moment H B} {cut : Bool} (fault : EvalAltResult)
+      → Runs o w f level call root before after cut → IsOwn (seen node).end fault → IsOwnNumber (number fault)
   own_number {node} inside fault r h = number_of (seen node).end fault (tree_end inside r) h
 
   -- it refuses a value exactly where it is of a kind or of a size
-  pub own_refused : {node root : CallNode} (inside : InTree node root) {f : Frame} {level : ℕ} {call : CallRequest} {before after : Moment H B} {cut : Bool} (fault : EvalAltResult) → Runs o w f level call root before after cut → IsOwn (seen node).end fault →
+  pub own_refused : {node root : CallNode} (inside : InTree node root) {f : Frame} {level : ℕ} {call : CallRequest} {before after : Moment H B} {cut : Bool} (fault : EvalAltResult)
+      → Runs o w f level call root before after cut → IsOwn (seen node).end fault →
       ((value : Tree) × ((seen node).end.refused ≡ Some value)) ↔ IsRefusing (number fault)
   own_refused {node} inside fault r h = refused_of (seen node).end fault (tree_end inside r) h
 
   -- nothing else refuses a value
-  pub others_refuse : {node root : CallNode} (inside : InTree node root) {f : Frame} {level : ℕ} {call : CallRequest} {before after : Moment H B} {cut : Bool} → Runs o w f level call root before after cut → ((seen node).end.whose ≡ Call → ⊥) → (seen node).end.refused ≡ None
+  pub others_refuse : {node root : CallNode} (inside : InTree node root) {f : Frame} {level : ℕ} {call : CallRequest} {before after : Moment H B} {cut : Bool}
+      → Runs o w f level call root before after cut → ((seen node).end.whose ≡ Call → ⊥) → (seen node).end.refused ≡ None
   others_refuse {node} inside r h = kept_of (seen node).end (tree_end inside r) h
 
   -- a function's fault
-  fails_by : {f : Frame} (node : Seen) (fault : EvalAltResult) (pick : Pick) (last : NativeStep) → EndsWith o w f node pick last → IsFunctions w.engine.printers (plan_of node.call) pick last node.end.answer → node.end.answer ≡ Err fault → FunctionFails o w f node fault
+  fails_by : {f : Frame} (node : Seen) (fault : EvalAltResult) (pick : Pick) (last : NativeStep) → EndsWith o w f node pick last
+      → IsFunctions w.engine.printers (plan_of node.call) pick last node.end.answer → node.end.answer ≡ Err fault → FunctionFails o w f node fault
   fails_by node fault pick last came (own_value v made back is makes a) h = let q : ◌≡◌ {A = Result Tree EvalAltResult} (Ok made) (Err fault) = sym a ∙ h in absurd cc
   fails_by {f} node fault pick last came (own_fault own back is a) h =
       let q : ◌≡◌ {A = Result Tree EvalAltResult} (Err own) (Err fault) = sym a ∙ h in
@@ -170,7 +174,8 @@ module _ {H B : Type 0} (o : Objects H B) (w : World) where
   )
 
   -- the host's fault
-  hosts_by : {f : Frame} {level : ℕ} {call : CallRequest} {from to : H} {end : End} (fault : EvalAltResult) → IsAnsweredByHost o w.engine f level call from to end → end.answer ≡ Err fault → HostFails o w.engine f level call from to end fault
+  hosts_by : {f : Frame} {level : ℕ} {call : CallRequest} {from to : H} {end : End} (fault : EvalAltResult) → IsAnsweredByHost o w.engine f level call from to end → end.answer ≡ Err fault
+      → HostFails o w.engine f level call from to end fault
   hosts_by {call = call} {from = from} {to = to} {end = end} fault r h =
       let by : IsHosts r.gave end.answer → HostEnds o w.engine call from (Fault fault) to end =
       elim [

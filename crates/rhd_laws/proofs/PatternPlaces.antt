@@ -142,7 +142,8 @@ contained [] i x h = absurd cc
 contained (a ∷ xs) zero x h = (0, omega arith, got_head a x h)
 contained (a ∷ xs) (suc i) x h = let r = contained xs i x h in (suc r.0, omega (arith, r.1), r.2)
 
-pub exact_first : (args : List Tree) (types others : List TypeTag) (i j : ℕ) → slice_get (patterns (map tag_of args)) i ≡ Some types → slice_get (patterns (map tag_of args)) j ≡ Some others → (i < j) ↔ IsMoreExact (map tag_of args) types others
+pub exact_first : (args : List Tree) (types others : List TypeTag) (i j : ℕ) → slice_get (patterns (map tag_of args)) i ≡ Some types → slice_get (patterns (map tag_of args)) j ≡ Some others
+    → (i < j) ↔ IsMoreExact (map tag_of args) types others
 exact_first args types others i j a b =
     let kinds : List TypeTag = map tag_of args in
     let m : MatchTo 16 types kinds = pattern_matches 16 kinds types (contained (patterns kinds) i types a) in

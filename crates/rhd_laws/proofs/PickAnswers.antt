@@ -74,13 +74,15 @@ none_natives e f call untyped unscripted h =
     let q = or_parts (first_of (native_found e f.lib f.imports (plan_of call).name) (patterns_to 16 (kinds_in call))) (builtin e (token_in (plan_of call).search) (kinds_in call)) p.0 in
     (none_match e f call untyped unscripted q.0, unbuilt e call q.1)
 
-none_scripts : (e : EngineLists) (f : Frame) (call : CallRequest) → NoTyped e f call → option_or (found e f.lib f.imports (Script None (plan_of call).name (params_of (plan_of call).shape))) (option_or (native_look e f call) None) ≡ None → NoneMatches e f call × NoBuiltin e call
+none_scripts : (e : EngineLists) (f : Frame) (call : CallRequest) → NoTyped e f call
+    → option_or (found e f.lib f.imports (Script None (plan_of call).name (params_of (plan_of call).shape))) (option_or (native_look e f call) None) ≡ None → NoneMatches e f call × NoBuiltin e call
 none_scripts e f call untyped h =
     let p = or_parts (found e f.lib f.imports (Script None (plan_of call).name (params_of (plan_of call).shape))) (option_or (native_look e f call) None) h in
     none_natives e f call untyped (λ _. p.0) p.1
 
 none_typed : (e : EngineLists) (f : Frame) (call : CallRequest) (target : Tree) (args : List Tree) → (plan_of call).shape ≡ Method target args
-    → option_or (found e f.lib f.imports (Typed None (plan_of call).name (length args) (display e target))) (option_or (found e f.lib f.imports (Script None (plan_of call).name (params_of (plan_of call).shape))) (option_or (native_look e f call) None)) ≡ None → NoneMatches e f call × NoBuiltin e call
+    → option_or (found e f.lib f.imports (Typed None (plan_of call).name (length args) (display e target))) (option_or (found e f.lib f.imports (Script None (plan_of call).name (params_of (plan_of call).shape))) (option_or (native_look e f call) None)) ≡ None
+    → NoneMatches e f call × NoBuiltin e call
 none_typed e f call target args shape h =
     let p = or_parts (found e f.lib f.imports (Typed None (plan_of call).name (length args) (display e target))) (option_or (found e f.lib f.imports (Script None (plan_of call).name (params_of (plan_of call).shape))) (option_or (native_look e f call) None)) h in
     none_scripts e f call (λ other others _ same. one_method e f (plan_of call).name target other args others p.0 (sym shape ∙ same)) p.1
@@ -128,7 +130,8 @@ keys_ordered e call key other (by_kinds types k n) (by_kinds ts o m) = natives_o
 
 -- One pick answers a call.
 
-one_match : (e : EngineLists) (f : Frame) (call : CallRequest) (key other : Key) (pick own : Pick) → IsFirstMatch e f call key pick → IsFirstMatch e f call other own → key ≡ other → IsEarlier pick.layer own.layer ⊎ ((pick.layer ≡ own.layer) ⊎ IsEarlier own.layer pick.layer) → pick ≡ own
+one_match : (e : EngineLists) (f : Frame) (call : CallRequest) (key other : Key) (pick own : Pick) → IsFirstMatch e f call key pick → IsFirstMatch e f call other own → key ≡ other
+    → IsEarlier pick.layer own.layer ⊎ ((pick.layer ≡ own.layer) ⊎ IsEarlier own.layer pick.layer) → pick ≡ own
 one_match e f call key other pick own a b k (inl before) = absurd (b.first key pick.layer a.decl a.matches a.stands (earlier_module k before))
 one_match e f call key other pick own a b k (inr (inl same)) = same_shown pick own a.decl b.decl same a.func b.func (a.source ∙ sources_same e f pick.layer own.layer a.stands.tree b.stands.tree same a.stands.stands b.stands.stands ∙ sym b.source) (same_declared e f pick.layer own.layer key other a.decl b.decl same k a.stands b.stands)
 one_match e f call key other pick own a b k (inr (inr before)) = absurd (a.first other own.layer b.decl b.matches b.stands (earlier_module (sym k) before))
@@ -197,7 +200,8 @@ received_types e call other name types (by_type x xs a s k) o = absurd (typed_na
 received_types e call other name types (by_number a k) o = absurd (script_native other (plan_of call).name name (params_of (plan_of call).shape) types k o)
 received_types e call other name types (by_kinds own k m) o = subst (λ ts. TypesMatch ts (kinds_in call)) (same_natives other (plan_of call).name name own types k o) m
 
-pub receives : (e : EngineLists) (call : CallRequest) (name : Bytes) (types : List TypeTag) (convention : Convention) → MatchesCall e call (Native None name types) → TypesMatch types (map tag_of (all_received (received convention (plan_of call).shape)))
+pub receives : (e : EngineLists) (call : CallRequest) (name : Bytes) (types : List TypeTag) (convention : Convention) → MatchesCall e call (Native None name types)
+    → TypesMatch types (map tag_of (all_received (received convention (plan_of call).shape)))
 receives e call name types convention m = subst (TypesMatch types) (sym (same_kinds convention (plan_of call).shape)) (received_types e call (Native None name types) name types m refl)
 
 -- a call that isn't found has no ask that is found

@@ -82,7 +82,8 @@ script_before e f call pick untyped r other layer d m it (lower_rank less) = scr
 script_before e f call pick untyped r other layer d m it (more_exact name types others k o x) = script_native (Script None (plan_of call).name (params_of (plan_of call).shape)) (plan_of call).name name (params_of (plan_of call).shape) others refl o
 script_before e f call pick untyped r other layer d m it (earlier_module same before) = not_earlier e f (Script None (plan_of call).name (params_of (plan_of call).shape)) other pick layer d r same it before
 
-script_first : (e : EngineLists) (f : Frame) (call : CallRequest) (pick : Pick) → NoTyped e f call → only_natives (plan_of call).search ≡ false → found e f.lib f.imports (Script None (plan_of call).name (params_of (plan_of call).shape)) ≡ Some pick → IsAnsweredBy e f call pick
+script_first : (e : EngineLists) (f : Frame) (call : CallRequest) (pick : Pick) → NoTyped e f call → only_natives (plan_of call).search ≡ false
+    → found e f.lib f.imports (Script None (plan_of call).name (params_of (plan_of call).shape)) ≡ Some pick → IsAnsweredBy e f call pick
 script_first e f call pick untyped allowed h =
     let key : Key = Script None (plan_of call).name (params_of (plan_of call).shape) in
     let r : IsInFirstModule e f key pick = is_in_first e f key pick (found_where e f key pick h) in
@@ -97,7 +98,8 @@ native_rank e f call other layer d untyped unscripted (by_type object args allow
 native_rank e f call other layer d untyped unscripted (by_number allowed k) it less = undeclared e f (Script None (plan_of call).name (params_of (plan_of call).shape)) other layer d k (unscripted allowed) it
 native_rank e f call other layer d untyped unscripted (by_kinds types k m) it less = let t : rank other ≡ 2 = ap rank k in omega (arith, less, t)
 
-native_exact : (e : EngineLists) (f : Frame) (call : CallRequest) (types : List TypeTag) (other : Key) (layer : Layer) (d : Declaration) (name : Bytes) (exact others : List TypeTag) → NoneBefore e f call types → MatchesCall e call other → HasDeclaration e f layer other d
+native_exact : (e : EngineLists) (f : Frame) (call : CallRequest) (types : List TypeTag) (other : Key) (layer : Layer) (d : Declaration) (name : Bytes) (exact others : List TypeTag)
+    → NoneBefore e f call types → MatchesCall e call other → HasDeclaration e f layer other d
     → other ≡ Native None name exact → Native None (plan_of call).name types ≡ Native None name others → IsMoreExact (kinds_in call) exact others → ⊥
 native_exact e f call types other layer d name exact others none (by_type object args allowed shape k) it p q x = typed_native other (plan_of call).name name (length args) (display e object) exact k p
 native_exact e f call types other layer d name exact others none (by_number allowed k) it p q x = script_native other (plan_of call).name name (params_of (plan_of call).shape) exact k p
@@ -161,7 +163,8 @@ listed e call pick token left right None t k is h = absurd cc
 listed e call pick token left right (Some id) t k is h =
     record { token = token; asked = t; left = left; right = right; two = k; id = id; listed = listed_first (record { token = token; left = left; right = right }) id e.builtins is; shown = sym (got (builtin_pick e token id) pick h) }
 
-pub has_builtin : (e : EngineLists) (call : CallRequest) (pick : Pick) (token : Option OpToken) (kinds : List TypeTag) → token_in (plan_of call).search ≡ token → kinds_in call ≡ kinds → builtin e token kinds ≡ Some pick → HasBuiltin e call pick
+pub has_builtin : (e : EngineLists) (call : CallRequest) (pick : Pick) (token : Option OpToken) (kinds : List TypeTag) → token_in (plan_of call).search ≡ token → kinds_in call ≡ kinds
+    → builtin e token kinds ≡ Some pick → HasBuiltin e call pick
 has_builtin e call pick None kinds t k h = absurd cc
 has_builtin e call pick (Some token) [] t k h = absurd cc
 has_builtin e call pick (Some token) (left ∷ []) t k h = absurd cc
@@ -188,14 +191,16 @@ from_scripts e f call pick untyped allowed h =
     let by : (script ≡ Some pick) ⊎ ((script ≡ None) × (option_or (native_look e f call) None ≡ Some pick)) → IsAnsweredBy e f call pick = elim [ inl q ↦ script_first e f call pick untyped allowed q | inr q ↦ from_natives e f call pick untyped (λ _. q.0) q.1 ]
     in by (or_cases script (option_or (native_look e f call) None) pick h)
 
-pub one_method : (e : EngineLists) (f : Frame) (name : Bytes) (object other : Tree) (args others : List Tree) → found e f.lib f.imports (Typed None name (length args) (display e object)) ≡ None → Method object args ≡ Method other others → found e f.lib f.imports (Typed None name (length others) (display e other)) ≡ None
+pub one_method : (e : EngineLists) (f : Frame) (name : Bytes) (object other : Tree) (args others : List Tree) → found e f.lib f.imports (Typed None name (length args) (display e object)) ≡ None
+    → Method object args ≡ Method other others → found e f.lib f.imports (Typed None name (length others) (display e other)) ≡ None
 one_method e f name object other args others none same =
     let a : object ≡ other = cc in
     let b : args ≡ others = cc in
     (λ i. found e f.lib f.imports (Typed None name (length (sym b i)) (display e (sym a i)))) ∙ none
 
 from_typed : (e : EngineLists) (f : Frame) (call : CallRequest) (object : Tree) (args : List Tree) (pick : Pick) → only_natives (plan_of call).search ≡ false → (plan_of call).shape ≡ Method object args
-    → option_or (found e f.lib f.imports (Typed None (plan_of call).name (length args) (display e object))) (option_or (found e f.lib f.imports (Script None (plan_of call).name (params_of (plan_of call).shape))) (option_or (native_look e f call) None)) ≡ Some pick → IsAnsweredBy e f call pick
+    → option_or (found e f.lib f.imports (Typed None (plan_of call).name (length args) (display e object))) (option_or (found e f.lib f.imports (Script None (plan_of call).name (params_of (plan_of call).shape))) (option_or (native_look e f call) None)) ≡ Some pick
+    → IsAnsweredBy e f call pick
 from_typed e f call object args pick allowed shape h =
     let typed : Option Pick = found e f.lib f.imports (Typed None (plan_of call).name (length args) (display e object)) in
     let rest : Option Pick = option_or (found e f.lib f.imports (Script None (plan_of call).name (params_of (plan_of call).shape))) (option_or (native_look e f call) None) in

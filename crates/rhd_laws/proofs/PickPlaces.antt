@@ -92,7 +92,8 @@ pub data LastAt {A B : Type 0} (f : ℕ × A → Option B) (k : ℕ) (xs : List 
 pub data FirstAt {A B : Type 0} (f : ℕ × A → Option B) (k : ℕ) (xs : List A) (y : B) : Type 0 where
   first_at : (i : ℕ) (x : A) → slice_get xs i ≡ Some x → f (k + i, x) ≡ Some y → ((j : ℕ) (z : A) → j < i → slice_get xs j ≡ Some z → f (k + j, z) ≡ None) → FirstAt f k xs y
 
-later_none : {A B : Type 0} (f : ℕ × A → Option B) (k i : ℕ) (a : A) (xs : List A) → ((j : ℕ) (z : A) → i < j → slice_get xs j ≡ Some z → f ((k + 1) + j, z) ≡ None) → (j : ℕ) (z : A) → suc i < j → slice_get (a ∷ xs) j ≡ Some z → f (k + j, z) ≡ None
+later_none : {A B : Type 0} (f : ℕ × A → Option B) (k i : ℕ) (a : A) (xs : List A) → ((j : ℕ) (z : A) → i < j → slice_get xs j ≡ Some z → f ((k + 1) + j, z) ≡ None) → (j : ℕ) (z : A) → suc i < j
+    → slice_get (a ∷ xs) j ≡ Some z → f (k + j, z) ≡ None
 later_none f k i a xs h zero z less is = absurd (omega (arith, less))
 later_none f k i a xs h (suc j) z less is =
     let s : k + suc j ≡ (k + 1) + j = omega arith in
@@ -104,7 +105,8 @@ all_later f k a xs h (suc j) z less is =
     let s : k + suc j ≡ (k + 1) + j = omega arith in
     (λ n. f (s n, z)) ∙ none_all f (k + 1) xs h j z is
 
-earlier_none : {A B : Type 0} (f : ℕ × A → Option B) (k i : ℕ) (a : A) (xs : List A) → f (k, a) ≡ None → ((j : ℕ) (z : A) → j < i → slice_get xs j ≡ Some z → f ((k + 1) + j, z) ≡ None) → (j : ℕ) (z : A) → j < suc i → slice_get (a ∷ xs) j ≡ Some z → f (k + j, z) ≡ None
+earlier_none : {A B : Type 0} (f : ℕ × A → Option B) (k i : ℕ) (a : A) (xs : List A) → f (k, a) ≡ None → ((j : ℕ) (z : A) → j < i → slice_get xs j ≡ Some z → f ((k + 1) + j, z) ≡ None)
+    → (j : ℕ) (z : A) → j < suc i → slice_get (a ∷ xs) j ≡ Some z → f (k + j, z) ≡ None
 earlier_none f k i a xs none h zero z less is =
     let s : k + 0 ≡ k = omega arith in
     (λ n. f (s n, sym (got_head a z is) n)) ∙ none
@@ -185,18 +187,22 @@ library_global n m e = absurd cc
 -- What is found stands in a module of the frame, and no module before that one declares the key.
 
 pub data FoundAt (e : EngineLists) (f : Frame) (key : Key) (pick : Pick) : Type 0 where
-  found_at : (d : Declaration) (r : HasDeclaration e f pick.layer key d) → pick.func ≡ d.func → pick.source ≡ source_of e r.tree → ((layer : Layer) (other : Declaration) → HasDeclaration e f layer key other → IsEarlier layer pick.layer → ⊥) → FoundAt e f key pick
+  found_at : (d : Declaration) (r : HasDeclaration e f pick.layer key d) → pick.func ≡ d.func → pick.source ≡ source_of e r.tree
+      → ((layer : Layer) (other : Declaration) → HasDeclaration e f layer key other → IsEarlier layer pick.layer → ⊥) → FoundAt e f key pick
 
-two_lists : (e : EngineLists) (f : Frame) (key : Key) → found e f.lib f.imports key ≡ option_or (first_of (λ y. pick_at key (own_place e Library y)) (reverse (enumerate_from 0 f.lib))) (first_of (λ y. pick_at key (own_place e Global y)) (enumerate_from 0 e.globals))
+two_lists : (e : EngineLists) (f : Frame) (key : Key)
+    → found e f.lib f.imports key ≡ option_or (first_of (λ y. pick_at key (own_place e Library y)) (reverse (enumerate_from 0 f.lib))) (first_of (λ y. pick_at key (own_place e Global y)) (enumerate_from 0 e.globals))
 unfolding found
 two_lists e f key =
     of_append (pick_at key) (libraries e f.lib) (global_modules e)
     ∙ (λ i. option_or (of_map (pick_at key) (own_place e Library) (reverse (enumerate_from 0 f.lib)) i) (of_map (pick_at key) (own_place e Global) (enumerate_from 0 e.globals) i))
 
-no_library : (e : EngineLists) (f : Frame) (key : Key) (d : Declaration) (n : ℕ) (m : ModuleTree) → first_of (λ y. pick_at key (own_place e Library y)) (reverse (enumerate_from 0 f.lib)) ≡ None → slice_get f.lib n ≡ Some m → IsFirstWith key d m.own.eager → ⊥
+no_library : (e : EngineLists) (f : Frame) (key : Key) (d : Declaration) (n : ℕ) (m : ModuleTree) → first_of (λ y. pick_at key (own_place e Library y)) (reverse (enumerate_from 0 f.lib)) ≡ None
+    → slice_get f.lib n ≡ Some m → IsFirstWith key d m.own.eager → ⊥
 no_library e f key d n m h is r = lib_none e (0 + n) m key d (none_all (λ y. pick_at key (own_place e Library y)) 0 f.lib (none_forwards (λ y. pick_at key (own_place e Library y)) (enumerate_from 0 f.lib) h) n m is) r
 
-no_global : (e : EngineLists) (key : Key) (d : Declaration) (n : ℕ) (m : ModuleTree) → first_of (λ y. pick_at key (own_place e Global y)) (enumerate_from 0 e.globals) ≡ None → slice_get e.globals n ≡ Some m → IsFirstWith key d m.own.eager → ⊥
+no_global : (e : EngineLists) (key : Key) (d : Declaration) (n : ℕ) (m : ModuleTree) → first_of (λ y. pick_at key (own_place e Global y)) (enumerate_from 0 e.globals) ≡ None
+    → slice_get e.globals n ≡ Some m → IsFirstWith key d m.own.eager → ⊥
 no_global e key d n m h is r = global_none e (0 + n) m key d (none_all (λ y. pick_at key (own_place e Global y)) 0 e.globals h n m is) r
 
 pub not_found : (e : EngineLists) (f : Frame) (key : Key) → found e f.lib f.imports key ≡ None → (layer : Layer) (d : Declaration) → HasDeclaration e f layer key d → ⊥
@@ -241,7 +247,8 @@ in_library e f key pick (last_at i m is got later) =
     let by : OwnPick e (Library (0 + i)) m key pick → FoundAt e f key pick = elim [ own_pick d decl layer func source ↦ found_at d (record { tree = m; stands = is_library i (layer ∙ ap Library z) is; declared = own_first m key d decl }) func source (library_first e f key pick i (layer ∙ ap Library z) later) ]
     in by (lib_pick e (0 + i) m key pick got)
 
-in_global : (e : EngineLists) (f : Frame) (key : Key) (pick : Pick) → first_of (λ y. pick_at key (own_place e Library y)) (reverse (enumerate_from 0 f.lib)) ≡ None → FirstAt (λ y. pick_at key (own_place e Global y)) 0 e.globals pick → FoundAt e f key pick
+in_global : (e : EngineLists) (f : Frame) (key : Key) (pick : Pick) → first_of (λ y. pick_at key (own_place e Library y)) (reverse (enumerate_from 0 f.lib)) ≡ None
+    → FirstAt (λ y. pick_at key (own_place e Global y)) 0 e.globals pick → FoundAt e f key pick
 in_global e f key pick none (first_at i m is got earlier) =
     let z : 0 + i ≡ i = omega arith in
     let by : OwnPick e (Global (0 + i)) m key pick → FoundAt e f key pick = elim [ own_pick d decl layer func source ↦ found_at d (record { tree = m; stands = is_global i (layer ∙ ap Global z) is; declared = own_first m key d decl }) func source (global_first e f key pick i (layer ∙ ap Global z) none earlier) ]
@@ -308,7 +315,8 @@ same_shown pick other c d layer p q source same =
 pub is_in_first : (e : EngineLists) (f : Frame) (key : Key) (pick : Pick) → FoundAt e f key pick → IsInFirstModule e f key pick
 is_in_first e f key pick (found_at d r func source first) = record { decl = d; stands = r; func = func; source = source; first = first }
 
-one_first : (e : EngineLists) (f : Frame) (key : Key) (pick other : Pick) → IsInFirstModule e f key pick → IsInFirstModule e f key other → IsEarlier pick.layer other.layer ⊎ ((pick.layer ≡ other.layer) ⊎ IsEarlier other.layer pick.layer) → pick ≡ other
+one_first : (e : EngineLists) (f : Frame) (key : Key) (pick other : Pick) → IsInFirstModule e f key pick → IsInFirstModule e f key other
+    → IsEarlier pick.layer other.layer ⊎ ((pick.layer ≡ other.layer) ⊎ IsEarlier other.layer pick.layer) → pick ≡ other
 one_first e f key pick other a b (inl before) = absurd (b.first pick.layer a.decl a.stands before)
 one_first e f key pick other a b (inr (inl same)) = same_shown pick other a.decl b.decl same a.func b.func (a.source ∙ sources_same e f pick.layer other.layer a.stands.tree b.stands.tree same a.stands.stands b.stands.stands ∙ sym b.source) (same_declared e f pick.layer other.layer key key a.decl b.decl same refl a.stands b.stands)
 one_first e f key pick other a b (inr (inr before)) = absurd (a.first other.layer b.decl b.stands before)

@@ -32,7 +32,8 @@ other_layer Builtin h = absurd (h refl)
 abbrev tested : Printers → Bool → Bool → Bool → Bool → Option Bool
 tested printers script builtin print debug = if script || builtin then None else if print then Some printers.print else if debug then Some printers.debug else None
 
-prints_by : (e : EngineLists) (plan : Plan) (pick : Pick) (set script builtin print debug : Bool) → is_script pick.func ≡ script → is_builtin pick.layer ≡ builtin → text_eq plan.name (codes "print") ≡ print → text_eq plan.name (codes "debug") ≡ debug
+prints_by : (e : EngineLists) (plan : Plan) (pick : Pick) (set script builtin print debug : Bool) → is_script pick.func ≡ script → is_builtin pick.layer ≡ builtin
+    → text_eq plan.name (codes "print") ≡ print → text_eq plan.name (codes "debug") ≡ debug
     → tested e.printers script builtin print debug ≡ Some set → Prints e.printers plan pick set
 prints_by e plan pick set true builtin print debug s b p d h = absurd cc
 prints_by e plan pick set false true print debug s b p d h = absurd cc
@@ -71,7 +72,8 @@ pub record TextMissing (e : EngineLists) (plan : Plan) (pick : Pick) (v : Tree) 
   pub says : fault ≡ ErrorMismatchOutputType (codes "string") (display e v) plan.pos
   pub unprinted : printed_text (printer e.printers plan pick) v ≡ None
 
-no_text_by : (e : EngineLists) (plan : Plan) (pick : Pick) (v : Tree) (fault : EvalAltResult) (p : Option Bool) (text : Option Bytes) → printer e.printers plan pick ≡ p → text_in v.kind ≡ text → no_text e p plan.pos v ≡ Some fault → TextMissing e plan pick v fault
+no_text_by : (e : EngineLists) (plan : Plan) (pick : Pick) (v : Tree) (fault : EvalAltResult) (p : Option Bool) (text : Option Bytes) → printer e.printers plan pick ≡ p → text_in v.kind ≡ text
+    → no_text e p plan.pos v ≡ Some fault → TextMissing e plan pick v fault
 no_text_by e plan pick v fault None text is t h = absurd cc
 no_text_by e plan pick v fault (Some false) text is t h = absurd cc
 no_text_by e plan pick v fault (Some true) (Some s) is t h =
@@ -83,7 +85,8 @@ no_text_by e plan pick v fault (Some true) None is t h =
 pub text_missing : (e : EngineLists) (plan : Plan) (pick : Pick) (v : Tree) (fault : EvalAltResult) → no_text e (printer e.printers plan pick) plan.pos v ≡ Some fault → TextMissing e plan pick v fault
 text_missing e plan pick v fault h = no_text_by e plan pick v fault (printer e.printers plan pick) (text_in v.kind) refl refl h
 
-pub missing_text : (e : EngineLists) (plan : Plan) (pick : Pick) (v : Tree) → Prints e.printers plan pick true → text_in v.kind ≡ None → no_text e (printer e.printers plan pick) plan.pos v ≡ Some (ErrorMismatchOutputType (codes "string") (display e v) plan.pos)
+pub missing_text : (e : EngineLists) (plan : Plan) (pick : Pick) (v : Tree) → Prints e.printers plan pick true → text_in v.kind ≡ None
+    → no_text e (printer e.printers plan pick) plan.pos v ≡ Some (ErrorMismatchOutputType (codes "string") (display e v) plan.pos)
 missing_text e plan pick v prints none =
     ap (λ (p : Option Bool). no_text e p plan.pos v) (prints_printer e plan pick true prints) ∙ ap (λ (o : Option Bytes). where_holds (is_none o) (ErrorMismatchOutputType (codes "string") (display e v) plan.pos)) none
 

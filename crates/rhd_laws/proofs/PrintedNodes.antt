@@ -149,7 +149,8 @@ module _ {H B : Type 0} (o : Objects H B) (w : World) where
       printed_ends w.engine (plan_of (seen node).call) r.pick r.answer r.back (seen node).end r.within r.ended.ends
       ∙ prints_printed w.engine (plan_of (seen node).call) r.pick r.answer text r.set r.is_text
 
-  text_exactly : {f : Frame} {level : ℕ} {call : CallRequest} {node : CallNode} {before after : Moment H B} {cut : Bool} (text : Bytes) → Runs o w f level call node before after cut → ((seen node).end.printed ≡ Some text) ↔ ShowsText o w f (seen node) text
+  text_exactly : {f : Frame} {level : ℕ} {call : CallRequest} {node : CallNode} {before after : Moment H B} {cut : Bool} (text : Bytes) → Runs o w f level call node before after cut
+      → ((seen node).end.printed ≡ Some text) ↔ ShowsText o w f (seen node) text
   text_exactly {node = node} text r = (text_only node text (ran_or_not (runs_end o w r)), text_back node text)
 
   pub tree_text : {node root : CallNode} (inside : InTree node root) {f : Frame} {level : ℕ} {call : CallRequest} {before after : Moment H B} {cut : Bool} (text : Bytes) → Runs o w f level call root before after cut
@@ -183,15 +184,18 @@ module _ {H B : Type 0} (o : Objects H B) (w : World) where
   tree_value {node} inside value r = (value_only node value (ran_or_not (runs_end o w (tree_runs o w inside r).3)), value_back node value)
 
   -- and a call of `print` or `debug` answers unit
-  unit_of_last : {f : Frame} (node : CallNode) (pick : Pick) (set : Bool) (value : Tree) (r : RanOut f node) → r.pick ≡ pick → Prints w.engine.printers (plan_of (seen node).call) pick set → LastAnswers w.engine (plan_of (seen node).call) r.pick r.last value → value ≡ plain unit
+  unit_of_last : {f : Frame} (node : CallNode) (pick : Pick) (set : Bool) (value : Tree) (r : RanOut f node) → r.pick ≡ pick → Prints w.engine.printers (plan_of (seen node).call) pick set
+      → LastAnswers w.engine (plan_of (seen node).call) r.pick r.last value → value ≡ plain unit
   unit_of_last node pick set value r same prints p = made_unit set (subst (λ (x : Pick). Prints w.engine.printers (plan_of (seen node).call) x set) (sym same) prints) p.makes
 
-  unit_only : {f : Frame} (node : CallNode) (pick : Pick) (set : Bool) (value : Tree) → RanOut f node ⊎ SaysNothing node → (seen node).pick ≡ Some pick → Prints w.engine.printers (plan_of (seen node).call) pick set → (seen node).end.answer ≡ Ok value → value ≡ plain unit
+  unit_only : {f : Frame} (node : CallNode) (pick : Pick) (set : Bool) (value : Tree) → RanOut f node ⊎ SaysNothing node → (seen node).pick ≡ Some pick
+      → Prints w.engine.printers (plan_of (seen node).call) pick set → (seen node).end.answer ≡ Ok value → value ≡ plain unit
   unit_only node pick set value (inl r) is prints h =
       let q : Some r.pick ≡ Some pick = sym r.came.shown ∙ is in
       unit_of_last node pick set value r (some_pick q) prints (last_answers value r.by h)
   unit_only node pick set value (inr n) is prints h = absurd (n.unanswered pick value is h)
 
-  pub tree_unit : {node root : CallNode} (inside : InTree node root) {f : Frame} {level : ℕ} {call : CallRequest} {before after : Moment H B} {cut : Bool} (pick : Pick) (set : Bool) (value : Tree) → Runs o w f level call root before after cut
+  pub tree_unit : {node root : CallNode} (inside : InTree node root) {f : Frame} {level : ℕ} {call : CallRequest} {before after : Moment H B} {cut : Bool} (pick : Pick) (set : Bool) (value : Tree)
+      → Runs o w f level call root before after cut
       → (seen node).pick ≡ Some pick → Prints w.engine.printers (plan_of (seen node).call) pick set → (seen node).end.answer ≡ Ok value → value ≡ plain unit
   tree_unit {node} inside pick set value r is prints h = unit_only node pick set value (ran_or_not (runs_end o w (tree_runs o w inside r).3)) is prints h

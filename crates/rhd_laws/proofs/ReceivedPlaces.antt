@@ -22,7 +22,8 @@ object_same : (a b : Tree) (xs ys : List Tree) → Method a xs ≡ Method b ys �
 object_same a b xs ys h = cc
 
 -- all but a copied argument is as given
-pub place_given : (natives : List NativeInfo) (func : RhaiFunc) (shape : CallShape) (n : ℕ) → ((n ≡ 0) × GetsCopy natives func shape → ⊥) → slice_get (all_received (received (convention_of natives func) shape)) n ≡ slice_get (all_args shape) n
+pub place_given : (natives : List NativeInfo) (func : RhaiFunc) (shape : CallShape) (n : ℕ) → ((n ≡ 0) × GetsCopy natives func shape → ⊥)
+    → slice_get (all_received (received (convention_of natives func) shape)) n ≡ slice_get (all_args shape) n
 place_given natives (funcs.Pure id context pure volatile) (Plain args) n none = refl
 place_given natives (funcs.Pure id context pure volatile) (ByRef a args) zero none = absurd (none (refl, native_by_value refl refl (by_reference a args refl)))
 place_given natives (funcs.Pure id context pure volatile) (ByRef a args) (suc n) none = refl
@@ -41,19 +42,22 @@ place_given natives (funcs.Script def env) (Method target args) n none = refl
 copy_head : (a value : Tree) (args : List Tree) → slice_get (a ∷ args) 0 ≡ Some value → slice_get (copied a ∷ args) 0 ≡ Some (copied value)
 copy_head a value args h = ap (λ (t : Tree). Some (copied t)) (got a value h)
 
-value_head : (natives : List NativeInfo) (func : RhaiFunc) (shape : CallShape) (value : Tree) → convention_of natives func ≡ convention_of natives (funcs.Pure (record { 0 = 0 }) false false false) → HasFirstGiven shape → slice_get (all_args shape) 0 ≡ Some value
+value_head : (natives : List NativeInfo) (func : RhaiFunc) (shape : CallShape) (value : Tree) → convention_of natives func ≡ convention_of natives (funcs.Pure (record { 0 = 0 }) false false false)
+    → HasFirstGiven shape → slice_get (all_args shape) 0 ≡ Some value
     → slice_get (all_received (received (convention_of natives func) shape)) 0 ≡ Some (copied value)
 value_head natives func (Plain args) value is (by_reference first others same) h = absurd cc
 value_head natives func (Plain args) value is (of_method target others same) h = absurd cc
 value_head natives func (ByRef a args) value is has h = ap (λ c. slice_get (all_received (received c (ByRef a args))) 0) is ∙ copy_head a value args h
 value_head natives func (Method target args) value is has h = ap (λ c. slice_get (all_received (received c (Method target args))) 0) is ∙ copy_head target value args h
 
-script_head : (natives : List NativeInfo) (func : RhaiFunc) (shape : CallShape) (value first : Tree) (args : List Tree) → shape ≡ ByRef first args → slice_get (all_args shape) 0 ≡ Some value → (c : _) → received c (ByRef first args) ≡ record { first = None; args = copied first ∷ args }
+script_head : (natives : List NativeInfo) (func : RhaiFunc) (shape : CallShape) (value first : Tree) (args : List Tree) → shape ≡ ByRef first args → slice_get (all_args shape) 0 ≡ Some value → (c : _)
+    → received c (ByRef first args) ≡ record { first = None; args = copied first ∷ args }
     → slice_get (all_received (received c shape)) 0 ≡ Some (copied value)
 script_head natives func shape value first args is h c r =
     ap (λ (s : CallShape). slice_get (all_received (received c s)) 0) is ∙ ap (λ x. slice_get (all_received x) 0) r ∙ copy_head first value args (sym (ap (λ (s : CallShape). slice_get (all_args s) 0) is) ∙ h)
 
-pub place_copied : (natives : List NativeInfo) (func : RhaiFunc) (shape : CallShape) (value : Tree) → GetsCopy natives func shape → slice_get (all_args shape) 0 ≡ Some value → slice_get (all_received (received (convention_of natives func) shape)) 0 ≡ Some (copied value)
+pub place_copied : (natives : List NativeInfo) (func : RhaiFunc) (shape : CallShape) (value : Tree) → GetsCopy natives func shape → slice_get (all_args shape) 0 ≡ Some value
+    → slice_get (all_received (received (convention_of natives func) shape)) 0 ≡ Some (copied value)
 place_copied natives (funcs.Pure id context pure volatile) shape value (native_by_value s m has) h = value_head natives (funcs.Pure id context pure volatile) shape value refl has h
 place_copied natives (funcs.Pure id context pure volatile) shape value (script_by_reference first args s is) h = absurd cc
 place_copied natives (funcs.Method id context pure volatile) shape value (native_by_value s m has) h = absurd cc

@@ -88,7 +88,8 @@ module _ {H B : Type 0} (o : Objects H B) where
     runs : Runs o world frame 1 request root from to cut
 
   -- each tree that is answered is that of a call
-  answered_tree : (w w2 : World) (f f2 : Frame) (before after : Moment H B) (commands : List Command) (replies : List Reply) (n : ℕ) (root : CallNode) → Answered o w f before commands replies w2 f2 after → slice_get replies n ≡ Some (Called root) → StandsAt w f before commands replies n root
+  answered_tree : (w w2 : World) (f f2 : Frame) (before after : Moment H B) (commands : List Command) (replies : List Reply) (n : ℕ) (root : CallNode)
+      → Answered o w f before commands replies w2 f2 after → slice_get replies n ≡ Some (Called root) → StandsAt w f before commands replies n root
   answered_tree w w2 f f2 before after [] [] n root a h = absurd cc
   answered_tree w w2 f f2 before after [] (reply ∷ replies) n root a h = absurd a
   answered_tree w w2 f f2 before after (command ∷ commands) [] n root a h = absurd a
@@ -111,10 +112,12 @@ module _ {H B : Type 0} (o : Objects H B) where
       }
 
   -- each of its nodes runs there
-  node_runs : {node own root : CallNode} (inside : InTree node root) (w : World) (f : Frame) (level : ℕ) (call : CallRequest) (before after : Moment H B) (cut : Bool) → Runs o w f level call own before after cut → own ≡ root → RunsAt o w (frame_at w f inside) node
+  node_runs : {node own root : CallNode} (inside : InTree node root) (w : World) (f : Frame) (level : ℕ) (call : CallRequest) (before after : Moment H B) (cut : Bool)
+      → Runs o w f level call own before after cut → own ≡ root → RunsAt o w (frame_at w f inside) node
   node_runs inside w f level call before after cut r is = tree_runs o w inside (subst (λ (x : CallNode). Runs o w f level call x before after cut) is r)
 
-  pub run_node : (run : RunOf o) (n : ℕ) (root node : CallNode) (inside : InTree node root) → slice_get run.replies n ≡ Some (Called root) → (tree : IsTreeAt o run n root) × RunsAt o tree.ran.world (frame_at tree.ran.world tree.ran.frame inside) node
+  pub run_node : (run : RunOf o) (n : ℕ) (root node : CallNode) (inside : InTree node root) → slice_get run.replies n ≡ Some (Called root)
+      → (tree : IsTreeAt o run n root) × RunsAt o tree.ran.world (frame_at tree.ran.world tree.ran.frame inside) node
   run_node run n root node inside h =
       let t = run_tree run n root h in
       (t, node_runs inside t.ran.world t.ran.frame t.ran.level t.ran.call t.ran.before t.ran.after t.ran.cut t.ran.runs t.root_is)
@@ -126,11 +129,13 @@ module _ {H B : Type 0} (o : Objects H B) where
   replied_call w f before after request (Made id) r = absurd r
   replied_call w f before after request (Refused fault) r = absurd r
 
-  call_replied : (w w2 : World) (f f2 : Frame) (before after : Moment H B) (command : Command) (reply : Reply) (request : CallRequest) → Replied o w f before command reply w2 f2 after → command ≡ Call request → (root : CallNode) × (reply ≡ Called root)
+  call_replied : (w w2 : World) (f f2 : Frame) (before after : Moment H B) (command : Command) (reply : Reply) (request : CallRequest) → Replied o w f before command reply w2 f2 after
+      → command ≡ Call request → (root : CallNode) × (reply ≡ Called root)
   call_replied w w2 f f2 before after command reply request r is =
       replied_call w f before after request reply (subst (λ (c : Command). Replied o w f before c reply w2 f2 after) is r).0
 
-  answered_call : (w w2 : World) (f f2 : Frame) (before after : Moment H B) (commands : List Command) (replies : List Reply) (n : ℕ) (request : CallRequest) → Answered o w f before commands replies w2 f2 after → slice_get commands n ≡ Some (Call request) → (root : CallNode) × (slice_get replies n ≡ Some (Called root))
+  answered_call : (w w2 : World) (f f2 : Frame) (before after : Moment H B) (commands : List Command) (replies : List Reply) (n : ℕ) (request : CallRequest)
+      → Answered o w f before commands replies w2 f2 after → slice_get commands n ≡ Some (Call request) → (root : CallNode) × (slice_get replies n ≡ Some (Called root))
   answered_call w w2 f f2 before after [] [] n request a h = absurd cc
   answered_call w w2 f f2 before after [] (reply ∷ replies) n request a h = absurd a
   answered_call w w2 f f2 before after (command ∷ commands) [] n request a h = absurd a

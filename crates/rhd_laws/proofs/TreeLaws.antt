@@ -45,7 +45,8 @@ parts_count (CallNode' call level begun pick carries children answer whose after
     ap (λ k. (if begun then 1 else 0) + k) (nodes_count children) ∙ ap (λ (x : Bool). (if x then 1 else 0) + sum_by begun_in (nodes_in children)) (sym b)
     ∙ ap (λ (x : Nodes). (if (seen (CallNode' call level begun pick carries children answer whose after printed refused)).begun then 1 else 0) + sum_by begun_in (nodes_in x)) (sym ns)
 
-begun_count : (node : CallNode) {call : CallRequest} {level : ℕ} {pick : Option Pick} {carries : List Carry} {children : List CallNode} {end : End} → seen node ≡ begun_node call level pick carries children end → begun_in node ≡ 1 + sum_by begun_in children
+begun_count : (node : CallNode) {call : CallRequest} {level : ℕ} {pick : Option Pick} {carries : List Carry} {children : List CallNode} {end : End}
+    → seen node ≡ begun_node call level pick carries children end → begun_in node ≡ 1 + sum_by begun_in children
 begun_count node s = parts_count node ∙ ap (λ (x : Seen). (if x.begun then 1 else 0) + sum_by begun_in x.children) s
 
 unbegun_count : (node : CallNode) {call : CallRequest} {level : ℕ} → seen node ≡ unbegun_node call level → begun_in node ≡ 0
@@ -56,7 +57,8 @@ begun_below : (node root : CallNode) → InTree node root → (seen root).begun 
 begun_below node root is_root b all = b
 begun_below node root (is_below {child = child} among inner) b all = All-contains AllBegun (seen root).children child all among node inner
 
-all_begun : (root : CallNode) {call : CallRequest} {level : ℕ} {pick : Option Pick} {carries : List Carry} {children : List CallNode} {end : End} → seen root ≡ begun_node call level pick carries children end → All AllBegun children → AllBegun root
+all_begun : (root : CallNode) {call : CallRequest} {level : ℕ} {pick : Option Pick} {carries : List Carry} {children : List CallNode} {end : End}
+    → seen root ≡ begun_node call level pick carries children end → All AllBegun children → AllBegun root
 all_begun root {children = children} s all = λ node inside. begun_below node root inside (ap (λ (x : Seen). x.begun) s) (All-same AllBegun (seen root).children children (ap (λ (x : Seen). x.children) s) all)
 
 no_children : (child : CallNode) (children : List CallNode) → children ≡ [] → Contains children child → ⊥
@@ -86,20 +88,23 @@ module _ {H B : Type 0} (o : Objects H B) (w : World) where
     runs_count (finished {node = node} b d starts steps e s) = omega (arith, begun_count node s, starts_begun starts, steps_count steps)
     runs_count (cut_short {node = node} {child = child} {children = children} b d starts steps r s) = omega (arith, begun_count node s, starts_begun starts, sum_by_push begun_in children child, steps_count steps, runs_count r)
 
-    pub steps_count : {f : Frame} {level : ℕ} {plan : Plan} {pick : Pick} {first last : NativeStep} {carries : List Carry} {children : List CallNode} {before after : Moment H B} → Steps o w f level plan pick first carries children last before after → after.begun ≡ before.begun + sum_by begun_in children
+    pub steps_count : {f : Frame} {level : ℕ} {plan : Plan} {pick : Pick} {first last : NativeStep} {carries : List Carry} {children : List CallNode} {before after : Moment H B}
+        → Steps o w f level plan pick first carries children last before after → after.begun ≡ before.begun + sum_by begun_in children
     steps_count none_yet = omega arith
     steps_count (one_more {child = child} {children = children} steps r next p q) = omega (arith, ap (sum_by begun_in) q, sum_by_push begun_in children child, resumes_begun next, steps_count steps, runs_count r)
 
   mutual
     -- no call is begun beyond the budget
-    pub runs_spend : {f : Frame} {level : ℕ} {call : CallRequest} {node : CallNode} {before after : Moment H B} {cut : Bool} → Runs o w f level call node before after cut → before.begun ≤ w.engine.limits.budget → after.begun ≤ w.engine.limits.budget
+    pub runs_spend : {f : Frame} {level : ℕ} {call : CallRequest} {node : CallNode} {before after : Moment H B} {cut : Bool} → Runs o w f level call node before after cut
+        → before.begun ≤ w.engine.limits.budget → after.begun ≤ w.engine.limits.budget
     runs_spend (not_begun b s) h = h
     runs_spend (ended b d s) h = omega arith
     runs_spend (host_answered b d a s) h = omega arith
     runs_spend (finished b d starts steps e s) h = steps_spend steps (omega (arith, starts_begun starts))
     runs_spend (cut_short b d starts steps r s) h = runs_spend r (steps_spend steps (omega (arith, starts_begun starts)))
 
-    pub steps_spend : {f : Frame} {level : ℕ} {plan : Plan} {pick : Pick} {first last : NativeStep} {carries : List Carry} {children : List CallNode} {before after : Moment H B} → Steps o w f level plan pick first carries children last before after → before.begun ≤ w.engine.limits.budget → after.begun ≤ w.engine.limits.budget
+    pub steps_spend : {f : Frame} {level : ℕ} {plan : Plan} {pick : Pick} {first last : NativeStep} {carries : List Carry} {children : List CallNode} {before after : Moment H B}
+        → Steps o w f level plan pick first carries children last before after → before.begun ≤ w.engine.limits.budget → after.begun ≤ w.engine.limits.budget
     steps_spend none_yet h = h
     steps_spend (one_more steps r next p q) h = let spent = runs_spend r (steps_spend steps h) in omega (arith, resumes_begun next, spent)
 
@@ -120,7 +125,8 @@ module _ {H B : Type 0} (o : Objects H B) (w : World) where
     runs_begun (finished {node = node} b d starts steps e s) lasts = all_begun node s (steps_begun steps)
     runs_begun (cut_short b d starts steps r s) lasts = absurd cc
 
-    pub steps_begun : {f : Frame} {level : ℕ} {plan : Plan} {pick : Pick} {first last : NativeStep} {carries : List Carry} {children : List CallNode} {before after : Moment H B} → Steps o w f level plan pick first carries children last before after → All AllBegun children
+    pub steps_begun : {f : Frame} {level : ℕ} {plan : Plan} {pick : Pick} {first last : NativeStep} {carries : List Carry} {children : List CallNode} {before after : Moment H B}
+        → Steps o w f level plan pick first carries children last before after → All AllBegun children
     steps_begun none_yet = All-nil AllBegun
     steps_begun (one_more {child = child} {children = children} {more_children = more} steps r next p q) = All-same AllBegun more (children ++ child ∷ []) q (All-push AllBegun children child (steps_begun steps) (runs_begun r refl))
 
@@ -134,7 +140,8 @@ module _ {H B : Type 0} (o : Objects H B) (w : World) where
       cut_below children (ap (λ (x : Seen). x.begun) s) (ap (λ (x : Seen). x.end) s ∙ sym (ap (λ (x : Seen). cut_end x.call) s)) (ap (λ (x : Seen). x.children) s) (steps_begun steps) (runs_cut r refl)
 
   -- there is one carry for each child
-  steps_many : {f : Frame} {level : ℕ} {plan : Plan} {pick : Pick} {first last : NativeStep} {carries : List Carry} {children : List CallNode} {before after : Moment H B} → Steps o w f level plan pick first carries children last before after → length carries ≡ length children
+  steps_many : {f : Frame} {level : ℕ} {plan : Plan} {pick : Pick} {first last : NativeStep} {carries : List Carry} {children : List CallNode} {before after : Moment H B}
+      → Steps o w f level plan pick first carries children last before after → length carries ≡ length children
   steps_many none_yet = refl
   steps_many (one_more {carry = carry} {child = child} {carries = carries} {children = children} steps r next p q) = ap length p ∙ many_push carries children carry child (steps_many steps) ∙ sym (ap length q)
 
@@ -189,7 +196,8 @@ module _ {H B : Type 0} (o : Objects H B) (w : World) where
       (steps_requests steps (the_last (ap (λ (c : CallRequest). Ask c carry) (sym (runs_shows r).0)) (runs_cut r refl) refl)))
 
   -- without a pick there are none
-  pub runs_alone : {f : Frame} {level : ℕ} {call : CallRequest} {node : CallNode} {before after : Moment H B} {cut : Bool} → Runs o w f level call node before after cut → (seen node).pick ≡ None → ((seen node).carries ≡ []) × ((seen node).children ≡ [])
+  pub runs_alone : {f : Frame} {level : ℕ} {call : CallRequest} {node : CallNode} {before after : Moment H B} {cut : Bool} → Runs o w f level call node before after cut → (seen node).pick ≡ None
+      → ((seen node).carries ≡ []) × ((seen node).children ≡ [])
   runs_alone (not_begun b s) h = (ap (λ (x : Seen). x.carries) s, ap (λ (x : Seen). x.children) s)
   runs_alone (ended b d s) h = (ap (λ (x : Seen). x.carries) s, ap (λ (x : Seen). x.children) s)
   runs_alone (host_answered b d a s) h = (ap (λ (x : Seen). x.carries) s, ap (λ (x : Seen). x.children) s)
@@ -197,7 +205,8 @@ module _ {H B : Type 0} (o : Objects H B) (w : World) where
   runs_alone (cut_short {pick = p} b d starts steps r s) h = let q : Some p ≡ None = sym (ap (λ (x : Seen). x.pick) s) ∙ h in absurd cc
 
   -- nor are there any of a function that isn't for a constant
-  pub runs_constant : {f : Frame} {level : ℕ} {call : CallRequest} {node : CallNode} {before after : Moment H B} {cut : Bool} (pick : Pick) → Runs o w f level call node before after cut → (seen node).pick ≡ Some pick → IsOnConstant w.engine (plan_of call) pick → ((seen node).carries ≡ []) × ((seen node).children ≡ [])
+  pub runs_constant : {f : Frame} {level : ℕ} {call : CallRequest} {node : CallNode} {before after : Moment H B} {cut : Bool} (pick : Pick) → Runs o w f level call node before after cut
+      → (seen node).pick ≡ Some pick → IsOnConstant w.engine (plan_of call) pick → ((seen node).carries ≡ []) × ((seen node).children ≡ [])
   runs_constant pick (not_begun b s) h on = (ap (λ (x : Seen). x.carries) s, ap (λ (x : Seen). x.children) s)
   runs_constant pick (ended b d s) h on = (ap (λ (x : Seen). x.carries) s, ap (λ (x : Seen). x.children) s)
   runs_constant pick (host_answered b d a s) h on = (ap (λ (x : Seen). x.carries) s, ap (λ (x : Seen). x.children) s)
@@ -242,7 +251,8 @@ module _ {H B : Type 0} (o : Objects H B) (w : World) where
       all_run f level call node pick (carries ++ carry ∷ []) (children ++ child ∷ []) (cut_end call) s
       (All-push (RunsUnder (entered w f level pick) level) children child (steps_run steps) (waited, mid, after, true, r))
 
-  child_runs : {f : Frame} {level : ℕ} {call : CallRequest} {node : CallNode} {before after : Moment H B} {cut : Bool} (child : CallNode) → Runs o w f level call node before after cut → Contains (seen node).children child → RunsUnder (inner f node) level child
+  child_runs : {f : Frame} {level : ℕ} {call : CallRequest} {node : CallNode} {before after : Moment H B} {cut : Bool} (child : CallNode) → Runs o w f level call node before after cut
+      → Contains (seen node).children child → RunsUnder (inner f node) level child
   child_runs {f} {level} {node = node} child r among = All-contains (RunsUnder (inner f node) level) (seen node).children child (runs_run r) among
 
   -- with its own call and level
@@ -261,11 +271,13 @@ module _ {H B : Type 0} (o : Objects H B) (w : World) where
   tree_runs (is_below {child = child} among below) r = tree_runs below (child_runs child r among).4
 
   -- it is one level above the call that asked for it
-  pub tree_levels : {node root : CallNode} (inside : InTree node root) {f : Frame} {level : ℕ} {call : CallRequest} {before after : Moment H B} {cut : Bool} (child : CallNode) → Runs o w f level call root before after cut → Contains (seen node).children child → (seen child).level ≡ (seen node).level + 1
+  pub tree_levels : {node root : CallNode} (inside : InTree node root) {f : Frame} {level : ℕ} {call : CallRequest} {before after : Moment H B} {cut : Bool} (child : CallNode)
+      → Runs o w f level call root before after cut → Contains (seen node).children child → (seen child).level ≡ (seen node).level + 1
   tree_levels inside child r among = (runs_shows (child_runs child (tree_runs inside r).3 among).4).1
 
   -- a call that asks is within the limit
-  asks_within : {f : Frame} {level : ℕ} {call : CallRequest} {node : CallNode} {before after : Moment H B} {cut : Bool} (child : CallNode) → Runs o w f level call node before after cut → Contains (seen node).children child → level ≤ w.engine.limits.level
+  asks_within : {f : Frame} {level : ℕ} {call : CallRequest} {node : CallNode} {before after : Moment H B} {cut : Bool} (child : CallNode) → Runs o w f level call node before after cut
+      → Contains (seen node).children child → level ≤ w.engine.limits.level
   asks_within child (not_begun {node = node} b s) among = absurd (no_children child (seen node).children (ap (λ (x : Seen). x.children) s) among)
   asks_within child (ended {node = node} b d s) among = absurd (no_children child (seen node).children (ap (λ (x : Seen). x.children) s) among)
   asks_within child (host_answered {node = node} b d a s) among = absurd (no_children child (seen node).children (ap (λ (x : Seen). x.children) s) among)
@@ -273,6 +285,7 @@ module _ {H B : Type 0} (o : Objects H B) (w : World) where
   asks_within child (cut_short {f = f} {level = level} {call = call} {plan = plan} {pick = p} b d starts steps r s) among = runs_within w.engine f level call plan p d
 
   -- so no call of a tree is more than one level above it
-  pub tree_within : {node root : CallNode} (inside : InTree node root) {f : Frame} {level : ℕ} {call : CallRequest} {before after : Moment H B} {cut : Bool} → Runs o w f level call root before after cut → level ≤ w.engine.limits.level + 1 → (seen node).level ≤ w.engine.limits.level + 1
+  pub tree_within : {node root : CallNode} (inside : InTree node root) {f : Frame} {level : ℕ} {call : CallRequest} {before after : Moment H B} {cut : Bool}
+      → Runs o w f level call root before after cut → level ≤ w.engine.limits.level + 1 → (seen node).level ≤ w.engine.limits.level + 1
   tree_within is_root r h = omega (arith, (runs_shows r).1)
   tree_within (is_below {child = child} among below) r h = tree_within below (child_runs child r among).4 (omega (arith, asks_within child r among))

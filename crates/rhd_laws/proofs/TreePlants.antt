@@ -25,7 +25,8 @@ unfolding end_of
 no_end e plan pick request carry end h = absurd cc
 
 module _ {H B : Type 0} (o : Objects H B) (w : World) (f : Frame) (level : ℕ) (call : CallRequest) (plan : Plan) (pick : Pick) where
-  dropped_by : {step : NativeStep} {carries : List Carry} {children : List CallNode} {end : End} {cut : Bool} → Requests o w f level call plan pick step carries children end cut → (request : CallRequest) (carry : Carry) → step ≡ Ask request carry → children ≡ [] → ⊥
+  dropped_by : {step : NativeStep} {carries : List Carry} {children : List CallNode} {end : End} {cut : Bool} → Requests o w f level call plan pick step carries children end cut
+      → (request : CallRequest) (carry : Carry) → step ≡ Ask request carry → children ≡ [] → ⊥
   dropped_by (no_more {end = end} e) request carry is none = no_end w.engine plan pick request carry end (sym (ap (end_of w.engine plan pick) is) ∙ e)
   dropped_by (the_last is' short e) request carry is none = absurd cc
   dropped_by (one_then is' next rest) request carry is none = absurd cc
@@ -34,13 +35,15 @@ module _ {H B : Type 0} (o : Objects H B) (w : World) (f : Frame) (level : ℕ) 
   pub child_dropped : (request : CallRequest) (carry : Carry) (carries : List Carry) (end : End) (cut : Bool) → Requests o w f level call plan pick (Ask request carry) carries [] end cut → ⊥
   child_dropped request carry carries end cut requests = dropped_by requests request carry refl refl
 
-  other_by : {step : NativeStep} {carries : List Carry} {children : List CallNode} {end : End} {cut : Bool} → Requests o w f level call plan pick step carries children end cut → (request : CallRequest) (carry : Carry) (child : CallNode) (rest : List CallNode) → step ≡ Ask request carry → children ≡ child ∷ rest → (seen child).call ≡ request
+  other_by : {step : NativeStep} {carries : List Carry} {children : List CallNode} {end : End} {cut : Bool} → Requests o w f level call plan pick step carries children end cut
+      → (request : CallRequest) (carry : Carry) (child : CallNode) (rest : List CallNode) → step ≡ Ask request carry → children ≡ child ∷ rest → (seen child).call ≡ request
   other_by (no_more e) request carry child rest is these = absurd cc
   other_by (the_last {carry = c} {child = n} is' short e) request carry child rest is these = let same : Ask (seen n).call c ≡ Ask request carry = sym is' ∙ is in let first : n ≡ child = cc in sym (ap (λ (x : CallNode). (seen x).call) first) ∙ cc
   other_by (one_then {carry = c} {child = n} is' next rest') request carry child rest is these = let same : Ask (seen n).call c ≡ Ask request carry = sym is' ∙ is in let first : n ≡ child = cc in sym (ap (λ (x : CallNode). (seen x).call) first) ∙ cc
 
   -- its first child has no other call than the one that it asks for
-  pub another_call : (request : CallRequest) (carry : Carry) (carries : List Carry) (child : CallNode) (children : List CallNode) (end : End) (cut : Bool) → Requests o w f level call plan pick (Ask request carry) carries (child ∷ children) end cut → (seen child).call ≡ request
+  pub another_call : (request : CallRequest) (carry : Carry) (carries : List Carry) (child : CallNode) (children : List CallNode) (end : End) (cut : Bool)
+      → Requests o w f level call plan pick (Ask request carry) carries (child ∷ children) end cut → (seen child).call ≡ request
   another_call request carry carries child children end cut requests = other_by requests request carry child children refl refl
 
   second_by : {step : NativeStep} {carries : List Carry} {children : List CallNode} {end : End} {cut : Bool} → Requests o w f level call plan pick step carries children end cut → (request : CallRequest) (carry : Carry) (child : CallNode) →

@@ -71,13 +71,15 @@ has_prefix name prefix h = (starts_is Decides-eqb name prefix _ refl).0 h
 has_no_prefix : (name prefix rest : Bytes) → starts_with nat_eq name prefix ≡ false → name ≡ prefix ++ rest → ⊥
 has_no_prefix name prefix rest h e = let q : false ≡ true = sym h ∙ (starts_is Decides-eqb name prefix _ refl).1 rest e in absurd cc
 
-no_access : (name : Bytes) → text_eq name (codes "index$get$") ≡ false → text_eq name (codes "index$set$") ≡ false → starts_with nat_eq name (codes "get$") ≡ false → starts_with nat_eq name (codes "set$") ≡ false → (m : ℕ) → IsAccess name m → ⊥
+no_access : (name : Bytes) → text_eq name (codes "index$get$") ≡ false → text_eq name (codes "index$set$") ≡ false → starts_with nat_eq name (codes "get$") ≡ false
+    → starts_with nat_eq name (codes "set$") ≡ false → (m : ℕ) → IsAccess name m → ⊥
 no_access name i j g s m (inl (is_getter p e n)) = has_no_prefix name (codes "get$") p g e
 no_access name i j g s m (inl (is_setter p e n)) = has_no_prefix name (codes "set$") p s e
 no_access name i j g s m (inr (is_index_getter e n)) = other_name name (codes "index$get$") i e
 no_access name i j g s m (inr (is_index_setter e n)) = other_name name (codes "index$set$") j e
 
-row_by : (e : EngineLists) (pos : Position) (name : Bytes) (args : List Tree) (i j g s : Bool) → text_eq name (codes "index$get$") ≡ i → text_eq name (codes "index$set$") ≡ j → starts_with nat_eq name (codes "get$") ≡ g → starts_with nat_eq name (codes "set$") ≡ s
+row_by : (e : EngineLists) (pos : Position) (name : Bytes) (args : List Tree) (i j g s : Bool) → text_eq name (codes "index$get$") ≡ i → text_eq name (codes "index$set$") ≡ j
+    → starts_with nat_eq name (codes "get$") ≡ g → starts_with nat_eq name (codes "set$") ≡ s
     → Row name (length (map (display e) args)) (fault_number (by_tests e pos name args i j g s))
 row_by e pos name args true j g s a b c d = indexer_row name _ 2 _ (λ i h. is_index_getter (same_name name (codes "index$get$") a) h) (get_index_form pos (map (display e) args))
 row_by e pos name args false true g s a b c d = indexer_row name _ 3 _ (λ i h. is_index_setter (same_name name (codes "index$set$") b) h) (set_index_form pos (map (display e) args))

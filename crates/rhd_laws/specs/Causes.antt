@@ -105,7 +105,8 @@ IsOfOtherKind want kind v = (want ≡ Some kind) × (kind ≡ tags.Dynamic → �
 -- What a function answered is no text for a printer that is set; or else what the call makes of it isn't of the wanted kind. The text says which type was wanted, and the value at the end was refused.
 pub data IsMismatch (printers : Printers) (plan : Plan) (pick : Pick) (answer : Tree) : Bytes → Tree → Type 0 where
   isnt_text : {wanted : Bytes} {value : Tree} → Prints printers plan pick true → text_in answer.kind ≡ None → wanted ≡ codes "string" → value ≡ answer → IsMismatch printers plan pick answer wanted value
-  isnt_wanted : {wanted : Bytes} {value : Tree} (kind : TypeTag) → IsPrintable printers plan pick answer → Makes printers plan pick answer value → IsOfOtherKind plan.want kind value → wanted ≡ type_name kind → IsMismatch printers plan pick answer wanted value
+  isnt_wanted : {wanted : Bytes} {value : Tree} (kind : TypeTag) → IsPrintable printers plan pick answer → Makes printers plan pick answer value → IsOfOtherKind plan.want kind value
+      → wanted ≡ type_name kind → IsMismatch printers plan pick answer wanted value
 
 -- The function that a node shows came through the node's children to this last step, and the call ends with it.
 pub record EndsWith {H B : Type 0} (o : Objects H B) (w : World) (f : Frame) (node : Seen) (pick : Pick) (last : NativeStep) : Type 0 where
