@@ -126,7 +126,7 @@ beside() {
 
 if [ $# -gt 0 ]; then
     twin=$1
-    program=$top/crates/rhd_tool/out/rhd_tool
+    program=$top/crates/rhd/out/rhd
     beside calls 20000 200000
     beside values 3000 30000
 fi

@@ -10,7 +10,7 @@
 # tools/refuse-memory.sh [TEXT..]: those of examples/ where none is given. It needs gcc.
 set -eu
 top=$(cd "$(dirname "$0")/.." && pwd)
-program=$top/crates/rhd_tool/out/rhd_tool
+program=$top/crates/rhd/out/rhd
 work=$(mktemp -d)
 trap 'rm -rf "$work"' EXIT
 "$top/rhd" run </dev/null >/dev/null

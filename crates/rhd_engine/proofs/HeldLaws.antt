@@ -19,9 +19,12 @@ use Rattle.rhd_module.specs.declared.declaration.Declaration.{Declaration}
 use Rattle.rhd_module.specs.Keys.{key_eq}
 use Rattle.rhd_module.specs.Tree.{ModuleTree, Pairs}
 use Rattle.rhd_module.specs.Shown.{own_decl}
-use Rattle.rhd_module.specs.Registered.{put, with_decl, native_decl, pure_by_name}
+use Rattle.rhd_module.specs.Registered.{put, with_decl, native_key, native_decl, pure_by_name}
+use Rattle.rhd_module.specs.declared.fault.DeclFault.{DeclFault}
+use Rattle.rhd_module.specs.declared.fault.DeclFault.TheVariants.{UnknownNumber, OutOfMemory}
+use Rattle.std.proofs.lemmas.List.{length-map}
 use Rattle.rhd_engine.specs.Held.{is_below, func_held, names_held, all_held}
-use Rattle.rhd_engine.specs.Registered.{in_first}
+use Rattle.rhd_engine.specs.Registered.{in_first, native_in_first, RegisteredIn}
 
 abbrev is_held : ℕ → Declaration → Bool
 is_held n d = func_held n d.func
@@ -88,21 +91,6 @@ pub first_held : (n : ℕ) (k : Key) (d : Declaration) (ms : List ModuleTree) �
 first_held n k d [] h all = refl
 first_held n k d (m ∷ ms) h all = let p = parts (names_held n m) (all_held n ms) all in both (names_held n (with_decl k d m)) (all_held n ms) (stays_held n k d m h p.0) p.1
 
--- whether or not it is
-pub first_either : {E : Type 0} (r : Result (Unit {0}) E) (n : ℕ) (k : Key) (d : Declaration) (old new : List ModuleTree) → OnOk r (new ≡ in_first (with_decl k d) old) → OnErr r (new ≡ old)
-    → func_held n d.func ≡ true → all_held n old ≡ true → all_held n new ≡ true
-first_either (Ok u) n k d old new ok err h all = ap (all_held n) ok ∙ first_held n k d old h all
-first_either (Err e) n k d old new ok err h all = ap (all_held n) err ∙ all
-
--- as many modules as before
-pub first_count : {E : Type 0} (r : Result (Unit {0}) E) (k : Key) (d : Declaration) (old new : List ModuleTree) → OnOk r (new ≡ in_first (with_decl k d) old) → OnErr r (new ≡ old) → length new ≡ length old
-first_count (Ok u) k d old new ok err = ap length ok ∙ same_count old
-  where
-    same_count : (ms : List ModuleTree) → length (in_first (with_decl k d) ms) ≡ length ms
-    same_count [] = refl
-    same_count (m ∷ ms) = refl
-first_count (Err e) k d old new ok err = ap length err
-
 -- the native of a declaration that is registered
 native_number : (name : Bytes) (info : NativeInfo) (id : FnId) → native_of (native_decl name info id).func ≡ Some id
 native_number name info id =
@@ -110,8 +98,26 @@ native_number name info id =
     in by info.is_method
 
 -- it is held
-pub native_held : {N : Type 0} (view : N → NativeInfo) (items : List N) (name : Bytes) (id : FnId) (native : N) → slice_get items id.0 ≡ Some native → func_held (length items) (native_decl name (view native) id).func ≡ true
-native_held view items name id native some = holds_number items (native_decl name (view native) id).func id native (native_number name (view native) id) some
+info_held : {N : Type 0} (view : N → NativeInfo) (items : List N) (name : Bytes) (id : FnId) (info : NativeInfo) → slice_get (map view items) id.0 ≡ Some info → func_held (length items) (native_decl name info id).func ≡ true
+info_held view items name id info some =
+    ap (λ (n : ℕ). func_held n (native_decl name info id).func) (sym (length-map items view)) ∙ holds_number (map view items) (native_decl name info id).func id info (native_number name info id) some
+
+-- it stays so in each module where a native is registered in the first of them, or refused
+pub registered_held : {N : Type 0} (view : N → NativeInfo) (items : List N) (name : Bytes) (id : FnId) (r : Result (Unit {0}) DeclFault) (old new : List ModuleTree) → RegisteredIn name id (map view items) old r new → all_held (length items) old ≡ true → all_held (length items) new ≡ true
+registered_held view items name id (Ok u) old new is all =
+    ap (all_held (length items)) is.2 ∙ first_held (length items) (native_key name is.0) (native_decl name is.0 id) old (info_held view items name id is.0 is.1) all
+registered_held view items name id (Err (UnknownNumber n h)) old new is all = ap (all_held (length items)) is.3 ∙ all
+registered_held view items name id (Err OutOfMemory) old new is all = ap (all_held (length items)) is ∙ all
+
+-- and there are as many modules as before
+pub registered_count : (name : Bytes) (id : FnId) (natives : List NativeInfo) (r : Result (Unit {0}) DeclFault) (old new : List ModuleTree) → RegisteredIn name id natives old r new → length new ≡ length old
+registered_count name id natives (Ok u) old new is = ap length is.2 ∙ same_count old
+  where
+    same_count : (ms : List ModuleTree) → length (native_in_first name id is.0 ms) ≡ length ms
+    same_count [] = refl
+    same_count (m ∷ ms) = refl
+registered_count name id natives (Err (UnknownNumber n h)) old new is = ap length is.3
+registered_count name id natives (Err OutOfMemory) old new is = ap length is
 
 -- What a key finds in a module.
 

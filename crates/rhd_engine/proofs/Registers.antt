@@ -1,9 +1,16 @@
 -- A registration in the global namespace.
-use Rattle.std.proofs.Common.{◌≡◌, ◌≤◌, ℕ, List, length, map, refl, sym, ap, ◌∙◌, inl, inr}
-use Rattle.std.specs.Prelude.{Option, Some, None, slice_get, option_map}
+use Rattle.std.proofs.Common.{◌≡◌, ◌≤◌, ◌<◌, ℕ, true, false, List, [], ◌∷◌, length, map, get_or, refl, sym, ap, ◌∙◌, inl, inr, arith}
+use Rattle.std.specs.Prelude.{Option, Some, None, Result, Ok, Err, OnOk, OnErr, is_err, slice_get, slice_set, option_map}
 use Rattle.std.proofs.lemmas.Option.{slice_get_cases, slice_get-map}
 use Rattle.std.proofs.lemmas.List.{length-map}
+use Rattle.rhd_value.specs.Tree.{Bytes}
+use Rattle.rhd_value.specs.declared.tag.FnId.{FnId}
 use Rattle.rhd_func.specs.Natives.{NativeInfo}
+use Rattle.rhd_module.specs.Tree.{ModuleTree}
+use Rattle.rhd_module.specs.declared.fault.DeclFault.{DeclFault}
+use Rattle.rhd_module.specs.declared.fault.DeclFault.TheVariants.{UnknownNumber, OutOfMemory}
+use Rattle.rhd_engine.specs.Engine.{EngineLists}
+use Rattle.rhd_engine.specs.Registered.{in_first, RegisteredIn, Registered}
 
 -- a number of which nothing is held is past the end
 pub past_end : {N : Type 0} (items : List N) (i : ℕ) → slice_get items i ≡ None → length items ≤ i
@@ -15,3 +22,27 @@ past_end items i none = elim (slice_get_cases items i).1 [
 -- what the native of a number says of itself
 pub says_itself : {N : Type 0} (view : N → NativeInfo) (items : List N) (i : ℕ) (native : N) → slice_get items i ≡ Some native → slice_get (map view items) i ≡ Some (view native)
 says_itself view items i native some = slice_get-map view items i ∙ ap (option_map view) some
+
+-- what holds of an answer, and of a fault
+pub on_ok_of : {T E P : Type 0} (r : Result T E) → OnOk r P → is_err r ≡ false → P
+on_ok_of (Ok x) h e = h
+on_ok_of (Err x) h e = absurd cc
+
+pub on_err_of : {T E P : Type 0} (r : Result T E) → OnErr r P → is_err r ≡ true → P
+on_err_of (Ok x) h e = absurd cc
+on_err_of (Err x) h e = h
+
+-- the first of some modules, set anew
+pub set_first : (change : ModuleTree → ModuleTree) (ms : List ModuleTree) (m new : ModuleTree) → 0 < length ms → m ≡ get_or ms 0 m → new ≡ change m → slice_set ms 0 new ≡ in_first change ms
+set_first change [] m new h is e = absurd (omega arith)
+set_first change (x ∷ ms) m new h is e = ap (λ (y : ModuleTree). y ∷ ms) (e ∙ ap change is)
+
+pub set_first_same : (ms : List ModuleTree) (m new : ModuleTree) → 0 < length ms → m ≡ get_or ms 0 m → new ≡ m → slice_set ms 0 new ≡ ms
+set_first_same [] m new h is e = absurd (omega arith)
+set_first_same (x ∷ ms) m new h is e = ap (λ (y : ModuleTree). y ∷ ms) (e ∙ is)
+
+-- a registration of an engine is that of its global namespace
+pub engine_registered : (name : Bytes) (id : FnId) (e : EngineLists) (r : Result (Unit {0}) DeclFault) (new : List ModuleTree) → RegisteredIn name id e.natives e.globals r new → Registered name id e r (record e { globals = new })
+engine_registered name id e (Ok u) new is = (is.0, is.1, ap (λ (ms : List ModuleTree). record e { globals = ms }) is.2)
+engine_registered name id e (Err (UnknownNumber n h)) new is = (is.0, is.1, is.2, ap (λ (ms : List ModuleTree). record e { globals = ms }) is.3)
+engine_registered name id e (Err OutOfMemory) new is = ap (λ (ms : List ModuleTree). record e { globals = ms }) is

@@ -14,11 +14,20 @@ abbrev pub in_first : (ModuleTree → ModuleTree) → List ModuleTree → List M
 in_first change [] = []
 in_first change (m ∷ ms) = change m ∷ ms
 
--- a native under a name in the global namespace, in the place of an equal declaration's
-abbrev pub with_native : Bytes → FnId → NativeInfo → EngineLists → EngineLists
-with_native name id info e = record e { globals = in_first (with_decl (native_key name info) (native_decl name info id)) e.globals }
+-- a native under a name in the first of some modules, in the place of an equal declaration's
+abbrev pub native_in_first : Bytes → FnId → NativeInfo → List ModuleTree → List ModuleTree
+native_in_first name id info ms = in_first (with_decl (native_key name info) (native_decl name info id)) ms
 
--- what a registration answers and leaves: a number that isn't held is refused, and then, or where memory ran out, all is as before
+-- what a registration answers, and the modules that it leaves: a number that isn't held is refused, and then, or where memory ran out, all is as before
+abbrev pub RegisteredIn : Bytes → FnId → List NativeInfo → List ModuleTree → Result (Unit {0}) DeclFault → List ModuleTree → Type 0
+RegisteredIn name id natives old (Ok u) new = (info : NativeInfo) × (info_of natives id ≡ Some info) × (new ≡ native_in_first name id info old)
+RegisteredIn name id natives old (Err (UnknownNumber number held)) new = (number ≡ id.0) × (held ≡ length natives) × (held ≤ number) × (new ≡ old)
+RegisteredIn name id natives old (Err OutOfMemory) new = new ≡ old
+
+-- the same of the global namespace of an engine
+abbrev pub with_native : Bytes → FnId → NativeInfo → EngineLists → EngineLists
+with_native name id info e = record e { globals = native_in_first name id info e.globals }
+
 abbrev pub Registered : Bytes → FnId → EngineLists → Result (Unit {0}) DeclFault → EngineLists → Type 0
 Registered name id old (Ok u) new = (info : NativeInfo) × (info_of old.natives id ≡ Some info) × (new ≡ with_native name id info old)
 Registered name id old (Err (UnknownNumber number held)) new = (number ≡ id.0) × (held ≡ length old.natives) × (held ≤ number) × (new ≡ old)

@@ -99,15 +99,6 @@ impl Engine {
         ensures registered { Registered name.now id (lists_of info self.old) result (lists_of info self.new) }
         ensures natives { self.new.natives ≡ self.old.natives }
     {
-        let Some(native) = self.natives.get(id) else {
-            return Err(DeclFault::UnknownNumber {
-                number: u64::from(id.0),
-                length: self.natives.len() as u64,
-            });
-        };
-        match self.globals.register_in_first(alloc, name, native, id) {
-            Ok(()) => Ok(()),
-            Err(OutOfMemory) => Err(DeclFault::OutOfMemory),
-        }
+        self.globals.register_in_first(alloc, name, &self.natives, id)
     }
 }

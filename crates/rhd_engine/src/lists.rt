@@ -1,12 +1,12 @@
 //! Lists of modules.
 
-ghost use Rattle.std.specs.Prelude.{◌≡◌, ◌++◌, ◌∷◌, [], if◌then◌else◌, is_ok, length, ◌<◌, OnOk, OnErr};
-ghost use Rattle.rhd_module.specs.Registered.{with_decl, native_key, native_decl};
-ghost use Rattle.rhd_engine.specs.Registered.{in_first};
+ghost use Rattle.std.specs.Prelude.{◌≡◌, ◌++◌, ◌∷◌, [], if◌then◌else◌, is_ok, length, ◌<◌};
+ghost use Rattle.rhd_func.specs.Infos.{infos_of};
+ghost use Rattle.rhd_engine.specs.Registered.{RegisteredIn};
 ghost use Rattle.rhd_engine.specs.Lists.{Popped};
 
-use rhd_func::PluginFunc;
-use rhd_module::SharedModule;
+use rhd_func::Natives;
+use rhd_module::{DeclFault, SharedModule};
 use rhd_value::{FnId, OutOfMemory, Text};
 use std::alloc::Global;
 use std::marker::Model;
@@ -50,19 +50,29 @@ impl ModuleList {
         self.items.pop()
     }
 
-    /// Registers a native under a name in the first module, in the place of an equal declaration's.
+    /// Registers the native of a number under a name in the first module, in the place of an equal
+    /// declaration's. A number that isn't held is refused.
     pub(crate) fn register_in_first(
         &mut self,
         alloc: Global,
         name: &Text,
-        native: &Box<dyn PluginFunc>,
+        natives: &Natives,
         id: FnId,
-    ) -> Result<(), OutOfMemory>
+    ) -> Result<(), DeclFault>
         requires { 0 < length self.old }
-        ensures ok { OnOk result (self.new ≡ in_first (with_decl (native_key name.now (info native.now)) (native_decl name.now (info native.now) id)) self.old) }
-        ensures err { OnErr result (self.new ≡ self.old) }
+        ensures { RegisteredIn name.now id (infos_of info natives.now) self.old result self.new }
     {
-        self.items[0].set_native_fn(alloc, name, native, id)
+        let Some(native) = natives.get(id) else {
+            return Err(DeclFault::UnknownNumber {
+                number: u64::from(id.0),
+                length: natives.len() as u64,
+            });
+        };
+        let set = self.items[0].set_native_fn(alloc, name, native, id);
+        if set.is_err() {
+            return Err(DeclFault::OutOfMemory);
+        }
+        Ok(())
     }
 
     pub fn len(&self) -> usize

@@ -4,16 +4,16 @@ use Rattle.std.specs.Prelude.{Option, Result, Ok, Err, OnOk, OnErr, is_err}
 use Rattle.std.proofs.lemmas.List.{get_or_push}
 use Rattle.std.specs.Global.{Box}
 use Rattle.rhd_func.specs.declared.request.CallRequest.{CallRequest}
-use Rattle.rhd_session.specs.Engine.{Frame}
+use Rattle.rhd_engine.specs.Engine.{Frame}
 use Rattle.rhd_session.specs.World.{World, Objects, Moment}
-use Rattle.rhd_session.specs.declared.node.CallNode.{CallNode}
+use Rattle.rhd_call.specs.declared.node.CallNode.{CallNode}
 use Rattle.rhd_session.specs.declared.machine.Asking.{Asking}
 use Rattle.rhd_session.specs.declared.machine.Outcome.{Outcome}
-use Rattle.rhd_session.specs.declared.reply.Reply.{Reply}
-use Rattle.rhd_session.specs.declared.reply.Reply.TheVariants.{Called}
-use Rattle.rhd_session.specs.Answered.{CallReplied, IsBegunFor}
-use Rattle.rhd_session.specs.Entered.{entered}
-use Rattle.rhd_session.specs.Seen.{seen, begun_call}
+use Rattle.rhd_call.specs.declared.reply.Reply.{Reply}
+use Rattle.rhd_call.specs.declared.reply.Reply.TheVariants.{Called}
+use Rattle.rhd_call.specs.Seen.{seen}
+use Rattle.rhd_session.specs.Answered.{CallReplied}
+use Rattle.rhd_session.specs.Filling.{begun_call, IsBegunFor}
 use Rattle.rhd_session.specs.Waits.{outcome_of, Comes_to}
 
 -- what holds of an answer, and of a fault
@@ -48,11 +48,11 @@ module _ {H B : Type 0} (o : Objects H B) (w : World) where
   -- the call of a reply goes on where its node is taken out
   pub taken_comes : (base : Frame) (reply taken : Reply) (node own : CallNode) (asking : Option (Box Asking)) (outcome : Outcome) (call : CallRequest) (before after : Moment H B) →
       reply ≡ Called node → taken ≡ reply → taken ≡ Called own → outcome ≡ outcome_of own asking →
-      ((n : ℕ) → Comes_to o w (entered base n) 1 call (outcome_of node asking) before after) →
-      (n : ℕ) → Comes_to o w (entered base n) 1 call outcome before after
-  taken_comes base reply taken node own asking outcome call before after is same out e step n =
+      Comes_to o w base 1 call (outcome_of node asking) before after →
+      Comes_to o w base 1 call outcome before after
+  taken_comes base reply taken node own asking outcome call before after is same out e step =
       let nodes : node ≡ own = one_node node own (sym is ∙ sym same ∙ out) in
-      subst (λ (x : Outcome). Comes_to o w (entered base n) 1 call x before after) (ap (λ (x : CallNode). outcome_of x asking) nodes ∙ sym e) (step n)
+      subst (λ (x : Outcome). Comes_to o w base 1 call x before after) (ap (λ (x : CallNode). outcome_of x asking) nodes ∙ sym e) step
 
   -- the reply to a call, in the place of the one that was begun
   pub placed : (base : Frame) (front all : List Reply) (n : ℕ) (first reply : Reply) (request same : CallRequest) (before after : Moment H B) →

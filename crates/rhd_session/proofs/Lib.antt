@@ -1,14 +1,8 @@
 pub mod Registers
-pub mod HeldLaws
 pub mod Stepped
 pub mod Filled
 pub mod Found
 pub mod Unpicked
 pub mod Stack
 pub mod Lists
-pub mod Tables
-pub mod PatternWalk
-pub mod Places
 pub mod HostEnds
-pub mod Unfound
-pub mod NotFoundSamples

@@ -2,14 +2,14 @@
 use Rattle.std.proofs.Common.{◌≡◌, ℕ, ◌+◌, ◌<◌, ◌≤◌, List, [], ◌∷◌, ◌++◌, refl, sym, subst, length, ap, suc, take, get_or, slice_get, Some, ◌∙◌, arith}
 use Rattle.std.proofs.lemmas.List.{take_more, length-take, length-append}
 use Rattle.std.proofs.lemmas.Option.{get_or_from_slice_get}
-use Rattle.std.proofs.Math.Seq.{take-append_seam, get_or-append_seam}
+use Rattle.std.proofs.Math.Seq.{take-append_seam, get_or-append_seam, take-length}
 use Rattle.std.specs.Iterator.{Yields}
 use Rattle.std.specs.Vec.Iter.{into_iter_items, into_iter_steps}
 use Rattle.std.specs.declared.vec.IntoIter.{IntoIter}
-use Rattle.rhd_session.specs.declared.command.Command.{Command}
-use Rattle.rhd_session.specs.declared.command.Command.TheVariants as commands
-use Rattle.rhd_session.specs.declared.reply.Reply.{Reply}
-use Rattle.rhd_session.specs.Engine.{Frame}
+use Rattle.rhd_call.specs.declared.command.Command.{Command}
+use Rattle.rhd_call.specs.declared.command.Command.TheVariants as commands
+use Rattle.rhd_call.specs.declared.reply.Reply.{Reply}
+use Rattle.rhd_engine.specs.Engine.{Frame}
 use Rattle.rhd_session.specs.World.{World, Objects, Moment}
 use Rattle.rhd_session.specs.Answered.{Replied, Answered, Begins}
 
@@ -77,6 +77,18 @@ module _ {H B : Type 0} (o : Objects H B) where
   answered_length w f s (c ∷ commands) (p ∷ replies) w2 f2 s2 a = ap suc (answered_length a.0 a.1 a.2 commands replies w2 f2 s2 a.4)
   answered_length w f s [] (p ∷ replies) w2 f2 s2 a = absurd a
   answered_length w f s (c ∷ commands) [] w2 f2 s2 a = absurd a
+
+  -- all commands are answered
+  pub run_taken : (w : World) (f : Frame) (s : Moment H B) (all done : List Command) (replies now : List Reply) (w1 : World) (f1 : Frame) (s1 : Moment H B) →
+      done ≡ all → now ≡ replies → Answered o w f s done replies w1 f1 s1 → Answered o w f s all now w1 f1 s1 × (length now ≡ length all)
+  run_taken w f s all done replies now w1 f1 s1 is e a =
+      let b : Answered o w f s all now w1 f1 s1 =
+      subst (λ (cs : List Command). Answered o w f s cs now w1 f1 s1) is (subst (λ (rs : List Reply). Answered o w f s done rs w1 f1 s1) (sym e) a) in
+      (b, answered_length w f s all now w1 f1 s1 b)
+
+  pub run_whole : (w : World) (f : Frame) (s : Moment H B) (all : List Command) (i : ℕ) (replies now : List Reply) (w1 : World) (f1 : Frame) (s1 : Moment H B) →
+      i ≡ length all → now ≡ replies → Answered o w f s (take i all) replies w1 f1 s1 → Answered o w f s all now w1 f1 s1 × (length now ≡ length all)
+  run_whole w f s all i replies now w1 f1 s1 n e a = run_taken w f s all (take i all) replies now w1 f1 s1 (ap (λ (k : ℕ). take k all) n ∙ take-length all) e a
 
   -- stopped after as many commands as replies
   pub stopped_at : (w : World) (f : Frame) (s : Moment H B) (commands : List Command) (i : ℕ) (replies now : List Reply) (w1 w2 : World) (f1 f2 : Frame) (s1 : Moment H B) →

@@ -1,115 +1,76 @@
 -- A registration is answered by its first cause of a refusal, or is done.
-use Rattle.std.proofs.Common.{◌≡◌, ◌≤◌, ◌<◌, ℕ, List, [], ◌∷◌, ◌++◌, length, map, refl, sym, ap, subst, ◌∙◌, inl, inr, get_or, arith}
-use Rattle.std.specs.Prelude.{zero, suc, Option, Some, None, slice_get, slice_set, option_map}
+use Rattle.std.proofs.Common.{◌≡◌, ◌≤◌, ◌<◌, ℕ, List, [], ◌∷◌, ◌++◌, length, refl, sym, ap, subst, ◌∙◌, get_or, arith}
+use Rattle.std.specs.Prelude.{zero, suc, Option, Some, None, Err, slice_get, slice_set, option_map}
 use Rattle.std.proofs.lemmas.Bool.{lt-ltb, le-ltb}
-use Rattle.std.proofs.lemmas.Option.{slice_get_cases, slice_get_within, slice_get-map}
+use Rattle.std.proofs.lemmas.Option.{slice_get_within}
 use Rattle.rhd_value.specs.Tree.{Bytes}
 use Rattle.rhd_value.specs.declared.tag.FnId.{FnId}
 use Rattle.rhd_func.specs.Natives.{NativeInfo, info_of}
-use Rattle.rhd_module.specs.declared.key.Key.{Key}
-use Rattle.rhd_module.specs.declared.declaration.Declaration.{Declaration}
-use Rattle.rhd_module.specs.declared.fault.DeclFault.TheVariants.{UnknownNumber}
+use Rattle.rhd_module.specs.declared.fault.DeclFault.{DeclFault}
+use Rattle.rhd_module.specs.declared.fault.DeclFault.TheVariants.{UnknownNumber, OutOfMemory}
 use Rattle.rhd_func.specs.declared.func.ScriptFuncDef.{ScriptFuncDef}
 use Rattle.rhd_module.specs.Tree.{ModuleTree, empty_module}
-use Rattle.rhd_module.specs.Registered.{with_decl, native_key, native_decl, script_key, script_decl}
+use Rattle.rhd_module.specs.Registered.{with_decl, script_key, script_decl}
 use Rattle.rhd_value.specs.Firsts.{first_of}
-use Rattle.rhd_session.specs.declared.command.Command.{Command}
-use Rattle.rhd_session.specs.declared.command.ModuleId.{ModuleId}
-use Rattle.rhd_session.specs.declared.command.Command.TheVariants as commands
-use Rattle.rhd_session.specs.declared.reply.Reply.{Reply}
-use Rattle.rhd_session.specs.declared.reply.Reply.TheVariants.{Done, Made, Refused}
-use Rattle.rhd_session.specs.Engine.{Frame}
+use Rattle.rhd_call.specs.declared.command.Command.{Command}
+use Rattle.rhd_call.specs.declared.command.ModuleId.{ModuleId}
+use Rattle.rhd_call.specs.declared.command.Command.TheVariants as commands
+use Rattle.rhd_call.specs.declared.reply.Reply.{Reply}
+use Rattle.rhd_call.specs.declared.reply.Reply.TheVariants.{Done, Made, Refused}
+use Rattle.rhd_engine.specs.Engine.{EngineLists, Frame}
 use Rattle.rhd_session.specs.World.{World}
-use Rattle.rhd_session.specs.Commands.{cause, change, Change, operands, pop_operand, unknown_of, registered, changed, with_libs, but_last, in_first}
-use Rattle.rhd_session.specs.Answered.{Applied, refused, done}
-
-abbrev pub Found : Type 0
-Found = Option (Key × Declaration)
-
--- how a native that says this of itself is declared
-abbrev pub declared_as : Bytes → FnId → NativeInfo → Key × Declaration
-declared_as name id info = (native_key name info, native_decl name info id)
-
--- a native that is held
-pub declared_known : {N : Type 0} (view : N → NativeInfo) (items : List N) (name : Bytes) (id : FnId) (native : N) (key : Key) (declaration : Declaration) → slice_get items id.0 ≡ Some native → key ≡ native_key name (view native) → declaration ≡ native_decl name (view native) id
-    → ◌≡◌ {A = Found} (Some (key, declaration)) (option_map (declared_as name id) (slice_get (map view items) id.0))
-declared_known view items name id native key declaration some k d =
-    let there : slice_get (map view items) id.0 ≡ Some (view native) = slice_get-map view items id.0 ∙ ap (option_map view) some in
-    (λ i. Some (k i, d i)) ∙ ap (option_map (declared_as name id)) (sym there)
-
--- one that isn't
-pub declared_unknown : {N : Type 0} (view : N → NativeInfo) (items : List N) (name : Bytes) (id : FnId) → slice_get items id.0 ≡ None
-    → ◌≡◌ {A = Found} None (option_map (declared_as name id) (slice_get (map view items) id.0))
-declared_unknown view items name id none =
-    let there : slice_get (map view items) id.0 ≡ None = slice_get-map view items id.0 ∙ ap (option_map view) none in
-    ap (option_map (declared_as name id)) (sym there)
-
-mapped_none : (name : Bytes) (id : FnId) (o : Option NativeInfo) → ◌≡◌ {A = Found} None (option_map (declared_as name id) o) → o ≡ None
-mapped_none name id None e = refl
-mapped_none name id (Some i) e = absurd cc
-
-past_end : {N : Type 0} (items : List N) (i : ℕ) → slice_get items i ≡ None → length items ≤ i
-past_end items i none = elim (slice_get_cases items i).1 [
-  | inl held ↦ absurd (let e : Some held.0 ≡ None = sym held.2 ∙ none in cc)
-  | inr past ↦ past.0
-]
+use Rattle.rhd_engine.specs.Registered.{with_native, Registered}
+use Rattle.rhd_session.specs.Commands.{cause, change, Change, operands, pop_operand, unknown_of, registered, changed, with_libs, but_last}
+use Rattle.rhd_session.specs.Answered.{Declares, refused, done}
 
 -- a number that isn't held is refused
-pub unknown : (w : World) (f : Frame) (name : Bytes) (id : FnId) (number held : ℕ) → ◌≡◌ {A = Found} None (option_map (declared_as name id) (info_of w.engine.natives id)) → number ≡ id.0 → held ≡ length w.engine.natives
-    → Applied w f (commands.RegisterFn name id) (Refused (UnknownNumber number held)) w f
-unknown w f name id number held none n h =
-    let past : length w.engine.natives ≤ id.0 = past_end w.engine.natives id.0 (mapped_none name id (info_of w.engine.natives id) none) in
-    let found : cause w f (commands.RegisterFn name id) ≡ Some (UnknownNumber id.0 (length w.engine.natives)) = rw (le-ltb id.0 (length w.engine.natives) past) refl in
+pub unknown : (w : World) (f : Frame) (name : Bytes) (id : FnId) (number held : ℕ) → number ≡ id.0 → held ≡ length w.engine.natives → held ≤ number → Declares w f (commands.RegisterFn name id) (Refused (UnknownNumber number held)) w f
+unknown w f name id number held n h past =
+    let found : cause w f (commands.RegisterFn name id) ≡ Some (UnknownNumber id.0 (length w.engine.natives)) = rw (le-ltb id.0 (length w.engine.natives) (omega (arith, n, h, past))) refl in
     refused (found ∙ (λ i. Some (UnknownNumber (sym n i) (sym h i))))
 
 -- a number that is held is registered
-registered_as : (w w2 : World) (f : Frame) (name : Bytes) (id : FnId) (info : NativeInfo) → info_of w.engine.natives id ≡ Some info → w2 ≡ (registered w f name id info).world → Applied w f (commands.RegisterFn name id) Done w2 f
-registered_as w w2 f name id info some made =
+pub known : (w w2 : World) (f : Frame) (name : Bytes) (id : FnId) (info : NativeInfo) → info_of w.engine.natives id ≡ Some info → w2 ≡ record w { engine = with_native name id info w.engine } → Declares w f (commands.RegisterFn name id) Done w2 f
+known w w2 f name id info some made =
     let none : cause w f (commands.RegisterFn name id) ≡ None = rw (lt-ltb id.0 (length w.engine.natives) (slice_get_within w.engine.natives id.0 info some)) refl in
     let new : change w f (commands.RegisterFn name id) ≡ Some (registered w f name id info) = ap (option_map (registered w f name id)) some in
-    subst (λ (w3 : World). Applied w f (commands.RegisterFn name id) Done w3 f) (sym made) (done none new)
+    subst (λ (w3 : World). Declares w f (commands.RegisterFn name id) Done w3 f) (sym made) (done none new)
 
-abbrev with_first : World → Key × Declaration → World
-with_first w p = record w { engine = record w.engine { globals = in_first (with_decl p.0 p.1) w.engine.globals } }
-
-known_by : (w w2 : World) (f : Frame) (name : Bytes) (id : FnId) (p : Key × Declaration) (o : Option NativeInfo) → info_of w.engine.natives id ≡ o → ◌≡◌ {A = Found} (Some p) (option_map (declared_as name id) o) → w2 ≡ with_first w p → Applied w f (commands.RegisterFn name id) Done w2 f
-known_by w w2 f name id p None same e made = absurd cc
-known_by w w2 f name id p (Some info) same e made = let q : p ≡ declared_as name id info = cc in registered_as w w2 f name id info same (made ∙ ap (with_first w) q)
-
-pub known : (w w2 : World) (f : Frame) (name : Bytes) (id : FnId) (key : Key) (declaration : Declaration) → ◌≡◌ {A = Found} (Some (key, declaration)) (option_map (declared_as name id) (info_of w.engine.natives id))
-    → w2 ≡ record w { engine = record w.engine { globals = in_first (with_decl key declaration) w.engine.globals } }
-    → Applied w f (commands.RegisterFn name id) Done w2 f
-known w w2 f name id key declaration e made = known_by w w2 f name id (key, declaration) (info_of w.engine.natives id) refl e made
+-- a fault that is no want of memory is the answer
+pub fault_refused : (w : World) (engine : EngineLists) (f : Frame) (name : Bytes) (id : FnId) (fault : DeclFault) → (fault ≡ OutOfMemory → ⊥) → Registered name id w.engine (Err fault) engine → Declares w f (commands.RegisterFn name id) (Refused fault) (record w { engine = engine }) f
+fault_refused w engine f name id (UnknownNumber number held) no r =
+    subst (λ (e : EngineLists). Declares w f (commands.RegisterFn name id) (Refused (UnknownNumber number held)) (record w { engine = e }) f) (sym r.3) (unknown w f name id number held r.0 r.1 r.2)
+fault_refused w engine f name id OutOfMemory no r = absurd (no refl)
 
 -- Modules and libraries.
 
 -- a number that isn't held, of the only operand
-pub refused_alone : (w : World) (f : Frame) (command : Command) (number held n h : ℕ) → operands w f command ≡ (number, held) ∷ [] → n ≡ number → h ≡ held → held ≤ number → Applied w f command (Refused (UnknownNumber n h)) w f
+pub refused_alone : (w : World) (f : Frame) (command : Command) (number held n h : ℕ) → operands w f command ≡ (number, held) ∷ [] → n ≡ number → h ≡ held → held ≤ number → Declares w f command (Refused (UnknownNumber n h)) w f
 refused_alone w f command number held n h is en eh past =
     let found : cause w f command ≡ Some (UnknownNumber number held) = ap (first_of unknown_of) is ∙ rw (le-ltb number held past) refl in
     refused (found ∙ (λ i. Some (UnknownNumber (sym en i) (sym eh i))))
 
 -- one that is held, where the command changes something
-pub done_alone : (w w2 : World) (f f2 : Frame) (command : Command) (number held : ℕ) (c : Change) → operands w f command ≡ (number, held) ∷ [] → number < held → change w f command ≡ Some c → w2 ≡ c.world → f2 ≡ c.frame → Applied w f command c.reply w2 f2
+pub done_alone : (w w2 : World) (f f2 : Frame) (command : Command) (number held : ℕ) (c : Change) → operands w f command ≡ (number, held) ∷ [] → number < held → change w f command ≡ Some c → w2 ≡ c.world → f2 ≡ c.frame → Declares w f command c.reply w2 f2
 done_alone w w2 f f2 command number held c is below changes ew ef =
     let none : cause w f command ≡ None = ap (first_of unknown_of) is ∙ rw (lt-ltb number held below) refl in
-    subst (λ (x : World). Applied w f command c.reply x f2) (sym ew) (subst (λ (x : Frame). Applied w f command c.reply c.world x) (sym ef) (done none changes))
+    subst (λ (x : World). Declares w f command c.reply x f2) (sym ew) (subst (λ (x : Frame). Declares w f command c.reply c.world x) (sym ef) (done none changes))
 
-pub script_done : (w w2 : World) (f : Frame) (id : ModuleId) (def : ScriptFuncDef) (old : ModuleTree) → slice_get w.modules id.0 ≡ Some old → w2 ≡ (changed w f id (with_decl (script_key def) (script_decl def) old)).world → Applied w f (commands.Script id def) Done w2 f
+pub script_done : (w w2 : World) (f : Frame) (id : ModuleId) (def : ScriptFuncDef) (old : ModuleTree) → slice_get w.modules id.0 ≡ Some old → w2 ≡ (changed w f id (with_decl (script_key def) (script_decl def) old)).world → Declares w f (commands.Script id def) Done w2 f
 script_done w w2 f id def old some made =
     done_alone w w2 f f (commands.Script id def) id.0 (length w.modules) (changed w f id (with_decl (script_key def) (script_decl def) old)) refl (slice_get_within w.modules id.0 old some)
     (ap (option_map (λ m. changed w f id (with_decl (script_key def) (script_decl def) m))) some) made refl
 
-pub push_done : (w : World) (f f2 : Frame) (id : ModuleId) (added : ModuleTree) → slice_get w.modules id.0 ≡ Some added → f2 ≡ record f { libs = f.libs ++ added ∷ [] } → Applied w f (commands.PushLib id) Done w f2
+pub push_done : (w : World) (f f2 : Frame) (id : ModuleId) (added : ModuleTree) → slice_get w.modules id.0 ≡ Some added → f2 ≡ record f { lib = f.lib ++ added ∷ [] } → Declares w f (commands.PushLib id) Done w f2
 push_done w f f2 id added some made =
-    done_alone w w f f2 (commands.PushLib id) id.0 (length w.modules) (with_libs w f (f.libs ++ added ∷ [])) refl (slice_get_within w.modules id.0 added some)
-    (ap (option_map (λ m. with_libs w f (f.libs ++ m ∷ []))) some) refl made
+    done_alone w w f f2 (commands.PushLib id) id.0 (length w.modules) (with_libs w f (f.lib ++ added ∷ [])) refl (slice_get_within w.modules id.0 added some)
+    (ap (option_map (λ m. with_libs w f (f.lib ++ m ∷ []))) some) refl made
 
-pub made_done : (w w2 : World) (f : Frame) (id : ModuleId) → id.0 ≡ length w.modules → w2 ≡ record w { modules = w.modules ++ empty_module ∷ [] } → Applied w f commands.NewModule (Made id) w2 f
+pub made_done : (w w2 : World) (f : Frame) (id : ModuleId) → id.0 ≡ length w.modules → w2 ≡ record w { modules = w.modules ++ empty_module ∷ [] } → Declares w f commands.NewModule (Made id) w2 f
 made_done w w2 f id n made =
     let same : id ≡ record { 0 = length w.modules } = λ i. record { 0 = n i } in
-    subst (λ (x : ModuleId). Applied w f commands.NewModule (Made x) w2 f) (sym same)
-    (subst (λ (x : World). Applied w f commands.NewModule (Made (record { 0 = length w.modules })) x f) (sym made) (done refl refl))
+    subst (λ (x : ModuleId). Declares w f commands.NewModule (Made x) w2 f) (sym same)
+    (subst (λ (x : World). Declares w f commands.NewModule (Made (record { 0 = length w.modules })) x f) (sym made) (done refl refl))
 
 but_last_push : (ms : List ModuleTree) (m : ModuleTree) → but_last (ms ++ m ∷ []) ≡ ms
 but_last_push [] m = refl
@@ -120,20 +81,20 @@ one_left : (w : World) (f : Frame) (libs : List ModuleTree) (m : ModuleTree) →
 one_left w f [] m = refl
 one_left w f (x ∷ libs) m = refl
 
-pub pop_done : (w : World) (f : Frame) (libs : List ModuleTree) (m : ModuleTree) → f.libs ≡ libs ++ m ∷ [] → Applied w f commands.PopLib Done w (record f { libs = libs })
+pub pop_done : (w : World) (f : Frame) (libs : List ModuleTree) (m : ModuleTree) → f.lib ≡ libs ++ m ∷ [] → Declares w f commands.PopLib Done w (record f { lib = libs })
 pop_done w f libs m is =
     let none : cause w f commands.PopLib ≡ None = ap (λ (ms : List ModuleTree). first_of unknown_of (pop_operand ms)) is ∙ one_left w f libs m in
-    let left : but_last f.libs ≡ libs = ap but_last is ∙ but_last_push libs m in
-    subst (λ (ms : List ModuleTree). Applied w f commands.PopLib Done w (record f { libs = ms })) left (done none refl)
+    let left : but_last f.lib ≡ libs = ap but_last is ∙ but_last_push libs m in
+    subst (λ (ms : List ModuleTree). Declares w f commands.PopLib Done w (record f { lib = ms })) left (done none refl)
 
-pub pop_refused : (w : World) (f f2 : Frame) → f.libs ≡ [] → f2 ≡ f → Applied w f commands.PopLib (Refused (UnknownNumber 0 0)) w f2
+pub pop_refused : (w : World) (f f2 : Frame) → f.lib ≡ [] → f2 ≡ f → Declares w f commands.PopLib (Refused (UnknownNumber 0 0)) w f2
 pop_refused w f f2 none same =
     let found : cause w f commands.PopLib ≡ Some (UnknownNumber 0 0) = ap (λ (ms : List ModuleTree). first_of unknown_of (pop_operand ms)) none in
-    subst (λ (x : Frame). Applied w f commands.PopLib (Refused (UnknownNumber 0 0)) w x) (sym same) (refused found)
+    subst (λ (x : Frame). Declares w f commands.PopLib (Refused (UnknownNumber 0 0)) w x) (sym same) (refused found)
 
 -- an equal reply
-pub same_reply : (w w2 : World) (f f2 : Frame) (command : Command) (reply same : Reply) → reply ≡ same → Applied w f command same w2 f2 → Applied w f command reply w2 f2
-same_reply w w2 f f2 command reply same e a = subst (λ (r : Reply). Applied w f command r w2 f2) (sym e) a
+pub same_reply : (w w2 : World) (f f2 : Frame) (command : Command) (reply same : Reply) → reply ≡ same → Declares w f command same w2 f2 → Declares w f command reply w2 f2
+same_reply w w2 f f2 command reply same e a = subst (λ (r : Reply). Declares w f command r w2 f2) (sym e) a
 
 -- what stands at a place
 pub at_place : (ms : List ModuleTree) (i : ℕ) (m : ModuleTree) → i < length ms → m ≡ get_or ms i m → slice_get ms i ≡ Some m

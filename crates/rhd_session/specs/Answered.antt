@@ -62,7 +62,7 @@ pub record StoppedAfter {H B : Type 0} (o : Objects H B) (w : World) (f : Frame)
   pub answered : Answered o w f before (take (length replies) commands) replies w2 f2 mid
   pub begins : (command : Command) → slice_get commands (length replies) ≡ Some command → Begins command mid.begun after.begun
   pub short : length replies < length commands
-  pub within : after.begun ≤ w.engine.limits.budget
+  pub within : after.begun ≤ w2.engine.limits.budget
 
 -- what a run of commands answers, and the world, the frame and the moment that it leaves
 abbrev pub RunGives : {H B : Type 0} → Setting H B → Moment H B → List Command → Result (List Reply) Stopped → World → Frame → Moment H B → Type 0

@@ -85,6 +85,6 @@ abbrev pub change : World → Frame → Command → Option Change
 change w f commands.NewModule = Some (record { reply = Made (record { 0 = length w.modules }); world = record w { modules = w.modules ++ empty_module ∷ [] }; frame = f })
 change w f (commands.Script m def) = option_map (λ old. changed w f m (with_decl (script_key def) (script_decl def) old)) (slice_get w.modules m.0)
 change w f (commands.RegisterFn name id) = option_map (registered w f name id) (info_of w.engine.natives id)
-change w f (commands.PushLib m) = option_map (λ added. with_libs w f (f.libs ++ added ∷ [])) (slice_get w.modules m.0)
+change w f (commands.PushLib m) = option_map (λ added. with_libs w f (f.lib ++ added ∷ [])) (slice_get w.modules m.0)
 change w f commands.PopLib = Some (with_libs w f (but_last f.lib))
 change w f (commands.Call request) = None

@@ -94,6 +94,7 @@ fn first_too_large(
 
 /// The fault of a value, or of the first argument that a native had, which holds more than the
 /// limits allow.
+#[tactic(auto, unfolding(rhd_engine::specs::Of::lists_of))]
 fn unfit(
     alloc: Global,
     engine: &Engine,

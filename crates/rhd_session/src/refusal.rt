@@ -65,6 +65,7 @@ fn locked_argument(alloc: Global, call: &CallRequest) -> Result<Option<EvalAltRe
 }
 
 /// The fault of a call that is refused.
+#[tactic(auto, unfolding(rhd_engine::specs::Of::lists_of))]
 pub fn refusal(
     alloc: Global,
     engine: &Engine,

@@ -107,9 +107,9 @@ fn run_on<H: Host, B: Bodies>(
     ensures within { begun.new ≤ engine.now.limits.budget }
     ensures rises { begun.old ≤ begun.new }
 {
-    let outer = outer_of(state);
+    let base = outer_of(state);
     let made = run_stack::<H, B>(alloc, engine, state, outcome, begun, host, bodies);
-    give_back(state, outer);
+    give_back(state, base);
     made
 }
 

@@ -23,7 +23,9 @@ pub mod WrittenValues
 pub mod ArgumentLaws
 pub mod OperandLaws
 pub mod RowLaws
-pub mod BuiltinLaws
+pub mod TableLaws
+pub mod PlanLaws
+pub mod HeldNatives
 pub mod CallLaws
 pub mod SessionLaws
 pub mod Utf8Laws
@@ -34,6 +36,5 @@ pub mod PlainRuns
 pub mod LetterRuns
 pub mod PrintingEntries
 pub mod PrintingTrees
-pub mod TextLimits
-pub mod BuiltinLimits
+pub mod TextHolds
 pub mod TreeOrder

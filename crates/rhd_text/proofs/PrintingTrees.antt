@@ -2,8 +2,8 @@
 use Rattle.std.proofs.Common.{◌≡◌, ◌≤◌, ℕ, List, ◌++◌, length, take, refl, sym, ap, ◌∙◌}
 use Rattle.std.specs.List.{flat_map}
 use Rattle.std.proofs.lemmas.List.{take_all}
-use Rattle.rhd_session.specs.declared.node.Nodes.{Nodes, Nodes', Row_of-CallNode, end_of-CallNode, more_of-CallNode, items-the_row-CallNode}
-use Rattle.rhd_session.specs.Nodes.{nodes_in, nodes_in_row}
+use Rattle.rhd_call.specs.declared.node.Nodes.{Nodes, Nodes', Row_of-CallNode, end_of-CallNode, more_of-CallNode, items-the_row-CallNode}
+use Rattle.rhd_call.specs.Nodes.{nodes_in, nodes_in_row}
 use Rattle.rhd_text.specs.PrintedReplies.{tree_text, nodes_text, row_text}
 
 pub row_lines : (n : _) (row : Row_of-CallNode n) → row_text row ≡ flat_map tree_text (items-the_row-CallNode n row)

@@ -7,16 +7,16 @@ use Rattle.std.proofs.lemmas.List.Elements.{Contains-append_left, Contains-appen
 use Rattle.rhd_value.specs.Tree.{Bytes, Tree}
 use Rattle.rhd_value.specs.declared.fault.EvalAltResult.{EvalAltResult}
 use Rattle.rhd_func.specs.declared.request.CallRequest.{CallRequest}
-use Rattle.rhd_session.specs.declared.node.CallNode.{CallNode, CallNode', out-CallNode}
-use Rattle.rhd_session.specs.declared.node.CallNode.TheViews.{the_lemmas}
-use Rattle.rhd_session.specs.declared.node.Nodes.{Nodes, Nodes', Row_of-CallNode, end_of-CallNode, more_of-CallNode, items-the_row-CallNode}
-use Rattle.rhd_session.specs.declared.node.Whose.{Whose}
-use Rattle.rhd_session.specs.declared.pick.Pick.{Pick}
-use Rattle.rhd_session.specs.declared.reply.Reply.{Reply}
-use Rattle.rhd_session.specs.declared.reply.Reply.TheVariants.{Called}
-use Rattle.rhd_session.specs.Nodes.{nodes_in, nodes_in_row}
-use Rattle.rhd_session.specs.Seen.{seen}
-use Rattle.rhd_session.specs.Trees.{InTree, is_root, is_below}
+use Rattle.rhd_call.specs.declared.node.CallNode.{CallNode, CallNode', out-CallNode}
+use Rattle.rhd_call.specs.declared.node.CallNode.TheViews.{the_lemmas}
+use Rattle.rhd_call.specs.declared.node.Nodes.{Nodes, Nodes', Row_of-CallNode, end_of-CallNode, more_of-CallNode, items-the_row-CallNode}
+use Rattle.rhd_call.specs.declared.node.Whose.{Whose}
+use Rattle.rhd_call.specs.declared.pick.Pick.{Pick}
+use Rattle.rhd_call.specs.declared.reply.Reply.{Reply}
+use Rattle.rhd_call.specs.declared.reply.Reply.TheVariants.{Called}
+use Rattle.rhd_call.specs.Nodes.{nodes_in, nodes_in_row}
+use Rattle.rhd_call.specs.Seen.{seen}
+use Rattle.rhd_call.specs.Trees.{InTree, is_root, is_below}
 use Rattle.rhd_text.specs.PrintedReplies.{indent, call_line, tree_text, nodes_text, row_text, printed, all_printed}
 use Rattle.rhd_text.specs.TreeLines.{calls_of, calls_in, calls_in_row, own_line}
 

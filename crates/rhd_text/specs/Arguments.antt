@@ -1,5 +1,5 @@
 -- WHAT ARGUMENTS SAY: the values of a call, and where given values are to stand among them.
-use Rattle.std.specs.Prelude.{ℕ, ◌+◌, List, [], ◌∷◌, ◌++◌, length, map}
+use Rattle.std.specs.Prelude.{ℕ, zero, suc, ◌+◌, List, [], ◌∷◌, ◌++◌, length, map}
 use Rattle.rhd_value.specs.Tree.{Tree, unit}
 use Rattle.rhd_value.specs.Kinds.{plain}
 use Rattle.rhd_text.specs.declared.body.GivenAt.{GivenAt}
@@ -33,3 +33,12 @@ no_arguments = record { values = []; places = [] }
 -- one argument more
 abbrev pub with_argument : Arguments → Argument → Arguments
 with_argument a x = record { values = a.values ++ value_of x ∷ []; places = a.places ++ place_of (length a.values) x }
+
+-- the same places, so many further on
+abbrev pub moved : ℕ → List GivenAt → List GivenAt
+moved zero places = places
+moved (suc n) places = map (λ p. record { place = p.place + suc n; given = p.given }) places
+
+-- arguments, and then others
+abbrev pub joined : Arguments → Arguments → Arguments
+joined a b = record { values = a.values ++ b.values; places = a.places ++ moved (length a.values) b.places }

@@ -1,17 +1,13 @@
--- HOW A LINE IS WRITTEN, by the table of Rows.
+-- HOW A LINE IS WRITTEN, by the tables of Rows.
 use Rattle.std.specs.Prelude.{◌≡◌, ◌⊎◌, ℕ, true, List, [], ◌∷◌, Option, Some, None, codes}
 use Rattle.std.specs.Str.{is_utf8}
 use Rattle.rhd_func.specs.declared.request.CallRequest.{CallRequest}
-use Rattle.rhd_session.specs.declared.command.Command.TheVariants.{Call}
+use Rattle.rhd_call.specs.declared.command.Command.TheVariants.{Call}
 use Rattle.rhd_text.specs.declared.part.Part.{Part}
 use Rattle.rhd_text.specs.declared.part.Part.TheVariants.{Command}
 use Rattle.rhd_text.specs.declared.place.Place.{Place}
-use Rattle.rhd_text.specs.declared.line.Line.{Line}
-use Rattle.rhd_text.specs.declared.line.Line.TheVariants.{Skipped, Says}
-use Rattle.rhd_text.specs.declared.keyword.Keyword.{Keyword}
-use Rattle.rhd_text.specs.declared.keyword.Keyword.TheVariants.{Do}
-use Rattle.rhd_text.specs.Rows.{Operand, NAME, WORD, WORDS, NUM, LONG, ARG, ARGS, OPTIONAL, WANT, THIS, VALUE, KIND, PRINTER, Meaning, From, row, call_word, keyword}
-use Rattle.rhd_text.specs.Spans.{Span, ◌▸◌, blanks, bare, name, word, words, optional, number, want, this, value, value_kind, printer, argument, arguments}
+use Rattle.rhd_text.specs.Rows.{Operand, NAME, WORD, WORDS, NUM, LONG, ARG, ARGS, OPTIONAL, WANT, THIS, VALUE, KIND, PRINTER, Meaning, From, Table, line_forms, step_forms}
+use Rattle.rhd_text.specs.Spans.{Span, blanks, bare, name, word, words, optional, number, want, this, value, value_kind, printer, argument, arguments}
 
 -- how each kind of operand is written
 abbrev pub operand : (o : Operand) → Meaning o → Span
@@ -20,7 +16,7 @@ operand WORD = word
 operand WORDS = words
 operand NUM = number 32
 operand LONG = number 64
-operand ARG = argument true
+operand (ARG given) = argument given
 operand (ARGS given) = arguments given
 operand (OPTIONAL w) = optional w
 operand WANT = want
@@ -34,28 +30,31 @@ abbrev pub operands : {R : Type 0} (os : List Operand) → From os (Option R) �
 operands [] says c bytes = blanks bytes [] × (says ≡ Some c)
 operands (o ∷ os) says c bytes = (x : Meaning o) × (rest : List ℕ) × operand o x bytes rest × operands os (says x) c rest
 
--- how a line begins: with a word, and where that is `do` with the word of a call after it
-abbrev pub head : Keyword → Span
-head (Do w) = bare (codes "do") ▸ bare (call_word w)
-head k = bare (keyword k)
+-- a line of a table: the word of a form, and its operands
+abbrev pub formed : {K P : Type 0} → Table K P → Place → P → List ℕ → Type 0
+formed {K = K} table place p bytes = (k : K) × (rest : List ℕ) × bare (table.form k).spelling bytes rest × operands (table.form k).operands ((table.form k).part place) p rest
 
--- a part of a text is written in one of the rows
+-- a line of a session text: one of its table, or `do` and a step
 abbrev pub part : Place → Part → List ℕ → Type 0
-part place p bytes = (k : Keyword) × (rest : List ℕ) × head k bytes rest × operands (row k).operands ((row k).part place) p rest
+part place p bytes = formed line_forms place p bytes ⊎ ((after : List ℕ) × bare (codes "do") bytes after × formed step_forms place p after)
 
--- only blanks, or a comment; else a part of the text
-abbrev pub WrittenLine : Place → Line → List ℕ → Type 0
-WrittenLine place Skipped bytes = blanks bytes [] ⊎ ((comment : List ℕ) × blanks bytes (59 ∷ comment))
-WrittenLine place (Says p) bytes = part place p bytes
+-- only blanks, or a comment; else one of these parts
+abbrev pub WrittenLine : {P : Type 0} → (P → List ℕ → Type 0) → Option P → List ℕ → Type 0
+WrittenLine written None bytes = blanks bytes [] ⊎ ((comment : List ℕ) × blanks bytes (59 ∷ comment))
+WrittenLine written (Some p) bytes = written p bytes
 
--- line n is in UTF-8, and written so
-pub record IsLine (held : ℕ) (n : ℕ) (line : Line) (bytes : List ℕ) : Type 0 where
+-- a line is in UTF-8, and written so; it is nothing where it says nothing
+pub record IsWritten (P : Type 0) (written : P → List ℕ → Type 0) (line : Option P) (bytes : List ℕ) : Type 0 where
   pub text : is_utf8 bytes ≡ true
-  pub written : WrittenLine (record { held = held; line = n }) line bytes
+  pub spells : WrittenLine written line bytes
 
--- line n is a call line of this request, however many natives are held
+-- line n of a session text is written so
+abbrev pub IsLine : ℕ → Option Part → List ℕ → Type 0
+IsLine n line bytes = IsWritten Part (part (record { line = n })) line bytes
+
+-- line n is a call line of this request
 abbrev pub IsCall : ℕ → CallRequest → List ℕ → Type 0
-IsCall n request bytes = (held : ℕ) → IsLine held n (Says (Command (Call request))) bytes
+IsCall n request bytes = IsLine n (Some (Command (Call request))) bytes
 
 -- it is a call line of this request; or it is no call line
 abbrev pub IsCallOrNone : ℕ → List ℕ → Option CallRequest → Type 0

@@ -13,15 +13,15 @@ use Rattle.rhd_func.specs.declared.request.CallRequest.{CallRequest}
 use Rattle.rhd_func.specs.declared.request.CallRequest.TheVariants.{Named}
 use Rattle.rhd_module.specs.declared.fault.DeclFault.{DeclFault}
 use Rattle.rhd_module.specs.declared.fault.DeclFault.TheVariants.{UnknownNumber, OutOfMemory}
-use Rattle.rhd_session.specs.declared.pick.Layer.{Layer}
-use Rattle.rhd_session.specs.declared.pick.Layer.TheVariants.{Library, Global, Builtin}
-use Rattle.rhd_session.specs.declared.pick.Pick.{Pick}
-use Rattle.rhd_session.specs.declared.node.Whose.{Whose}
-use Rattle.rhd_session.specs.declared.node.Whose.TheVariants as whose
-use Rattle.rhd_session.specs.declared.node.CallNode.{CallNode, CallNode'}
-use Rattle.rhd_session.specs.declared.node.Nodes.{Nodes, Nodes', Row_of-CallNode, end_of-CallNode, more_of-CallNode}
-use Rattle.rhd_session.specs.declared.reply.Reply.{Reply}
-use Rattle.rhd_session.specs.declared.reply.Reply.TheVariants.{Done, Made, Refused, Called}
+use Rattle.rhd_call.specs.declared.pick.Layer.{Layer}
+use Rattle.rhd_call.specs.declared.pick.Layer.TheVariants.{Library, Global, Builtin}
+use Rattle.rhd_call.specs.declared.pick.Pick.{Pick}
+use Rattle.rhd_call.specs.declared.node.Whose.{Whose}
+use Rattle.rhd_call.specs.declared.node.Whose.TheVariants as whose
+use Rattle.rhd_call.specs.declared.node.CallNode.{CallNode, CallNode'}
+use Rattle.rhd_call.specs.declared.node.Nodes.{Nodes, Nodes', Row_of-CallNode, end_of-CallNode, more_of-CallNode}
+use Rattle.rhd_call.specs.declared.reply.Reply.{Reply}
+use Rattle.rhd_call.specs.declared.reply.Reply.TheVariants.{Done, Made, Refused, Called}
 use Rattle.rhd_text.specs.PrintedTexts.{quoted}
 use Rattle.rhd_text.specs.PrintedValues.{spelled}
 

@@ -1,17 +1,17 @@
 -- How rows and lines are read.
 use Rattle.std.specs.Prelude.{ℕ, Bool, true, not, List, [], ◌∷◌, Option, Some, None, ◌==◌, codes, if◌then◌else◌}
 use Rattle.std.specs.Str.{is_utf8, bytes_eq}
+use Rattle.rhd_value.specs.declared.tag.Position.{Position}
 use Rattle.rhd_func.specs.declared.request.CallRequest.{CallRequest}
-use Rattle.rhd_session.specs.declared.command.Command.TheVariants as commands
+use Rattle.rhd_call.specs.declared.command.Command.TheVariants as commands
+use Rattle.rhd_text.specs.declared.body.CallPlan.{CallPlan}
+use Rattle.rhd_text.specs.declared.requests.Handing.{Handing}
 use Rattle.rhd_text.specs.declared.part.Part.{Part}
 use Rattle.rhd_text.specs.declared.part.Part.TheVariants as parts
 use Rattle.rhd_text.specs.declared.place.Place.{Place}
-use Rattle.rhd_text.specs.declared.line.Line.{Line}
-use Rattle.rhd_text.specs.declared.line.Line.TheVariants.{Skipped, Says}
-use Rattle.rhd_text.specs.declared.keyword.Keyword.{Keyword}
-use Rattle.rhd_text.specs.declared.keyword.Keyword.TheVariants.{Call, Do}
-use Rattle.rhd_text.specs.Rows.{Operand, NAME, WORD, WORDS, NUM, LONG, ARG, ARGS, OPTIONAL, WANT, THIS, VALUE, KIND, PRINTER, Meaning, From, Row, row, keyword, one_word}
-use Rattle.rhd_text.specs.Reading.{◌>>=◌, skip_blanks, is_end, Parse, word_at, name_at, wording_at, texts_at, flag_at, num_at, want_at, this_at, value_at, value_kind_at, printer_at, argument_at, arguments_at}
+use Rattle.rhd_text.specs.declared.keyword.CallWord.{CallWord}
+use Rattle.rhd_text.specs.Rows.{Operand, NAME, WORD, WORDS, NUM, LONG, ARG, ARGS, OPTIONAL, WANT, THIS, VALUE, KIND, PRINTER, Meaning, From, Form, Table, CallForm, by_name, call_form, planned, line_forms, step_forms}
+use Rattle.rhd_text.specs.Reading.{◌>>=◌, skip_blanks, is_end, word_at, name_at, wording_at, texts_at, flag_at, num_at, want_at, this_at, value_at, value_kind_at, printer_at, argument_at, arguments_at}
 
 -- how each kind of operand is read
 abbrev pub operand_at : (o : Operand) → List ℕ → Option (Meaning o × List ℕ)
@@ -20,7 +20,7 @@ operand_at WORD bytes = wording_at bytes
 operand_at WORDS bytes = texts_at bytes
 operand_at NUM bytes = num_at 32 bytes
 operand_at LONG bytes = num_at 64 bytes
-operand_at ARG bytes = argument_at true bytes
+operand_at (ARG given) bytes = argument_at given bytes
 operand_at (ARGS given) bytes = arguments_at given bytes
 operand_at (OPTIONAL w) bytes = Some (flag_at w bytes)
 operand_at WANT bytes = want_at bytes
@@ -36,42 +36,43 @@ operands_at (o ∷ os) says bytes = do
   x ← operand_at o bytes
   operands_at os (says x.0) x.1
 
--- what a row says
-abbrev pub row_says : Place → Row → List ℕ → Option Part
-row_says place r bytes = operands_at r.operands (r.part place) bytes
-
--- what stands after a keyword
-unfoldable pub row_at : Place → Keyword → List ℕ → Option Part
-row_at place k bytes = row_says place (row k) bytes
+-- what stands after the word of a form
+unfoldable pub row_at : {P : Type 0} → Place → Form P → List ℕ → Option P
+row_at place f bytes = operands_at f.operands (f.part place) bytes
 
 -- the first of these keywords that is spelled so
-unfoldable pub keyword_in : List Keyword → List ℕ → Option Keyword
-keyword_in [] word = None
-keyword_in (k ∷ ks) word = if bytes_eq (keyword k) word then Some k else keyword_in ks word
+unfoldable pub keyword_in : {K P : Type 0} → (K → Form P) → List K → List ℕ → Option K
+keyword_in form [] word = None
+keyword_in form (k ∷ ks) word = if bytes_eq (form k).spelling word then Some k else keyword_in form ks word
 
-abbrev pub keyword_of : List ℕ → Option Keyword
-keyword_of word = keyword_in one_word word
+-- a line of a table, by its first word and what stands after it
+abbrev pub form_of : {K P : Type 0} → Table K P → Place → List ℕ → List ℕ → Option P
+form_of table place word bytes = do
+  k ← keyword_in table.form table.all word
+  row_at place (table.form k) bytes
 
--- after `do`, the keyword of such a call
-abbrev pub step_of : Keyword → Option Keyword
-step_of (Call w) = Some (Do w)
-step_of _ = None
-
--- the word of a call after `do`
-unfoldable pub step_at : Parse Keyword
-step_at bytes = do
+-- a line of a table
+unfoldable pub form_at : {K P : Type 0} → Table K P → Place → List ℕ → Option P
+form_at table place bytes = do
   w ← word_at bytes
-  k ← keyword_of w.0
-  s ← step_of k
-  Some (s, w.1)
+  form_of table place w.0 w.1
 
--- what a line begins with
-unfoldable pub keyword_at : Parse Keyword
-keyword_at bytes = do
+-- a line of a session text, which `do` may stand before
+unfoldable pub part_at : Place → List ℕ → Option Part
+part_at place bytes = do
   w ← word_at bytes
-  if bytes_eq w.0 (codes "do") then step_at w.1 else (do
-    k ← keyword_of w.0
-    Some (k, w.1))
+  if bytes_eq w.0 (codes "do") then form_at step_forms place w.1 else form_of line_forms place w.0 w.1
+
+-- what stands after the word of a call
+abbrev pub plan_in : CallForm → Bool → Position → List ℕ → Option CallPlan
+plan_in f given pos bytes = operands_at (f.operands given) (planned f given pos) bytes
+
+unfoldable pub plan_at : Bool → CallWord → Position → List ℕ → Option CallPlan
+plan_at given w pos bytes = plan_in (call_form w) given pos bytes
+
+-- what stands after the word of a call by name, however it is spelled
+unfoldable pub named_at : Bool → Bool → Handing → Position → List ℕ → Option CallPlan
+named_at given native_only handing pos bytes = plan_in (by_name [] native_only handing) given pos bytes
 
 -- the end, or a comment
 abbrev pub begins_no_part : List ℕ → Bool
@@ -81,18 +82,17 @@ begins_no_part (b ∷ bytes) = b == 59
 abbrev pub is_skipped : List ℕ → Bool
 is_skipped line = begins_no_part (skip_blanks line)
 
--- what the line at a place says
-unfoldable pub line_at : Place → List ℕ → Option Line
-line_at place line = if not (is_utf8 line) then None else (if is_skipped line then Some Skipped else (do
-  k ← keyword_at line
-  p ← row_at place k.0 k.1
-  Some (Says p)))
+-- what a line is, by how its parts are read; nothing where it says nothing
+unfoldable pub line_by : {P : Type 0} → (List ℕ → Option P) → List ℕ → Option (Option P)
+line_by read line = if not (is_utf8 line) then None else (if is_skipped line then Some None else (do
+  p ← read line
+  Some (Some p)))
 
--- what line n says, where so many natives are held
-abbrev pub line_of : ℕ → ℕ → List ℕ → Option Line
-line_of held n line = line_at (record { held = held; line = n }) line
+-- what line n of a session text is
+abbrev pub line_of : ℕ → List ℕ → Option (Option Part)
+line_of n line = line_by (part_at (record { line = n })) line
 
 -- the request of a call line
-abbrev pub request_in : Line → Option CallRequest
-request_in (Says (parts.Command (commands.Call request))) = Some request
+abbrev pub request_in : Option Part → Option CallRequest
+request_in (Some (parts.Command (commands.Call request))) = Some request
 request_in _ = None

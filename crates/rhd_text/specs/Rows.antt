@@ -1,5 +1,5 @@
--- THE TABLE: each line form, how it begins, its operands, and what it adds to the text.
-use Rattle.std.specs.Prelude.{ℕ, Bool, true, false, not, List, [], ◌∷◌, Option, Some, None, option_and_then, ◌==◌, nat_le, nat_lt, codes, if◌then◌else◌}
+-- THE TABLES: each line form, how it begins, its operands, and what it adds to the text; and each word of a call.
+use Rattle.std.specs.Prelude.{ℕ, Bool, true, false, not, List, [], ◌∷◌, Option, Some, None, ◌==◌, codes, if◌then◌else◌}
 use Rattle.std.specs.List.{list_all}
 use Rattle.std.specs.Option.{option_map}
 use Rattle.rhd_names.specs.Tokens.{token_of}
@@ -13,14 +13,14 @@ use Rattle.rhd_func.specs.declared.request.CallRequest.TheVariants.{Named}
 use Rattle.rhd_func.specs.declared.access.FnAccess.{FnAccess}
 use Rattle.rhd_func.specs.declared.access.FnAccess.TheVariants.{Private, Public}
 use Rattle.rhd_func.specs.declared.func.ScriptFuncDef.{ScriptFuncDef}
-use Rattle.rhd_session.specs.declared.command.Command.TheVariants as commands
-use Rattle.rhd_session.specs.declared.limits.Limits.{Limits}
+use Rattle.rhd_call.specs.declared.command.Command.TheVariants as commands
 use Rattle.rhd_text.specs.declared.place.Place.{Place}
 use Rattle.rhd_text.specs.declared.arguments.Argument.{Argument}
 use Rattle.rhd_text.specs.declared.arguments.Argument.TheVariants as argument
 use Rattle.rhd_text.specs.declared.arguments.Arguments.{Arguments}
 use Rattle.rhd_text.specs.declared.body.BodyEnd.{BodyEnd}
 use Rattle.rhd_text.specs.declared.body.BodyEnd.TheVariants.{Ret, RetGiven, Fail}
+use Rattle.rhd_text.specs.declared.body.CallPlan.{CallPlan}
 use Rattle.rhd_text.specs.declared.printers.Printer.{Printer}
 use Rattle.rhd_text.specs.declared.part.Part.{Part}
 use Rattle.rhd_text.specs.declared.part.Part.TheVariants as parts
@@ -28,19 +28,22 @@ use Rattle.rhd_text.specs.declared.keyword.CallWord.{CallWord}
 use Rattle.rhd_text.specs.declared.keyword.CallWord.TheVariants as words
 use Rattle.rhd_text.specs.declared.keyword.Keyword.{Keyword}
 use Rattle.rhd_text.specs.declared.keyword.Keyword.TheVariants as keywords
+use Rattle.rhd_text.specs.declared.requests.Handing.{Handing}
+use Rattle.rhd_text.specs.declared.requests.Handing.TheVariants as handings
+use Rattle.rhd_text.specs.Arguments.{no_arguments, with_argument, joined}
 use Rattle.rhd_text.specs.Operators.{operator_of}
 
 -- an operand of a line: the name of a call; a text, quoted or not; texts between brackets; a number of 32 or of 64 bits;
--- one argument, which may be given; arguments up to the end of the line, which may be given or not; a word that may be
--- left out; the kind of the answer that is wanted; the type of a script's object, which may be left out like a word; a
--- value; a kind of values; a printer
+-- one argument, or arguments up to the end of the line, which may be given ones or not; a word that may be left out; the
+-- kind of the answer that is wanted; the type of a script's object, which may be left out like a word; a value; a kind of
+-- values; a printer
 pub data Operand : Type 0 where
   NAME : Operand
   WORD : Operand
   WORDS : Operand
   NUM : Operand
   LONG : Operand
-  ARG : Operand
+  ARG : Bool → Operand
   ARGS : Bool → Operand
   OPTIONAL : List ℕ → Operand
   WANT : Operand
@@ -56,7 +59,7 @@ Meaning WORD = List ℕ
 Meaning WORDS = List (List ℕ)
 Meaning NUM = ℕ
 Meaning LONG = ℕ
-Meaning ARG = Argument
+Meaning (ARG given) = Argument
 Meaning (ARGS given) = Arguments
 Meaning (OPTIONAL w) = Bool
 Meaning WANT = Option TypeTag
@@ -70,10 +73,24 @@ abbrev pub From : List Operand → Type 0 → Type 0
 From [] R = R
 From (o ∷ os) R = Meaning o → From os R
 
--- a line form: its operands, and the part of the text that it is at a place, if what they say is allowed there
-pub record Row : Type 0 where
+-- such a function, and then another one
+abbrev pub from_then : {A B : Type 0} (os : List Operand) → From os A → (A → B) → From os B
+from_then [] says f = f says
+from_then (o ∷ os) says f = λ x. from_then os (says x) f
+
+-- A LINE FORM, where a line is a P: how its first word is spelled, its operands, and which P it is at a place, if what they
+-- say is allowed there
+pub record Form (P : Type 0) : Type 0 where
+  pub spelling : List ℕ
   pub operands : List Operand
-  pub part : Place → From operands (Option Part)
+  pub part : Place → From operands (Option P)
+
+-- A TABLE of line forms: the form of each keyword, and all keywords. A form costs here its row in `form` and its keyword in
+-- `all`; in the program a variant of the keyword with its spelling, one function that reads it, and an arm that calls this;
+-- in the proofs three lines, each of them `refl`: `placed`, `found` and `shows` of what is asked of a table.
+pub record Table (K P : Type 0) : Type 0 where
+  pub form : K → Form P
+  pub all : List K
 
 -- the beginning of the line
 abbrev pub position : Place → Position
@@ -83,70 +100,87 @@ position place = record { line = place.line; column = 1 }
 abbrev pub nowhere : Position
 nowhere = record { line = 0; column = 0 }
 
--- how the word of a call is spelled
-abbrev pub call_word : CallWord → List ℕ
-call_word words.Call = codes "call"
-call_word words.CallNative = codes "call-native"
-call_word words.Ref = codes "ref"
-call_word words.RefNative = codes "ref-native"
-call_word words.Method = codes "method"
-call_word words.MethodNative = codes "method-native"
-
--- whether it asks natives alone
-abbrev pub native_only : CallWord → Bool
-native_only words.Call = false
-native_only words.CallNative = true
-native_only words.Ref = false
-native_only words.RefNative = true
-native_only words.Method = false
-native_only words.MethodNative = true
+-- ---- words of calls
 
 -- the first argument apart from the others, where there is one
 abbrev pub first_apart : (Tree → List Tree → CallShape) → List Tree → Option CallShape
 first_apart make [] = None
 first_apart make (first ∷ args) = Some (make first args)
 
--- how its arguments are handed over: all by value, or the first by reference, or the first as the object
-abbrev pub shape_of : CallWord → List Tree → Option CallShape
-shape_of words.Call args = Some (Plain args)
-shape_of words.CallNative args = Some (Plain args)
-shape_of words.Ref args = first_apart (λ first more. ByRef first more) args
-shape_of words.RefNative args = first_apart (λ first more. ByRef first more) args
-shape_of words.Method args = first_apart (λ object more. Method object more) args
-shape_of words.MethodNative args = first_apart (λ object more. Method object more) args
+-- how arguments are handed over: all by value, or the first by reference, or the first as the object
+abbrev pub shape_of : Handing → List Tree → Option CallShape
+shape_of handings.ByValue args = Some (Plain args)
+shape_of handings.ByRef args = first_apart (λ first more. ByRef first more) args
+shape_of handings.AsObject args = first_apart (λ object more. Method object more) args
 
--- its request, where the arguments are enough, with the token that the name is
-abbrev pub request_of : CallWord → Option TypeTag → List ℕ → List Tree → Position → Option CallRequest
-request_of w want f args pos = option_map (λ shape. Named f (token_of f) (native_only w) shape want pos) (shape_of w args)
+-- a call by name, where the arguments are enough, with the token that the name is
+abbrev pub request_of : Bool → Handing → Option TypeTag → List ℕ → List Tree → Position → Option CallRequest
+request_of native_only handing want f args pos = option_map (λ shape. Named f (token_of f) native_only shape want pos) (shape_of handing args)
 
--- how the first word of a line is spelled; after `do` stands the word of a call
-abbrev pub keyword : Keyword → List ℕ
-keyword keywords.Limits = codes "limits"
-keyword keywords.Printer = codes "printer"
-keyword keywords.Builtin = codes "builtin"
-keyword keywords.Host = codes "host"
-keyword keywords.Body = codes "body"
-keyword (keywords.Do _) = codes "do"
-keyword keywords.Ret = codes "ret"
-keyword keywords.Fail = codes "fail"
-keyword keywords.Register = codes "register"
-keyword keywords.Module = codes "module"
-keyword keywords.Script = codes "script"
-keyword keywords.Lib = codes "lib"
-keyword keywords.PopLib = codes "pop-lib"
-keyword (keywords.Call w) = call_word w
+-- THE FORM OF A CALL: how its word is spelled, its operands, of which some may be given ones or not, and what it asks for at
+-- a position, with unit in the places of given values
+pub record CallForm : Type 0 where
+  pub spelling : List ℕ
+  pub operands : Bool → List Operand
+  pub request : (given : Bool) → From (operands given) (Position → Option CallRequest)
 
--- all keywords of one word
-abbrev pub one_word : List Keyword
-one_word = keywords.Limits ∷ keywords.Printer ∷ keywords.Builtin ∷ keywords.Host ∷ keywords.Body ∷ keywords.Ret ∷ keywords.Fail ∷ keywords.Register ∷ keywords.Module ∷ keywords.Script ∷ keywords.Lib ∷ keywords.PopLib ∷ keywords.Call words.Call ∷ keywords.Call words.CallNative ∷ keywords.Call words.Ref ∷ keywords.Call words.RefNative ∷ keywords.Call words.Method ∷ keywords.Call words.MethodNative ∷ []
+-- a call by name of this word, of natives alone or not
+abbrev pub by_name : List ℕ → Bool → Handing → CallForm
+by_name w native_only handing = record { spelling = w; operands = λ given. WANT ∷ NAME ∷ ARGS given ∷ []; request = λ given want f args. request_of native_only handing want f args.values }
 
--- limits, of which the level is at most 1,000
-abbrev pub allowed : Limits → Option Part
-allowed limits = if nat_le limits.level 1000 then Some (parts.Limits limits) else None
+-- THE CALLS
+abbrev pub call_form : CallWord → CallForm
+call_form words.Call = by_name (codes "call") false handings.ByValue
+call_form words.CallNative = by_name (codes "call-native") true handings.ByValue
+call_form words.Ref = by_name (codes "ref") false handings.ByRef
+call_form words.RefNative = by_name (codes "ref-native") true handings.ByRef
+call_form words.Method = by_name (codes "method") false handings.AsObject
+call_form words.MethodNative = by_name (codes "method-native") true handings.AsObject
 
--- the native of a number for an operator between two kinds, where the word is an operator and so many natives are held
-abbrev pub built_in : ℕ → List ℕ → TypeTag → TypeTag → ℕ → Option Part
-built_in held w left right n = option_and_then (λ op. if nat_lt n held then Some (parts.Builtin op left right (record { 0 = n })) else None) (operator_of w)
+-- all of them
+abbrev pub all_calls : List CallWord
+all_calls = words.Call ∷ words.CallNative ∷ words.Ref ∷ words.RefNative ∷ words.Method ∷ words.MethodNative ∷ []
+
+-- the arguments that an operand says
+abbrev pub arguments_of : (o : Operand) → Meaning o → Arguments
+arguments_of (ARG given) x = with_argument no_arguments x
+arguments_of (ARGS given) args = args
+arguments_of o x = no_arguments
+
+-- what is made of operands, and all arguments that they say, in order, after these
+abbrev pub collected : (A : Type 0) (os : List Operand) → Arguments → From os A → From os (A × Arguments)
+collected A [] args says = (says, args)
+collected A (o ∷ os) args says = λ x. collected A os (joined args (arguments_of o x)) (says x)
+
+-- a request, with the places of given values
+abbrev pub plan_of : Arguments → Option CallRequest → Option CallPlan
+plan_of args request = option_map (λ r. record { request = r; places = args.places }) request
+
+-- what a call says at a position; the places of given values count all arguments of its line in order, from 0
+abbrev pub planned : (f : CallForm) (given : Bool) → Position → From (f.operands given) (Option CallPlan)
+planned f given pos = from_then (f.operands given) (collected (Position → Option CallRequest) (f.operands given) no_arguments (f.request given)) (λ x. plan_of x.1 (x.0 pos))
+
+-- ---- parts of a session text
+
+-- a call line, in which no value is a given one
+abbrev pub called : CallWord → Form Part
+called w = record {
+  spelling = (call_form w).spelling;
+  operands = (call_form w).operands false;
+  part = λ place. from_then ((call_form w).operands false) (planned (call_form w) false (position place)) (option_map (λ plan. parts.Command (commands.Call plan.request)));
+}
+
+-- a call that a body makes, which may be handed given values
+abbrev pub step : CallWord → Form Part
+step w = record {
+  spelling = (call_form w).spelling;
+  operands = (call_form w).operands true;
+  part = λ place. from_then ((call_form w).operands true) (planned (call_form w) true nowhere) (option_map (λ plan. parts.Do plan));
+}
+
+-- the native of a number for an operator between two kinds, where the word is an operator
+abbrev pub built_in : List ℕ → TypeTag → TypeTag → ℕ → Option Part
+built_in w left right n = option_map (λ op. parts.Builtin op left right (record { 0 = n })) (operator_of w)
 
 -- the native of a number under a name, which has no `$`
 abbrev pub registered : List ℕ → ℕ → Option Part
@@ -166,25 +200,29 @@ access false = Public
 abbrev pub scripted : List ℕ → List (List ℕ) → ℕ → Option (List ℕ) → Bool → ScriptFuncDef
 scripted f params n type private = record { name = f; params = params; this_type = type; access = access private; body = record { 0 = n } }
 
--- a call line, and in a body a step, whose arguments may be given ones; a place counts all of them, a first one by
--- reference or an object included
-abbrev pub called : Bool → CallWord → Row
-called false w = record { operands = WANT ∷ NAME ∷ ARGS false ∷ []; part = λ place want f args. option_map (λ request. parts.Command (commands.Call request)) (request_of w want f args.values (position place)) }
-called true w = record { operands = WANT ∷ NAME ∷ ARGS true ∷ []; part = λ place want f args. option_map (λ request. parts.Do (record { request = request; places = args.places })) (request_of w want f args.values nowhere) }
-
 -- THE ROWS
-abbrev pub row : Keyword → Row
-row keywords.Limits = record { operands = NUM ∷ NUM ∷ NUM ∷ NUM ∷ LONG ∷ []; part = λ place a m t l b. allowed (record { array = a; map = m; text = t; level = l; budget = b }) }
-row keywords.Printer = record { operands = PRINTER ∷ []; part = λ place p. Some (parts.Printer p) }
-row keywords.Builtin = record { operands = WORD ∷ KIND ∷ KIND ∷ NUM ∷ []; part = λ place w left right n. built_in place.held w left right n }
-row keywords.Host = record { operands = WORD ∷ VALUE ∷ []; part = λ place f t. Some (parts.Host f t) }
-row keywords.Body = record { operands = []; part = λ place. Some parts.Body }
-row (keywords.Do w) = called true w
-row keywords.Ret = record { operands = ARG ∷ []; part = λ place x. Some (parts.End (answered x)) }
-row keywords.Fail = record { operands = WORD ∷ []; part = λ place text. Some (parts.End (Fail text)) }
-row keywords.Register = record { operands = WORD ∷ NUM ∷ []; part = λ place f n. registered f n }
-row keywords.Module = record { operands = []; part = λ place. Some (parts.Command commands.NewModule) }
-row keywords.Script = record { operands = NUM ∷ WORD ∷ WORDS ∷ NUM ∷ THIS ∷ OPTIONAL (codes "private") ∷ []; part = λ place m f params n type private. Some (parts.Command (commands.Script (record { 0 = m }) (scripted f params n type private))) }
-row keywords.Lib = record { operands = NUM ∷ []; part = λ place m. Some (parts.Command (commands.PushLib (record { 0 = m }))) }
-row keywords.PopLib = record { operands = []; part = λ place. Some (parts.Command commands.PopLib) }
-row (keywords.Call w) = called false w
+abbrev pub form : Keyword → Form Part
+form keywords.Limits = record { spelling = codes "limits"; operands = NUM ∷ NUM ∷ NUM ∷ NUM ∷ LONG ∷ []; part = λ place a m t l b. Some (parts.Limits (record { array = a; map = m; text = t; level = l; budget = b })) }
+form keywords.Printer = record { spelling = codes "printer"; operands = PRINTER ∷ []; part = λ place p. Some (parts.Printer p) }
+form keywords.Builtin = record { spelling = codes "builtin"; operands = WORD ∷ KIND ∷ KIND ∷ NUM ∷ []; part = λ place w left right n. built_in w left right n }
+form keywords.Host = record { spelling = codes "host"; operands = WORD ∷ VALUE ∷ []; part = λ place f t. Some (parts.Host f t) }
+form keywords.Body = record { spelling = codes "body"; operands = []; part = λ place. Some parts.Body }
+form keywords.Ret = record { spelling = codes "ret"; operands = ARG true ∷ []; part = λ place x. Some (parts.End (answered x)) }
+form keywords.Fail = record { spelling = codes "fail"; operands = WORD ∷ []; part = λ place text. Some (parts.End (Fail text)) }
+form keywords.Register = record { spelling = codes "register"; operands = WORD ∷ NUM ∷ []; part = λ place f n. registered f n }
+form keywords.Module = record { spelling = codes "module"; operands = []; part = λ place. Some (parts.Command commands.NewModule) }
+form keywords.Script = record { spelling = codes "script"; operands = NUM ∷ WORD ∷ WORDS ∷ NUM ∷ THIS ∷ OPTIONAL (codes "private") ∷ []; part = λ place m f params n type private. Some (parts.Command (commands.Script (record { 0 = m }) (scripted f params n type private))) }
+form keywords.Lib = record { spelling = codes "lib"; operands = NUM ∷ []; part = λ place m. Some (parts.Command (commands.PushLib (record { 0 = m }))) }
+form keywords.PopLib = record { spelling = codes "pop-lib"; operands = []; part = λ place. Some (parts.Command commands.PopLib) }
+form (keywords.Call w) = called w
+
+-- all keywords, the more frequent ones first
+abbrev pub all_keywords : List Keyword
+all_keywords = keywords.Call words.Call ∷ keywords.Call words.Ref ∷ keywords.Call words.Method ∷ keywords.Call words.CallNative ∷ keywords.Call words.RefNative ∷ keywords.Call words.MethodNative ∷ keywords.Register ∷ keywords.Script ∷ keywords.Module ∷ keywords.Lib ∷ keywords.PopLib ∷ keywords.Body ∷ keywords.Ret ∷ keywords.Fail ∷ keywords.Host ∷ keywords.Builtin ∷ keywords.Limits ∷ keywords.Printer ∷ []
+
+-- THE LINES OF A SESSION TEXT, and those that stand after `do`
+abbrev pub line_forms : Table Keyword Part
+line_forms = record { form = form; all = all_keywords }
+
+abbrev pub step_forms : Table CallWord Part
+step_forms = record { form = step; all = all_calls }

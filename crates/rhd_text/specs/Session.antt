@@ -1,14 +1,16 @@
 -- WHAT A SESSION TEXT SAYS: its lines one after the other, and which line is the first bad one.
-use Rattle.std.specs.Prelude.{◌≡◌, ℕ, ◌+◌, ◌-◌, ◌&&◌, ◌==◌, Bool, true, false, List, [], ◌∷◌, ◌++◌, length, slice_set, Option, Some, None, Result, Ok, Err, if◌then◌else◌}
+use Rattle.std.specs.Prelude.{◌≡◌, ℕ, ◌+◌, ◌-◌, ◌&&◌, ◌==◌, nat_le, nat_lt, not, Bool, true, false, List, [], ◌∷◌, ◌++◌, length, slice_set, Option, Some, None, Result, Ok, Err, if◌then◌else◌}
 use Rattle.std.specs.Option.{is_none}
 use Rattle.std.specs.List.{slice_get}
 use Rattle.rhd_value.specs.Tree.{Bytes, Tree}
 use Rattle.rhd_value.specs.Entries.{put}
 use Rattle.rhd_value.specs.declared.tag.FnId.{FnId}
-use Rattle.rhd_session.specs.declared.builtins.Operator.{Operator}
-use Rattle.rhd_session.specs.Operators.{put_builtin}
-use Rattle.rhd_session.specs.declared.limits.Limits.{Limits}
-use Rattle.rhd_session.specs.declared.limits.Printers.{Printers}
+use Rattle.rhd_func.specs.Natives.{NativeInfo}
+use Rattle.rhd_engine.specs.declared.builtins.Operator.{Operator}
+use Rattle.rhd_engine.specs.Operators.{put_builtin}
+use Rattle.rhd_call.specs.declared.command.Command.{Command}
+use Rattle.rhd_engine.specs.declared.limits.Limits.{Limits}
+use Rattle.rhd_engine.specs.declared.limits.Printers.{Printers}
 use Rattle.rhd_text.specs.declared.fault.TextFault.{TextFault}
 use Rattle.rhd_text.specs.declared.fault.TextFault.TheVariants.{BadLine, OutOfMemory}
 use Rattle.rhd_text.specs.declared.session.SessionText.{SessionText}
@@ -19,8 +21,6 @@ use Rattle.rhd_text.specs.declared.printers.Printer.{Printer}
 use Rattle.rhd_text.specs.declared.printers.Printer.TheVariants as printers
 use Rattle.rhd_text.specs.declared.part.Part.{Part}
 use Rattle.rhd_text.specs.declared.part.Part.TheVariants as parts
-use Rattle.rhd_text.specs.declared.line.Line.{Line}
-use Rattle.rhd_text.specs.declared.line.Line.TheVariants.{Skipped, Says}
 use Rattle.rhd_text.specs.Reading.{◌>>=◌}
 use Rattle.rhd_text.specs.Grammar.{IsLine}
 
@@ -32,25 +32,29 @@ empty_text = record { limits = None; printers = record { print = false; debug = 
 abbrev pub takes_headers : SessionText → Bool
 takes_headers t = length t.commands == 0
 
--- limits are set once at most, before the first command
+-- limits are set once at most, and no level is above 1,000
 unfoldable pub with_limits : SessionText → Limits → Option SessionText
-with_limits t limits = if takes_headers t && is_none t.limits then Some (record t { limits = Some limits }) else None
+with_limits t limits = if is_none t.limits && nat_le limits.level 1000 then Some (record t { limits = Some limits }) else None
 
 -- one printer more is set; again is allowed
 abbrev pub printers_with : Printer → Printers → Printers
 printers_with printers.Print p = record p { print = true }
 printers_with printers.Debug p = record p { debug = true }
 
-unfoldable pub with_printer : SessionText → Printer → Option SessionText
-with_printer t printer = if takes_headers t then Some (record t { printers = printers_with printer t.printers }) else None
+unfoldable pub with_printer : SessionText → Printer → SessionText
+with_printer t printer = record t { printers = printers_with printer t.printers }
 
--- the function of an operator between two kinds, in the place of an earlier one
-unfoldable pub with_builtin : SessionText → Operator → FnId → Option SessionText
-with_builtin t operator id = if takes_headers t then Some (record t { builtins = put_builtin operator id t.builtins }) else None
+-- whether the native of a number is one of these
+abbrev pub is_held : List NativeInfo → FnId → Bool
+is_held natives id = nat_lt id.0 (length natives)
+
+-- the function of an operator between two kinds, in the place of an earlier one; its native is held
+unfoldable pub with_builtin : List NativeInfo → SessionText → Operator → FnId → Option SessionText
+with_builtin natives t operator id = if is_held natives id then Some (record t { builtins = put_builtin operator id t.builtins }) else None
 
 -- what the host answers for a name, in the place of an earlier answer
-unfoldable pub with_host : SessionText → Bytes → Tree → Option SessionText
-with_host t name value = if takes_headers t then Some (record t { hosts = put name value t.hosts }) else None
+unfoldable pub with_host : SessionText → Bytes → Tree → SessionText
+with_host t name value = record t { hosts = put name value t.hosts }
 
 -- a body without calls and end
 abbrev pub new_body : BodyPlan
@@ -72,62 +76,80 @@ in_latest change bodies = do
   Some (slice_set bodies (length bodies - 1) c)
 
 -- the next body begins
-unfoldable pub with_body : SessionText → Option SessionText
-with_body t = if takes_headers t then Some (record t { bodies = t.bodies ++ new_body ∷ [] }) else None
+unfoldable pub with_body : SessionText → SessionText
+with_body t = record t { bodies = t.bodies ++ new_body ∷ [] }
 
 -- the latest body makes a call more
 unfoldable pub with_call : SessionText → CallPlan → Option SessionText
-with_call t call = if takes_headers t then (do
+with_call t call = do
   bodies ← in_latest (stepped call) t.bodies
-  Some (record t { bodies = bodies })) else None
+  Some (record t { bodies = bodies })
 
 -- the latest body ends
 unfoldable pub with_end : SessionText → BodyEnd → Option SessionText
-with_end t end = if takes_headers t then (do
+with_end t end = do
   bodies ← in_latest (ended end) t.bodies
-  Some (record t { bodies = bodies })) else None
+  Some (record t { bodies = bodies })
 
--- what is said with a part more; none where it may not stand there
-abbrev pub with_part : SessionText → Part → Option SessionText
-with_part t (parts.Limits limits) = with_limits t limits
-with_part t (parts.Printer printer) = with_printer t printer
-with_part t (parts.Builtin op left right id) = with_builtin t (record { token = op; left = left; right = right }) id
-with_part t (parts.Host name value) = with_host t name value
-with_part t parts.Body = with_body t
-with_part t (parts.Do call) = with_call t call
-with_part t (parts.End end) = with_end t end
-with_part t (parts.Command c) = Some (record t { commands = t.commands ++ c ∷ [] })
+-- one thing more to do
+unfoldable pub with_command : SessionText → Command → SessionText
+with_command t c = record t { commands = t.commands ++ c ∷ [] }
+
+-- what is said with a part more; none where the part is not allowed
+abbrev pub added : List NativeInfo → SessionText → Part → Option SessionText
+added natives t (parts.Limits limits) = with_limits t limits
+added natives t (parts.Printer printer) = Some (with_printer t printer)
+added natives t (parts.Builtin op left right id) = with_builtin natives t (record { token = op; left = left; right = right }) id
+added natives t (parts.Host name value) = Some (with_host t name value)
+added natives t parts.Body = Some (with_body t)
+added natives t (parts.Do call) = with_call t call
+added natives t (parts.End end) = with_end t end
+added natives t (parts.Command c) = Some (with_command t c)
+
+-- a header is any part but a command
+abbrev pub is_header : Part → Bool
+is_header (parts.Command c) = false
+is_header _ = true
+
+-- the same where headers stand before commands; none where the part may not stand there
+unfoldable pub with_part : List NativeInfo → SessionText → Part → Option SessionText
+with_part natives t p = if is_header p && not (takes_headers t) then None else added natives t p
 
 -- what is said with a line more; none where it may not stand there
-abbrev pub with_line : SessionText → Line → Option SessionText
-with_line t Skipped = Some t
-with_line t (Says p) = with_part t p
+abbrev pub with_line : List NativeInfo → SessionText → Option Part → Option SessionText
+with_line natives t None = Some t
+with_line natives t (Some p) = with_part natives t p
 
 -- after what t says these lines come, of which the first is line n, and then u is said
-abbrev pub IsText : ℕ → ℕ → SessionText → List (List ℕ) → SessionText → Type 0
-IsText held n t [] u = u ≡ t
-IsText held n t (line ∷ more) u = (l : Line) × (v : SessionText) × IsLine held n l line × (with_line t l ≡ Some v) × IsText held (n + 1) v more u
+abbrev pub IsText : List NativeInfo → ℕ → SessionText → List (List ℕ) → SessionText → Type 0
+IsText natives n t [] u = u ≡ t
+IsText natives n t (line ∷ more) u = (l : Option Part) × (v : SessionText) × IsLine n l line × (with_line natives t l ≡ Some v) × IsText natives (n + 1) v more u
 
 -- these lines say this
-abbrev pub IsSession : ℕ → List (List ℕ) → SessionText → Type 0
-IsSession held lines u = IsText held 1 empty_text lines u
+abbrev pub IsSession : List NativeInfo → List (List ℕ) → SessionText → Type 0
+IsSession natives lines u = IsText natives 1 empty_text lines u
 
--- the lines before line `number` are a text, and this one is no line that may stand there
-pub record IsFirstBad (held : ℕ) (number : ℕ) (lines : List (List ℕ)) : Type 0 where
+-- After what t says these lines come, of which the first is line `first`: those before line `number` are a text, and this one
+-- is no line that may stand there.
+pub record IsBadAfter (natives : List NativeInfo) (first : ℕ) (t : SessionText) (number : ℕ) (lines : List (List ℕ)) : Type 0 where
   pub front : List (List ℕ)
   pub bad : List ℕ
   pub more : List (List ℕ)
   pub all : lines ≡ front ++ bad ∷ more
-  pub place : number ≡ length front + 1
-  pub t : SessionText
-  pub earlier : IsText held 1 empty_text front t
-  pub here : (l : Line) (v : SessionText) → IsLine held number l bad → with_line t l ≡ Some v → ⊥
+  pub place : number ≡ first + length front
+  pub said : SessionText
+  pub earlier : IsText natives first t front said
+  pub here : (l : Option Part) (v : SessionText) → IsLine number l bad → with_line natives said l ≡ Some v → ⊥
+
+-- line `number` is the first of these that may not stand there
+abbrev pub IsFirstBad : List NativeInfo → ℕ → List (List ℕ) → Type 0
+IsFirstBad natives number lines = IsBadAfter natives 1 empty_text number lines
 
 -- what reading answered is what the lines are, unless memory ran out
-abbrev pub ReadsText : ℕ → List (List ℕ) → Result SessionText TextFault → Type 0
-ReadsText held lines (Ok t) = IsSession held lines t
-ReadsText held lines (Err (BadLine n)) = IsFirstBad held n lines
-ReadsText held lines (Err OutOfMemory) = Unit {0}
+abbrev pub ReadsText : List NativeInfo → List (List ℕ) → Result SessionText TextFault → Type 0
+ReadsText natives lines (Ok t) = IsSession natives lines t
+ReadsText natives lines (Err (BadLine n)) = IsFirstBad natives n lines
+ReadsText natives lines (Err OutOfMemory) = Unit {0}
 
 -- nothing but this was read, unless memory ran out
 abbrev pub ReadsNoOther : Result SessionText TextFault → SessionText → Type 0

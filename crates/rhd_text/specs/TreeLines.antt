@@ -1,8 +1,8 @@
 -- The calls of a tree in order, and the line of each.
 use Rattle.std.specs.Prelude.{ℕ, List, [], ◌∷◌, ◌++◌}
-use Rattle.rhd_session.specs.declared.node.CallNode.{CallNode, CallNode'}
-use Rattle.rhd_session.specs.declared.node.Nodes.{Nodes, Nodes', Row_of-CallNode, end_of-CallNode, more_of-CallNode}
-use Rattle.rhd_session.specs.Seen.{seen}
+use Rattle.rhd_call.specs.declared.node.CallNode.{CallNode, CallNode'}
+use Rattle.rhd_call.specs.declared.node.Nodes.{Nodes, Nodes', Row_of-CallNode, end_of-CallNode, more_of-CallNode}
+use Rattle.rhd_call.specs.Seen.{seen}
 use Rattle.rhd_text.specs.PrintedReplies.{indent, call_line}
 
 abbrev mutual

@@ -1,6 +1,6 @@
 //! Bodies: the plans of what a script's function does.
 
-ghost use Rattle.std.specs.Prelude.{◌≡◌, ◌++◌, ◌∷◌, [], length, if◌then◌else◌, is_ok, slice_get};
+ghost use Rattle.std.specs.Prelude.{◌≡◌, ◌++◌, ◌∷◌, [], IfOk, length, if◌then◌else◌, is_ok, slice_get};
 ghost use Rattle.std.specs.Option.{option_copied};
 ghost use Rattle.rhd_text.specs.Session.{new_body, stepped, ended, in_latest};
 ghost use Rattle.rhd_text.specs.Answers.{StepGives};
@@ -67,6 +67,17 @@ impl Places {
     {
         self.items.as_slice()
     }
+
+    /// An equal list.
+    pub fn dup(&self, alloc: Global) -> Result<Places, OutOfMemory>
+        ensures { IfOk result (λ places. places ≡ self.now) }
+    {
+        let mut places = Places::new(alloc);
+        for place in &self.items {
+            places.push(*place)?;
+        }
+        Ok(places)
+    }
 }
 
 /// A call that a body makes.
@@ -76,6 +87,18 @@ pub struct CallPlan {
     pub request: CallRequest,
     /// Where given values are to stand, in ascending order.
     pub places: Places,
+}
+
+impl CallPlan {
+    /// An equal plan.
+    pub fn dup(&self, alloc: Global) -> Result<CallPlan, OutOfMemory>
+        ensures { IfOk result (λ plan. plan ≡ self.now) }
+    {
+        Ok(CallPlan {
+            request: self.request.dup(alloc)?,
+            places: self.places.dup(alloc)?,
+        })
+    }
 }
 
 /// Calls in the order in which a body makes them. Contracts see the list of them.
@@ -126,6 +149,17 @@ impl CallPlans {
         self.items.as_slice()
     }
 
+    /// An equal list.
+    pub fn dup(&self, alloc: Global) -> Result<CallPlans, OutOfMemory>
+        ensures { IfOk result (λ calls. calls ≡ self.now) }
+    {
+        let mut calls = CallPlans::new(alloc);
+        for call in &self.items {
+            calls.push(call.dup(alloc)?)?;
+        }
+        Ok(calls)
+    }
+
     /// The call at a place, counted from 0; none where there is nothing.
     pub fn get(&self, at: usize) -> Option<&CallPlan>
         ensures { option_copied result ≡ slice_get self.now at }
@@ -143,6 +177,29 @@ pub enum BodyEnd {
     RetGiven(Given),
     /// It fails with this text.
     Fail(Text),
+}
+
+impl BodyEnd {
+    /// An equal end.
+    pub fn dup(&self, alloc: Global) -> Result<BodyEnd, OutOfMemory>
+        ensures { IfOk result (λ end. end ≡ self.now) }
+    {
+        match self {
+            BodyEnd::Ret(value) => Ok(BodyEnd::Ret(value.dup(alloc)?)),
+            BodyEnd::RetGiven(given) => Ok(BodyEnd::RetGiven(*given)),
+            BodyEnd::Fail(text) => Ok(BodyEnd::Fail(text.dup(alloc)?)),
+        }
+    }
+}
+
+/// An equal end, where there is one.
+fn dup_end(alloc: Global, end: &Option<BodyEnd>) -> Result<Option<BodyEnd>, OutOfMemory>
+    ensures { IfOk result (λ made. made ≡ end.now) }
+{
+    match end {
+        Some(end) => Ok(Some(end.dup(alloc)?)),
+        None => Ok(None),
+    }
 }
 
 /// What a body does.
@@ -163,6 +220,16 @@ impl BodyPlan {
             calls: CallPlans::new(alloc),
             end: None,
         }
+    }
+
+    /// An equal plan.
+    pub fn dup(&self, alloc: Global) -> Result<BodyPlan, OutOfMemory>
+        ensures { IfOk result (λ body. body ≡ self.now) }
+    {
+        Ok(BodyPlan {
+            calls: self.calls.dup(alloc)?,
+            end: dup_end(alloc, &self.end)?,
+        })
     }
 
     /// Adds a call, where the body has no end yet.
@@ -231,6 +298,17 @@ impl BodyPlans {
         ensures { result ≡ length self.now }
     {
         self.items.len()
+    }
+
+    /// An equal list.
+    pub fn dup(&self, alloc: Global) -> Result<BodyPlans, OutOfMemory>
+        ensures { IfOk result (λ bodies. bodies ≡ self.now) }
+    {
+        let mut bodies = BodyPlans::new(alloc);
+        for body in &self.items {
+            bodies.push(body.dup(alloc)?)?;
+        }
+        Ok(bodies)
     }
 
     /// The body of a number; none where there is nothing.

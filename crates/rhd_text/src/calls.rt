@@ -5,20 +5,20 @@ ghost use Rattle.rhd_text.specs.Grammar.{IsCallOrNone};
 ghost use Rattle.rhd_text.specs.ReadRows.{request_in};
 
 use crate::fault::Stop;
-use crate::line::{Line, line_at};
+use crate::line::line_at;
 use crate::part::Part;
 use crate::place::Place;
+use rhd_call::Command;
 use rhd_func::CallRequest;
-use rhd_session::Command;
 use rhd_value::OutOfMemory;
 use std::alloc::Global;
 
 /// The request of a line, where that is a call line.
-fn request_in(line: Line) -> Option<CallRequest>
+fn request_in(line: Option<Part>) -> Option<CallRequest>
     ensures { result ≡ request_in line }
 {
     match line {
-        Line::Says(Part::Command(Command::Call(request))) => Some(request),
+        Some(Part::Command(Command::Call(request))) => Some(request),
         _ => None,
     }
 }
@@ -32,11 +32,7 @@ pub fn read_call(
 ) -> Result<Option<CallRequest>, OutOfMemory>
     ensures { IfOk result (IsCallOrNone number line.now) }
 {
-    let place = Place {
-        held: 0,
-        line: number,
-    };
-    match line_at(alloc, line, place) {
+    match line_at(alloc, line, Place { line: number }) {
         Ok(line) => Ok(request_in(line)),
         Err(Stop::Bad) => Ok(None),
         Err(Stop::Memory) => Err(OutOfMemory),

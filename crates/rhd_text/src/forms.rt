@@ -3,33 +3,34 @@
 ghost use Rattle.std.specs.Prelude.{◌≡◌, ◌==◌, not};
 ghost use Rattle.std.specs.List.{list_all};
 ghost use Rattle.rhd_text.specs.declared.keyword.Keyword.TheVariants as keywords;
-ghost use Rattle.rhd_text.specs.Rows.{answered, access, built_in, registered};
-ghost use Rattle.rhd_text.specs.ReadRows.{row_at};
+ghost use Rattle.rhd_text.specs.Rows.{answered, access, built_in, registered, called, step, form, step_forms};
+ghost use Rattle.rhd_text.specs.ReadRows.{row_at, form_at, part_at};
 ghost use Rattle.rhd_text.specs.Answers.{Gives};
 
-use crate::arguments::{Argument, Arguments, argument_at, arguments_at};
-use crate::body::{BodyEnd, CallPlan};
+use crate::arguments::{Argument, argument_at};
+use crate::body::BodyEnd;
 use crate::fault::Stop;
-use crate::keyword::{CallWord, Keyword};
+use crate::keyword::{CallWord, Keyword, call_of, keyword_of};
 use crate::numbers::{long_at, num_at};
-use crate::operands::{name_at, texts_at, this_at};
+use crate::operands::{texts_at, this_at};
 use crate::operators::operator_of;
 use crate::part::Part;
 use crate::place::Place;
 use crate::printers::printer_at;
 use crate::quoted::wording_at;
-use crate::requests::request_of;
+use crate::requests::plan_at;
 use crate::values::value_at;
-use crate::wants::{value_kind_at, want_at};
-use crate::words::{flag_at, is_end};
+use crate::wants::value_kind_at;
+use crate::words::{flag_at, is_end, word_at};
+use rhd_call::{Command, ModuleId};
+use rhd_engine::Limits;
 use rhd_func::{BodyId, FnAccess, ScriptFuncDef, SharedDef};
-use rhd_session::{Command, Limits, ModuleId};
 use rhd_value::{FnId, Position, Text, TypeTag};
 use std::alloc::Global;
 
 #[tactic(auto, unfolding(crate::specs::ReadRows::row_at))]
 fn printer_line_at(bytes: &[u8], place: Place) -> Result<Part, Stop>
-    ensures { Gives (λ x. x) result (row_at place keywords.Printer bytes.now) }
+    ensures { Gives (λ x. x) result (row_at place (form keywords.Printer) bytes.now) }
 {
     let (printer, rest) = printer_at(bytes)?;
     if !is_end(rest) {
@@ -38,14 +39,11 @@ fn printer_line_at(bytes: &[u8], place: Place) -> Result<Part, Stop>
     Ok(Part::Printer(printer))
 }
 
-/// The native of a number for the operator of a word, where so many natives are held.
-fn built_in(held: usize, word: &Text, left: TypeTag, right: TypeTag, number: u32) -> Option<Part>
-    ensures { result ≡ built_in held word.now left right number }
+/// The native of a number for the operator of a word.
+fn built_in(word: &Text, left: TypeTag, right: TypeTag, number: u32) -> Option<Part>
+    ensures { result ≡ built_in word.now left right number }
 {
     let op = operator_of(word.as_str())?;
-    if number as usize >= held {
-        return None;
-    }
     Some(Part::Builtin {
         op,
         left,
@@ -56,7 +54,7 @@ fn built_in(held: usize, word: &Text, left: TypeTag, right: TypeTag, number: u32
 
 #[tactic(auto, unfolding(crate::specs::ReadRows::row_at))]
 fn builtin_at(alloc: Global, bytes: &[u8], place: Place) -> Result<Part, Stop>
-    ensures { Gives (λ x. x) result (row_at place keywords.Builtin bytes.now) }
+    ensures { Gives (λ x. x) result (row_at place (form keywords.Builtin) bytes.now) }
 {
     let (word, rest) = wording_at(alloc, bytes)?;
     let (left, rest) = value_kind_at(rest)?;
@@ -65,7 +63,7 @@ fn builtin_at(alloc: Global, bytes: &[u8], place: Place) -> Result<Part, Stop>
     if !is_end(rest) {
         return Err(Stop::Bad);
     }
-    match built_in(place.held, &word, left, right, number) {
+    match built_in(&word, left, right, number) {
         Some(part) => Ok(part),
         None => Err(Stop::Bad),
     }
@@ -73,7 +71,7 @@ fn builtin_at(alloc: Global, bytes: &[u8], place: Place) -> Result<Part, Stop>
 
 #[tactic(auto, unfolding(crate::specs::ReadRows::row_at))]
 fn host_at(alloc: Global, bytes: &[u8], place: Place) -> Result<Part, Stop>
-    ensures { Gives (λ x. x) result (row_at place keywords.Host bytes.now) }
+    ensures { Gives (λ x. x) result (row_at place (form keywords.Host) bytes.now) }
 {
     let (name, rest) = wording_at(alloc, bytes)?;
     let (answer, rest) = value_at(alloc, rest)?;
@@ -105,7 +103,7 @@ fn registered(name: Text, number: u32) -> Option<Part>
 
 #[tactic(auto, unfolding(crate::specs::ReadRows::row_at))]
 fn register_at(alloc: Global, bytes: &[u8], place: Place) -> Result<Part, Stop>
-    ensures { Gives (λ x. x) result (row_at place keywords.Register bytes.now) }
+    ensures { Gives (λ x. x) result (row_at place (form keywords.Register) bytes.now) }
 {
     let (name, rest) = wording_at(alloc, bytes)?;
     let (number, rest) = num_at(rest)?;
@@ -118,42 +116,25 @@ fn register_at(alloc: Global, bytes: &[u8], place: Place) -> Result<Part, Stop>
     }
 }
 
-#[tactic(auto, unfolding(crate::specs::ReadRows::row_at))]
+#[tactic(auto, using(crate::proofs::PlanLaws::call_row))]
 fn call_at(alloc: Global, bytes: &[u8], place: Place, call: CallWord) -> Result<Part, Stop>
-    ensures { Gives (λ x. x) result (row_at place (keywords.Call call) bytes.now) }
+    ensures { Gives (λ x. x) result (row_at place (called call) bytes.now) }
 {
-    let (want, rest) = want_at(bytes)?;
-    let (name, rest) = name_at(alloc, rest)?;
-    let (args, rest) = arguments_at(alloc, rest, false)?;
-    if !is_end(rest) {
-        return Err(Stop::Bad);
-    }
-    match request_of(call, want, name, args.values, place.position()) {
-        Some(request) => Ok(Part::Command(Command::Call(request))),
-        None => Err(Stop::Bad),
-    }
+    let plan = plan_at(alloc, bytes, false, call, place.position())?;
+    Ok(Part::Command(Command::Call(plan.request)))
 }
 
-#[tactic(auto, unfolding(crate::specs::ReadRows::row_at))]
+#[tactic(auto, using(crate::proofs::PlanLaws::step_row))]
 fn do_at(alloc: Global, bytes: &[u8], place: Place, call: CallWord) -> Result<Part, Stop>
-    ensures { Gives (λ x. x) result (row_at place (keywords.Do call) bytes.now) }
+    ensures { Gives (λ x. x) result (row_at place (step call) bytes.now) }
 {
-    let (want, rest) = want_at(bytes)?;
-    let (name, rest) = name_at(alloc, rest)?;
-    let (args, rest) = arguments_at(alloc, rest, true)?;
-    if !is_end(rest) {
-        return Err(Stop::Bad);
-    }
-    let Arguments { values, places } = args;
-    match request_of(call, want, name, values, Position::NONE) {
-        Some(request) => Ok(Part::Do(CallPlan { request, places })),
-        None => Err(Stop::Bad),
-    }
+    let plan = plan_at(alloc, bytes, true, call, Position::NONE)?;
+    Ok(Part::Do(plan))
 }
 
 #[tactic(auto, unfolding(crate::specs::ReadRows::row_at))]
 fn body_at(bytes: &[u8], place: Place) -> Result<Part, Stop>
-    ensures { Gives (λ x. x) result (row_at place keywords.Body bytes.now) }
+    ensures { Gives (λ x. x) result (row_at place (form keywords.Body) bytes.now) }
 {
     if !is_end(bytes) {
         return Err(Stop::Bad);
@@ -172,7 +153,7 @@ fn answered(argument: Argument) -> BodyEnd
 
 #[tactic(auto, unfolding(crate::specs::ReadRows::row_at))]
 fn ret_at(alloc: Global, bytes: &[u8], place: Place) -> Result<Part, Stop>
-    ensures { Gives (λ x. x) result (row_at place keywords.Ret bytes.now) }
+    ensures { Gives (λ x. x) result (row_at place (form keywords.Ret) bytes.now) }
 {
     let (argument, rest) = argument_at(alloc, bytes, true)?;
     if !is_end(rest) {
@@ -183,7 +164,7 @@ fn ret_at(alloc: Global, bytes: &[u8], place: Place) -> Result<Part, Stop>
 
 #[tactic(auto, unfolding(crate::specs::ReadRows::row_at))]
 fn fail_at(alloc: Global, bytes: &[u8], place: Place) -> Result<Part, Stop>
-    ensures { Gives (λ x. x) result (row_at place keywords.Fail bytes.now) }
+    ensures { Gives (λ x. x) result (row_at place (form keywords.Fail) bytes.now) }
 {
     let (text, rest) = wording_at(alloc, bytes)?;
     if !is_end(rest) {
@@ -194,14 +175,14 @@ fn fail_at(alloc: Global, bytes: &[u8], place: Place) -> Result<Part, Stop>
 
 #[tactic(auto, unfolding(crate::specs::ReadRows::row_at))]
 fn limits_at(bytes: &[u8], place: Place) -> Result<Part, Stop>
-    ensures { Gives (λ x. x) result (row_at place keywords.Limits bytes.now) }
+    ensures { Gives (λ x. x) result (row_at place (form keywords.Limits) bytes.now) }
 {
     let (array, rest) = num_at(bytes)?;
     let (map, rest) = num_at(rest)?;
     let (text, rest) = num_at(rest)?;
     let (level, rest) = num_at(rest)?;
     let (budget, rest) = long_at(rest)?;
-    if level > 1000 || !is_end(rest) {
+    if !is_end(rest) {
         return Err(Stop::Bad);
     }
     Ok(Part::Limits(Limits {
@@ -215,7 +196,7 @@ fn limits_at(bytes: &[u8], place: Place) -> Result<Part, Stop>
 
 #[tactic(auto, unfolding(crate::specs::ReadRows::row_at))]
 fn module_at(bytes: &[u8], place: Place) -> Result<Part, Stop>
-    ensures { Gives (λ x. x) result (row_at place keywords.Module bytes.now) }
+    ensures { Gives (λ x. x) result (row_at place (form keywords.Module) bytes.now) }
 {
     if !is_end(bytes) {
         return Err(Stop::Bad);
@@ -234,7 +215,7 @@ fn access(private: bool) -> FnAccess
 
 #[tactic(auto, unfolding(crate::specs::ReadRows::row_at))]
 fn script_at(alloc: Global, bytes: &[u8], place: Place) -> Result<Part, Stop>
-    ensures { Gives (λ x. x) result (row_at place keywords.Script bytes.now) }
+    ensures { Gives (λ x. x) result (row_at place (form keywords.Script) bytes.now) }
 {
     let (module, rest) = num_at(bytes)?;
     let (name, rest) = wording_at(alloc, rest)?;
@@ -260,7 +241,7 @@ fn script_at(alloc: Global, bytes: &[u8], place: Place) -> Result<Part, Stop>
 
 #[tactic(auto, unfolding(crate::specs::ReadRows::row_at))]
 fn lib_at(bytes: &[u8], place: Place) -> Result<Part, Stop>
-    ensures { Gives (λ x. x) result (row_at place keywords.Lib bytes.now) }
+    ensures { Gives (λ x. x) result (row_at place (form keywords.Lib) bytes.now) }
 {
     let (module, rest) = num_at(bytes)?;
     if !is_end(rest) {
@@ -273,7 +254,7 @@ fn lib_at(bytes: &[u8], place: Place) -> Result<Part, Stop>
 
 #[tactic(auto, unfolding(crate::specs::ReadRows::row_at))]
 fn pop_lib_at(bytes: &[u8], place: Place) -> Result<Part, Stop>
-    ensures { Gives (λ x. x) result (row_at place keywords.PopLib bytes.now) }
+    ensures { Gives (λ x. x) result (row_at place (form keywords.PopLib) bytes.now) }
 {
     if !is_end(bytes) {
         return Err(Stop::Bad);
@@ -282,8 +263,8 @@ fn pop_lib_at(bytes: &[u8], place: Place) -> Result<Part, Stop>
 }
 
 /// The part of a line form, by what stands after its keyword.
-pub fn row_at(alloc: Global, keyword: Keyword, bytes: &[u8], place: Place) -> Result<Part, Stop>
-    ensures { Gives (λ x. x) result (row_at place keyword bytes.now) }
+fn row_at(alloc: Global, keyword: Keyword, bytes: &[u8], place: Place) -> Result<Part, Stop>
+    ensures { Gives (λ x. x) result (row_at place (form keyword) bytes.now) }
 {
     match keyword {
         Keyword::Limits => limits_at(bytes, place),
@@ -291,7 +272,6 @@ pub fn row_at(alloc: Global, keyword: Keyword, bytes: &[u8], place: Place) -> Re
         Keyword::Builtin => builtin_at(alloc, bytes, place),
         Keyword::Host => host_at(alloc, bytes, place),
         Keyword::Body => body_at(bytes, place),
-        Keyword::Do(call) => do_at(alloc, bytes, place, call),
         Keyword::Ret => ret_at(alloc, bytes, place),
         Keyword::Fail => fail_at(alloc, bytes, place),
         Keyword::Register => register_at(alloc, bytes, place),
@@ -301,4 +281,31 @@ pub fn row_at(alloc: Global, keyword: Keyword, bytes: &[u8], place: Place) -> Re
         Keyword::PopLib => pop_lib_at(bytes, place),
         Keyword::Call(call) => call_at(alloc, bytes, place, call),
     }
+}
+
+/// What stands after `do`.
+#[tactic(auto, unfolding(crate::specs::ReadRows::form_at))]
+fn step_at(alloc: Global, bytes: &[u8], place: Place) -> Result<Part, Stop>
+    ensures { Gives (λ x. x) result (form_at step_forms place bytes.now) }
+{
+    let (word, rest) = word_at(bytes)?;
+    let Some(call) = call_of(word) else {
+        return Err(Stop::Bad);
+    };
+    do_at(alloc, rest, place, call)
+}
+
+/// The part of a text that a line is.
+#[tactic(auto, unfolding(crate::specs::ReadRows::part_at))]
+pub fn part_at(alloc: Global, line: &[u8], place: Place) -> Result<Part, Stop>
+    ensures { Gives (λ x. x) result (part_at place line.now) }
+{
+    let (word, rest) = word_at(line)?;
+    if word == b"do".as_slice() {
+        return step_at(alloc, rest, place);
+    }
+    let Some(keyword) = keyword_of(word) else {
+        return Err(Stop::Bad);
+    };
+    row_at(alloc, keyword, rest, place)
 }

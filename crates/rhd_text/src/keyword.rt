@@ -1,14 +1,10 @@
-//! Keywords.
+//! Keywords: the words that lines and calls begin with.
 
-ghost use Rattle.std.specs.Prelude.{◌≡◌, Some, IfSome};
-ghost use Rattle.rhd_text.specs.Rows.{call_word, native_only, keyword};
-ghost use Rattle.rhd_text.specs.ReadRows.{keyword_in, keyword_of, step_at, keyword_at};
-ghost use Rattle.rhd_text.specs.Answers.{Gives};
+ghost use Rattle.std.specs.Prelude.{◌≡◌};
+ghost use Rattle.rhd_text.specs.Rows.{call_form, all_calls, step, form, all_keywords};
+ghost use Rattle.rhd_text.specs.ReadRows.{keyword_in};
 
-use crate::fault::Stop;
-use crate::words::word_at;
-
-/// The word of a line that makes a call.
+/// The word of a call.
 #[derive(Clone, Copy, Debug, PartialEq, Eq)]
 pub enum CallWord {
     Call,
@@ -21,7 +17,7 @@ pub enum CallWord {
 
 impl CallWord {
     fn spelling(self) -> &'static [u8]
-        ensures { result.now ≡ call_word self }
+        ensures { result.now ≡ (call_form self).spelling }
     {
         match self {
             CallWord::Call => b"call",
@@ -32,23 +28,9 @@ impl CallWord {
             CallWord::MethodNative => b"method-native",
         }
     }
-
-    /// Whether only natives may answer.
-    pub fn native_only(self) -> bool
-        ensures { result ≡ native_only self }
-    {
-        match self {
-            CallWord::Call => false,
-            CallWord::CallNative => true,
-            CallWord::Ref => false,
-            CallWord::RefNative => true,
-            CallWord::Method => false,
-            CallWord::MethodNative => true,
-        }
-    }
 }
 
-/// What a line begins with: one word, or `do` and the word of a call.
+/// The word that a line begins with.
 #[derive(Clone, Copy, Debug, PartialEq, Eq)]
 pub enum Keyword {
     Limits,
@@ -56,7 +38,6 @@ pub enum Keyword {
     Builtin,
     Host,
     Body,
-    Do(CallWord),
     Ret,
     Fail,
     Register,
@@ -68,9 +49,8 @@ pub enum Keyword {
 }
 
 impl Keyword {
-    /// The first word.
     fn spelling(self) -> &'static [u8]
-        ensures { result.now ≡ keyword self }
+        ensures { result.now ≡ (form self).spelling }
     {
         match self {
             Keyword::Limits => b"limits",
@@ -78,7 +58,6 @@ impl Keyword {
             Keyword::Builtin => b"builtin",
             Keyword::Host => b"host",
             Keyword::Body => b"body",
-            Keyword::Do(_) => b"do",
             Keyword::Ret => b"ret",
             Keyword::Fail => b"fail",
             Keyword::Register => b"register",
@@ -92,8 +71,37 @@ impl Keyword {
 }
 
 #[tactic(auto, unfolding(crate::specs::ReadRows::keyword_in))]
+fn call_in(calls: &[CallWord], word: &[u8]) -> Option<CallWord>
+    ensures { result ≡ keyword_in step calls.now word.now }
+{
+    for k in calls {
+        if k.spelling() == word {
+            return Some(*k);
+        }
+    }
+    None
+}
+
+/// The word of a call that is spelled so.
+pub fn call_of(word: &[u8]) -> Option<CallWord>
+    ensures { result ≡ keyword_in step all_calls word.now }
+{
+    call_in(
+        &[
+            CallWord::Call,
+            CallWord::CallNative,
+            CallWord::Ref,
+            CallWord::RefNative,
+            CallWord::Method,
+            CallWord::MethodNative,
+        ],
+        word,
+    )
+}
+
+#[tactic(auto, unfolding(crate::specs::ReadRows::keyword_in))]
 fn keyword_in(keywords: &[Keyword], word: &[u8]) -> Option<Keyword>
-    ensures { result ≡ keyword_in keywords.now word.now }
+    ensures { result ≡ keyword_in form keywords.now word.now }
 {
     for k in keywords {
         if k.spelling() == word {
@@ -103,74 +111,31 @@ fn keyword_in(keywords: &[Keyword], word: &[u8]) -> Option<Keyword>
     None
 }
 
-/// The keyword of a word that calls are made with, which most lines begin with.
-#[tactic(auto, unfolding(crate::specs::ReadRows::keyword_in))]
-fn frequent(word: &[u8]) -> Option<Keyword>
-    ensures { IfSome result (λ k. keyword_of word.now ≡ Some k) }
+/// The keyword that is spelled so.
+pub fn keyword_of(word: &[u8]) -> Option<Keyword>
+    ensures { result ≡ keyword_in form all_keywords word.now }
 {
-    match word {
-        b"call" => Some(Keyword::Call(CallWord::Call)),
-        b"ref" => Some(Keyword::Call(CallWord::Ref)),
-        b"method" => Some(Keyword::Call(CallWord::Method)),
-        _ => None,
-    }
-}
-
-/// The keyword of one word that is spelled so.
-fn keyword_of(word: &[u8]) -> Option<Keyword>
-    ensures { result ≡ keyword_of word.now }
-{
-    if let Some(keyword) = frequent(word) {
-        return Some(keyword);
-    }
     keyword_in(
         &[
-            Keyword::Limits,
-            Keyword::Printer,
-            Keyword::Builtin,
-            Keyword::Host,
+            Keyword::Call(CallWord::Call),
+            Keyword::Call(CallWord::Ref),
+            Keyword::Call(CallWord::Method),
+            Keyword::Call(CallWord::CallNative),
+            Keyword::Call(CallWord::RefNative),
+            Keyword::Call(CallWord::MethodNative),
+            Keyword::Register,
+            Keyword::Script,
+            Keyword::Module,
+            Keyword::Lib,
+            Keyword::PopLib,
             Keyword::Body,
             Keyword::Ret,
             Keyword::Fail,
-            Keyword::Register,
-            Keyword::Module,
-            Keyword::Script,
-            Keyword::Lib,
-            Keyword::PopLib,
-            Keyword::Call(CallWord::Call),
-            Keyword::Call(CallWord::CallNative),
-            Keyword::Call(CallWord::Ref),
-            Keyword::Call(CallWord::RefNative),
-            Keyword::Call(CallWord::Method),
-            Keyword::Call(CallWord::MethodNative),
+            Keyword::Host,
+            Keyword::Builtin,
+            Keyword::Limits,
+            Keyword::Printer,
         ],
         word,
     )
-}
-
-/// The word of a call after `do`, and the bytes after it.
-#[tactic(auto, unfolding(crate::specs::ReadRows::step_at))]
-fn step_at(bytes: &[u8]) -> Result<(Keyword, &[u8]), Stop>
-    ensures { Gives (λ x. (x.0, x.1.now)) result (step_at bytes.now) }
-{
-    let (word, rest) = word_at(bytes)?;
-    match keyword_of(word) {
-        Some(Keyword::Call(call)) => Ok((Keyword::Do(call), rest)),
-        _ => Err(Stop::Bad),
-    }
-}
-
-/// What the line begins with, and the bytes after it.
-#[tactic(auto, unfolding(crate::specs::ReadRows::keyword_at))]
-pub fn keyword_at(bytes: &[u8]) -> Result<(Keyword, &[u8]), Stop>
-    ensures { Gives (λ x. (x.0, x.1.now)) result (keyword_at bytes.now) }
-{
-    let (word, rest) = word_at(bytes)?;
-    if word == b"do".as_slice() {
-        return step_at(rest);
-    }
-    let Some(keyword) = keyword_of(word) else {
-        return Err(Stop::Bad);
-    };
-    Ok((keyword, rest))
 }

@@ -1,7 +1,8 @@
 //! What is read is what is written.
 
-ghost use Rattle.std.specs.Prelude.{◌≡◌, ◌≤◌, ◌↔◌, List, ◌∷◌, ◌++◌, ℕ, Some, true};
-ghost use Rattle.rhd_text.specs.declared.line.Line.{Line};
+ghost use Rattle.std.specs.Prelude.{◌≡◌, ◌≤◌, ◌↔◌, ◌⊎◌, Option, List, ◌∷◌, ◌++◌, ℕ, Some, true};
+ghost use Rattle.rhd_func.specs.Natives.{NativeInfo};
+ghost use Rattle.rhd_text.specs.declared.part.Part.{Part};
 ghost use Rattle.rhd_text.specs.declared.session.SessionText.{SessionText};
 ghost use Rattle.std.specs.Str.{is_utf8};
 ghost use Rattle.rhd_text.specs.Bytes.{is_blank, is_bracket, may_end};
@@ -15,13 +16,19 @@ ghost use Rattle.rhd_text.specs.ReadRows.{line_of};
 
 /// A line is read as exactly what it is a way of writing.
 pub fn lines_are_read_as_they_are_written()
-    ensures { (held n : ℕ) (line : Line) (bytes : List ℕ) → (line_of held n bytes ≡ Some line) ↔ IsLine held n line bytes }
+    ensures { (n : ℕ) (line : Option Part) (bytes : List ℕ) → (line_of n bytes ≡ Some line) ↔ IsLine n line bytes }
 {}
 
 /// A text says one thing at most, and a text has no bad line.
 pub fn texts_say_one_thing()
-    ensures one { (held : ℕ) (lines : List (List ℕ)) (t u : SessionText) → IsSession held lines t → IsSession held lines u → t ≡ u }
-    ensures not_bad { (held : ℕ) (lines : List (List ℕ)) (t : SessionText) (n : ℕ) → IsSession held lines t → IsFirstBad held n lines → ⊥ }
+    ensures one { (natives : List NativeInfo) (lines : List (List ℕ)) (t u : SessionText) → IsSession natives lines t → IsSession natives lines u → t ≡ u }
+    ensures not_bad { (natives : List NativeInfo) (lines : List (List ℕ)) (t : SessionText) (n : ℕ) → IsSession natives lines t → IsFirstBad natives n lines → ⊥ }
+{}
+
+/// Lines are a session text or have a first bad line, whose number is the only one.
+pub fn every_text_is_read_or_has_a_first_bad_line()
+    ensures either { (natives : List NativeInfo) (lines : List (List ℕ)) → ((u : SessionText) × IsSession natives lines u) ⊎ ((n : ℕ) × IsFirstBad natives n lines) }
+    ensures one { (natives : List NativeInfo) (lines : List (List ℕ)) (m n : ℕ) → IsFirstBad natives m lines → IsFirstBad natives n lines → m ≡ n }
 {}
 
 /// Bytes are one value at most.

@@ -33,8 +33,9 @@ pub use body::{BodyEnd, BodyPlan, BodyPlans, CallPlan, CallPlans, Given, GivenAt
 pub use calls::read_call;
 pub use fault::TextFault;
 pub use laws::{
-    lines_are_read_as_they_are_written, printed_values_are_read_again, texts_of_lines_are_utf8,
-    texts_say_one_thing, values_are_what_can_be_written, values_say_one_thing,
+    every_text_is_read_or_has_a_first_bad_line, lines_are_read_as_they_are_written,
+    printed_values_are_read_again, texts_of_lines_are_utf8, texts_say_one_thing,
+    values_are_what_can_be_written, values_say_one_thing,
 };
 pub use operand::read_value;
 pub use printing::{print_replies, print_reply, print_value};

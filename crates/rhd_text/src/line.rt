@@ -2,23 +2,15 @@
 
 ghost use Rattle.std.specs.Prelude.{◌≡◌, IsTrue};
 ghost use Rattle.std.specs.Str.{IsAscii, is_utf8};
-ghost use Rattle.rhd_text.specs.ReadRows.{is_skipped, line_at};
+ghost use Rattle.rhd_text.specs.ReadRows.{is_skipped, part_at, line_by};
 ghost use Rattle.rhd_text.specs.Answers.{Gives};
 
 use crate::fault::Stop;
-use crate::forms::row_at;
-use crate::keyword::keyword_at;
+use crate::forms::part_at;
 use crate::part::Part;
 use crate::place::Place;
 use crate::words::skip_blanks;
 use std::alloc::Global;
-
-/// What one line is, where it is a line.
-#[derive(Drop)]
-pub enum Line {
-    Skipped,
-    Says(Part),
-}
 
 /// Whether a line says nothing: it is blank, or a comment.
 pub fn is_skipped(line: &[u8]) -> bool
@@ -52,18 +44,16 @@ pub fn is_text(line: &[u8]) -> bool
     str::from_utf8(line).is_ok()
 }
 
-/// What a line says.
-#[tactic(auto, unfolding(crate::specs::ReadRows::line_at))]
-pub fn line_at(alloc: Global, line: &[u8], place: Place) -> Result<Line, Stop>
-    ensures { Gives (λ x. x) result (line_at place line.now) }
+/// The part of a text that a line is; none where it says nothing.
+#[tactic(auto, unfolding(crate::specs::ReadRows::line_by))]
+pub fn line_at(alloc: Global, line: &[u8], place: Place) -> Result<Option<Part>, Stop>
+    ensures { Gives (λ x. x) result (line_by (part_at place) line.now) }
 {
     if !is_text(line) {
         return Err(Stop::Bad);
     }
     if is_skipped(line) {
-        return Ok(Line::Skipped);
+        return Ok(None);
     }
-    let (keyword, rest) = keyword_at(line)?;
-    let part = row_at(alloc, keyword, rest, place)?;
-    Ok(Line::Says(part))
+    Ok(Some(part_at(alloc, line, place)?))
 }

@@ -1,9 +1,13 @@
 //! Parts of a session text.
 
+ghost use Rattle.std.specs.Prelude.{◌≡◌};
+ghost use Rattle.rhd_text.specs.Session.{is_header};
+
 use crate::body::{BodyEnd, CallPlan};
 use crate::printers::Printer;
+use rhd_call::Command;
+use rhd_engine::Limits;
 use rhd_names::OpToken;
-use rhd_session::{Command, Limits};
 use rhd_value::{Dynamic, FnId, Text, TypeTag};
 
 /// What one line adds to a session text.
@@ -33,4 +37,16 @@ pub enum Part {
     End(BodyEnd),
     /// One thing to do.
     Command(Command),
+}
+
+impl Part {
+    /// Whether it may stand before the first command alone.
+    pub fn is_header(&self) -> bool
+        ensures { result ≡ is_header self.now }
+    {
+        match self {
+            Part::Command(_) => false,
+            _ => true,
+        }
+    }
 }

@@ -10,8 +10,8 @@ mod values;
 
 use nodes::push_tree;
 use quotes::push_number;
+use rhd_call::Reply;
 use rhd_module::DeclFault;
-use rhd_session::Reply;
 use rhd_value::{Dynamic, OutOfMemory};
 use std::alloc::Global;
 use values::push_value;

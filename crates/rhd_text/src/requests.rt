@@ -1,13 +1,33 @@
-//! The requests of call lines.
+//! The calls that lines ask for.
 
 ghost use Rattle.std.specs.Prelude.{◌≡◌};
 ghost use Rattle.rhd_func.specs.declared.request.CallShape.TheVariants as shapes;
 ghost use Rattle.rhd_text.specs.Rows.{first_apart, shape_of, request_of};
+ghost use Rattle.rhd_text.specs.ReadRows.{named_at, plan_at};
+ghost use Rattle.rhd_text.specs.Answers.{Gives};
 
+use crate::arguments::{Arguments, arguments_at};
+use crate::body::CallPlan;
+use crate::fault::Stop;
 use crate::keyword::CallWord;
+use crate::operands::name_at;
+use crate::wants::want_at;
+use crate::words::is_end;
 use rhd_func::{CallRequest, CallShape};
 use rhd_names::lookup_symbol_from_syntax;
 use rhd_value::{Position, Text, TypeTag, Values};
+use std::alloc::Global;
+
+/// How a call hands its arguments over.
+#[derive(Clone, Copy)]
+pub enum Handing {
+    /// All by value.
+    ByValue,
+    /// The first by reference.
+    ByRef,
+    /// The first as the object.
+    AsObject,
+}
 
 /// Arguments of which the first is handed over by reference, where there is a first.
 fn by_ref(args: Values) -> Option<CallShape>
@@ -25,35 +45,83 @@ fn of_object(args: Values) -> Option<CallShape>
     Some(CallShape::Method(object?, more))
 }
 
-/// How a call of this word hands its arguments over.
-fn shape_of(call: CallWord, args: Values) -> Option<CallShape>
-    ensures { result ≡ shape_of call args }
+/// Arguments that are handed over so, where they are enough.
+fn shape_of(handing: Handing, args: Values) -> Option<CallShape>
+    ensures { result ≡ shape_of handing args }
 {
-    match call {
-        CallWord::Call | CallWord::CallNative => Some(CallShape::Plain(args)),
-        CallWord::Ref | CallWord::RefNative => by_ref(args),
-        CallWord::Method | CallWord::MethodNative => of_object(args),
+    match handing {
+        Handing::ByValue => Some(CallShape::Plain(args)),
+        Handing::ByRef => by_ref(args),
+        Handing::AsObject => of_object(args),
     }
 }
 
-/// The request of a call, where the arguments are enough for its word.
-pub fn request_of(
-    call: CallWord,
+/// The request of a call by name, where the arguments are enough.
+fn request_of(
+    native_only: bool,
+    handing: Handing,
     want: Option<TypeTag>,
     name: Text,
     args: Values,
     pos: Position,
 ) -> Option<CallRequest>
-    ensures { result ≡ request_of call want name args pos }
+    ensures { result ≡ request_of native_only handing want name args pos }
 {
-    let shape = shape_of(call, args)?;
+    let shape = shape_of(handing, args)?;
     let token = lookup_symbol_from_syntax(name.as_str());
     Some(CallRequest::Named {
         name,
         token,
-        native_only: call.native_only(),
+        native_only,
         shape,
         want,
         pos,
     })
+}
+
+/// What stands after the word of a call by name, to the end of the line. Values may be given ones
+/// where `given` says so.
+#[tactic(auto, unfolding(crate::specs::ReadRows::named_at))]
+fn named_at(
+    alloc: Global,
+    bytes: &[u8],
+    given: bool,
+    native_only: bool,
+    handing: Handing,
+    pos: Position,
+) -> Result<CallPlan, Stop>
+    ensures { Gives (λ x. x) result (named_at given native_only handing pos bytes.now) }
+{
+    let (want, rest) = want_at(bytes)?;
+    let (name, rest) = name_at(alloc, rest)?;
+    let (args, rest) = arguments_at(alloc, rest, given)?;
+    if !is_end(rest) {
+        return Err(Stop::Bad);
+    }
+    let Arguments { values, places } = args;
+    match request_of(native_only, handing, want, name, values, pos) {
+        Some(request) => Ok(CallPlan { request, places }),
+        None => Err(Stop::Bad),
+    }
+}
+
+/// What stands after the word of a call, to the end of the line. Values may be given ones where
+/// `given` says so.
+pub fn plan_at(
+    alloc: Global,
+    bytes: &[u8],
+    given: bool,
+    call: CallWord,
+    pos: Position,
+) -> Result<CallPlan, Stop>
+    ensures { Gives (λ x. x) result (plan_at given call pos bytes.now) }
+{
+    match call {
+        CallWord::Call => named_at(alloc, bytes, given, false, Handing::ByValue, pos),
+        CallWord::CallNative => named_at(alloc, bytes, given, true, Handing::ByValue, pos),
+        CallWord::Ref => named_at(alloc, bytes, given, false, Handing::ByRef, pos),
+        CallWord::RefNative => named_at(alloc, bytes, given, true, Handing::ByRef, pos),
+        CallWord::Method => named_at(alloc, bytes, given, false, Handing::AsObject, pos),
+        CallWord::MethodNative => named_at(alloc, bytes, given, true, Handing::AsObject, pos),
+    }
 }

@@ -1,17 +1,28 @@
 //! What a text says.
 
-ghost use Rattle.std.specs.Prelude.{◌≡◌};
-ghost use Rattle.rhd_text.specs.Session.{empty_text, takes_headers, with_limits, with_printer, with_builtin, with_host, with_body, with_call, with_end, with_part};
+ghost use Rattle.std.specs.Prelude.{◌≡◌, Some};
+ghost use Rattle.rhd_func.specs.Infos.{infos_of};
+ghost use Rattle.rhd_text.specs.Session.{empty_text, takes_headers, is_held, with_limits, with_printer, with_builtin, with_host, with_body, with_call, with_end, with_command, added, with_part};
 ghost use Rattle.rhd_text.specs.Answers.{StepGives};
 
 use crate::body::{BodyEnd, BodyPlans, CallPlan};
 use crate::fault::Stop;
 use crate::part::Part;
 use crate::printers::Printer;
+use rhd_call::{Command, Commands};
+use rhd_engine::{Builtins, Limits, Printers};
+use rhd_func::Natives;
 use rhd_names::OpToken;
-use rhd_session::{Builtins, Commands, Limits, Printers};
 use rhd_value::{Dynamic, Entries, FnId, Text, TypeTag};
 use std::alloc::Global;
+
+/// Whether the native of a number is held.
+#[tactic(auto, using(crate::proofs::HeldNatives::count_infos))]
+fn is_held(natives: &Natives, id: FnId) -> bool
+    ensures { result ≡ is_held (infos_of info natives.now) id }
+{
+    (id.0 as usize) < natives.len()
+}
 
 /// What a session text says.
 #[derive(Drop)]
@@ -56,7 +67,7 @@ impl SessionText {
     fn set_limits(&mut self, limits: Limits) -> Result<(), Stop>
         ensures { StepGives result self.old self.new (with_limits self.old limits) }
     {
-        if !self.takes_headers() || self.limits.is_some() {
+        if self.limits.is_some() || limits.level > 1000 {
             return Err(Stop::Bad);
         }
         self.limits = Some(limits);
@@ -64,17 +75,13 @@ impl SessionText {
     }
 
     #[tactic(auto, unfolding(crate::specs::Session::with_printer))]
-    fn set_printer(&mut self, printer: Printer) -> Result<(), Stop>
-        ensures { StepGives result self.old self.new (with_printer self.old printer) }
+    fn set_printer(&mut self, printer: Printer)
+        ensures { self.new ≡ with_printer self.old printer }
     {
-        if !self.takes_headers() {
-            return Err(Stop::Bad);
-        }
         match printer {
             Printer::Print => self.printers.print = true,
             Printer::Debug => self.printers.debug = true,
         }
-        Ok(())
     }
 
     #[tactic(auto, unfolding(crate::specs::Session::with_builtin))]
@@ -85,10 +92,11 @@ impl SessionText {
         left: TypeTag,
         right: TypeTag,
         id: FnId,
+        natives: &Natives,
     ) -> Result<(), Stop>
-        ensures { StepGives result self.old self.new (with_builtin self.old (record { token = op; left = left; right = right }) id) }
+        ensures { StepGives result self.old self.new (with_builtin (infos_of info natives.now) self.old (record { token = op; left = left; right = right }) id) }
     {
-        if !self.takes_headers() {
+        if !is_held(natives, id) {
             return Err(Stop::Bad);
         }
         Ok(self.builtins.set(alloc, op, left, right, id)?)
@@ -96,21 +104,15 @@ impl SessionText {
 
     #[tactic(auto, unfolding(crate::specs::Session::with_host))]
     fn set_host(&mut self, name: Text, answer: Dynamic) -> Result<(), Stop>
-        ensures { StepGives result self.old self.new (with_host self.old name answer) }
+        ensures { StepGives result self.old self.new (Some (with_host self.old name answer)) }
     {
-        if !self.takes_headers() {
-            return Err(Stop::Bad);
-        }
         Ok(self.hosts.insert(name, answer)?)
     }
 
     #[tactic(auto, unfolding(crate::specs::Session::with_body))]
     fn begin_body(&mut self, alloc: Global) -> Result<(), Stop>
-        ensures { StepGives result self.old self.new (with_body self.old) }
+        ensures { StepGives result self.old self.new (Some (with_body self.old)) }
     {
-        if !self.takes_headers() {
-            return Err(Stop::Bad);
-        }
         Ok(self.bodies.begin(alloc)?)
     }
 
@@ -118,9 +120,6 @@ impl SessionText {
     fn add_call(&mut self, call: CallPlan) -> Result<(), Stop>
         ensures { StepGives result self.old self.new (with_call self.old call) }
     {
-        if !self.takes_headers() {
-            return Err(Stop::Bad);
-        }
         self.bodies.add_call(call)
     }
 
@@ -128,30 +127,48 @@ impl SessionText {
     fn end_body(&mut self, end: BodyEnd) -> Result<(), Stop>
         ensures { StepGives result self.old self.new (with_end self.old end) }
     {
-        if !self.takes_headers() {
-            return Err(Stop::Bad);
-        }
         self.bodies.add_end(end)
     }
 
-    /// Adds what a line says, where it may stand there; else all stays as it was.
-    pub fn add_part(&mut self, alloc: Global, part: Part) -> Result<(), Stop>
-        ensures { StepGives result self.old self.new (with_part self.old part) }
+    #[tactic(auto, unfolding(crate::specs::Session::with_command))]
+    fn add_command(&mut self, command: Command) -> Result<(), Stop>
+        ensures { StepGives result self.old self.new (Some (with_command self.old command)) }
+    {
+        Ok(self.commands.push(command)?)
+    }
+
+    /// Adds a part wherever it stands, where it is allowed; else all stays as it was.
+    fn add(&mut self, alloc: Global, part: Part, natives: &Natives) -> Result<(), Stop>
+        ensures { StepGives result self.old self.new (added (infos_of info natives.now) self.old part) }
     {
         match part {
             Part::Limits(limits) => self.set_limits(limits),
-            Part::Printer(printer) => self.set_printer(printer),
+            Part::Printer(printer) => {
+                self.set_printer(printer);
+                Ok(())
+            }
             Part::Builtin {
                 op,
                 left,
                 right,
                 id,
-            } => self.set_builtin(alloc, op, left, right, id),
+            } => self.set_builtin(alloc, op, left, right, id, natives),
             Part::Host { name, answer } => self.set_host(name, answer),
             Part::Body => self.begin_body(alloc),
             Part::Do(call) => self.add_call(call),
             Part::End(end) => self.end_body(end),
-            Part::Command(command) => Ok(self.commands.push(command)?),
+            Part::Command(command) => self.add_command(command),
         }
+    }
+
+    /// Adds what a line says, where it may stand there; else all stays as it was.
+    #[tactic(auto, unfolding(crate::specs::Session::with_part))]
+    pub fn add_part(&mut self, alloc: Global, part: Part, natives: &Natives) -> Result<(), Stop>
+        ensures { StepGives result self.old self.new (with_part (infos_of info natives.now) self.old part) }
+    {
+        if part.is_header() && !self.takes_headers() {
+            return Err(Stop::Bad);
+        }
+        self.add(alloc, part, natives)
     }
 }

@@ -2,11 +2,11 @@
 
 ghost use Rattle.std.specs.Prelude.{◌≡◌, ◌↔◌, List, ◌∷◌, ◌++◌};
 ghost use Rattle.std.specs.List.{Contains, flat_map};
-ghost use Rattle.rhd_session.specs.declared.node.CallNode.{CallNode};
-ghost use Rattle.rhd_session.specs.declared.reply.Reply.{Reply};
-ghost use Rattle.rhd_session.specs.declared.reply.Reply.TheVariants.{Called};
-ghost use Rattle.rhd_session.specs.Seen.{seen};
-ghost use Rattle.rhd_session.specs.Trees.{InTree};
+ghost use Rattle.rhd_call.specs.declared.node.CallNode.{CallNode};
+ghost use Rattle.rhd_call.specs.declared.reply.Reply.{Reply};
+ghost use Rattle.rhd_call.specs.declared.reply.Reply.TheVariants.{Called};
+ghost use Rattle.rhd_call.specs.Seen.{seen};
+ghost use Rattle.rhd_call.specs.Trees.{InTree};
 ghost use Rattle.rhd_text.specs.PrintedReplies.{tree_text, all_printed};
 ghost use Rattle.rhd_text.specs.TreeLines.{calls_of, own_line};
 

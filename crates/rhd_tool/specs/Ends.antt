@@ -1,21 +1,21 @@
 -- How a run ends.
-use Rattle.std.specs.Prelude.{◌⊎◌, ◌≡◌, ℕ, List, [], ◌∷◌, length, take, unwrap_or, codes}
+use Rattle.std.specs.Prelude.{◌⊎◌, ◌≡◌, ◌<◌, ◌^◌, ℕ, List, [], ◌∷◌, length, take, unwrap_or, codes}
 use Rattle.std.specs.declared.option.Option.{Option}
 use Rattle.std.specs.Io.KnownBytes.{Appends}
 use Rattle.std.specs.Str.Lines.{lines}
-use Rattle.rhd_value.specs.Tree.{Bytes, Tree}
 use Rattle.rhd_func.specs.Natives.{NativeInfo}
-use Rattle.rhd_session.specs.declared.command.Command.{Command}
-use Rattle.rhd_session.specs.declared.reply.Reply.{Reply}
-use Rattle.rhd_session.specs.Engine.{Frame}
-use Rattle.rhd_session.specs.World.{World, Objects, Moment}
-use Rattle.rhd_session.specs.Start.{start_world, start_frame, start_moment}
-use Rattle.rhd_session.specs.declared.limits.Limits.{Limits}
+use Rattle.rhd_call.specs.declared.command.Command.{Command}
+use Rattle.rhd_call.specs.declared.reply.Reply.{Reply}
+use Rattle.rhd_engine.specs.Engine.{Frame}
+use Rattle.rhd_engine.specs.Start.{start_frame}
+use Rattle.rhd_engine.specs.declared.limits.Limits.{Limits}
+use Rattle.rhd_session.specs.World.{World, Moment}
+use Rattle.rhd_session.specs.Start.{start_world, start_moment}
 use Rattle.rhd_session.specs.Answered.{Answered}
 use Rattle.rhd_text.specs.declared.session.SessionText.{SessionText}
-use Rattle.rhd_text.specs.declared.body.BodyPlan.{BodyPlan}
 use Rattle.rhd_text.specs.Session.{IsSession, IsFirstBad}
 use Rattle.rhd_text.specs.PrintedReplies.{all_printed}
+use Rattle.rhd_tool.specs.Handed.{Handed, Hosts, Bodies}
 use Rattle.rhd_tool.specs.Streams.{CameWhole, WrotePart}
 
 -- the most bytes that a text may have
@@ -30,21 +30,11 @@ run_words = codes "run" ∷ []
 abbrev pub IsStatus : ℕ → Type 0
 IsStatus n = (n ≡ 0) ⊎ (n ≡ 1) ⊎ (n ≡ 2) ⊎ (n ≡ 3) ⊎ (n ≡ 4) ⊎ (n ≡ 5) ⊎ (n ≡ 6)
 
--- Below, `held` is the number of natives, `natives` what they say of themselves, and `o` what they, the host and the bodies may do.
-
 -- all bytes of the source were read, and this line is the first that is no line of a session text
-pub record WasBad (held : ℕ) (old new : Option (List ℕ)) (line : ℕ) : Type 0 where
+pub record WasBad (natives : List NativeInfo) (old new : Option (List ℕ)) (line : ℕ) : Type 0 where
   pub bytes : List ℕ
   pub whole : CameWhole most_bytes old new bytes
-  pub first : IsFirstBad held line (lines bytes)
-
--- the bodies of a text, by number
-abbrev pub Bodies : Type 0
-Bodies = List BodyPlan
-
--- what the host of a text answers, by name
-abbrev pub Hosts : Type 0
-Hosts = List (Bytes × Tree)
+  pub first : IsFirstBad natives line (lines bytes)
 
 -- the limits where a text sets none
 abbrev pub default_limits : Limits
@@ -59,44 +49,53 @@ abbrev pub start_of : List NativeInfo → SessionText → World
 start_of natives text = start_world natives (limits_of text) text.builtins text.printers
 
 -- the replies answer the commands, one after the other, in a new session with what the text sets, and with its host and bodies
-pub record IsAnswered (o : Objects Hosts Bodies) (natives : List NativeInfo) (text : SessionText) (commands : List Command) (replies : List Reply) : Type 0 where
+pub record IsAnswered (h : Handed) (text : SessionText) (commands : List Command) (replies : List Reply) : Type 0 where
   pub world : World
   pub frame : Frame
   pub after : Moment Hosts Bodies
-  pub answered : Answered o (start_of natives text) start_frame (start_moment text.hosts text.bodies) commands replies world frame after
+  pub answered : Answered h.objects (start_of h.natives text) start_frame (start_moment text.hosts text.bodies) commands replies world frame after
 
 -- these bytes are a session text, and the replies answer its commands
-pub record Ran (o : Objects Hosts Bodies) (natives : List NativeInfo) (held : ℕ) (bytes : List ℕ) (replies : List Reply) : Type 0 where
+pub record Ran (h : Handed) (bytes : List ℕ) (replies : List Reply) : Type 0 where
   pub text : SessionText
-  pub says : IsSession held (lines bytes) text
-  pub answers : IsAnswered o natives text text.commands replies
+  pub says : IsSession h.natives (lines bytes) text
+  pub answers : IsAnswered h text text.commands replies
 
--- they are one, and the replies answer as many of its first commands
-pub record RanFront (o : Objects Hosts Bodies) (natives : List NativeInfo) (held : ℕ) (bytes : List ℕ) (replies : List Reply) : Type 0 where
+-- the sink is as it was, or it was asked to write after so many commands were answered by as many replies
+abbrev pub AskedAfterAll : {K : Type 0} → K → K → ℕ → ℕ → Type 0
+AskedAfterAll old new commands replies = (new ≡ old) ⊎ (replies ≡ commands)
+
+-- they are one, and the replies answer as many of its first commands; the sink was asked to write where these are all
+pub record RanFront {K : Type 0} (h : Handed) (bytes : List ℕ) (sink_old sink_new : K) (replies : List Reply) : Type 0 where
   pub text : SessionText
-  pub says : IsSession held (lines bytes) text
-  pub answers : IsAnswered o natives text (take (length replies) text.commands) replies
+  pub says : IsSession h.natives (lines bytes) text
+  pub answers : IsAnswered h text (take (length replies) text.commands) replies
+  pub asked : AskedAfterAll sink_old sink_new (length text.commands) (length replies)
 
--- the same, or there are no replies
-abbrev pub RanPart : Objects Hosts Bodies → List NativeInfo → ℕ → List ℕ → List Reply → Type 0
-RanPart o natives held bytes replies = (replies ≡ []) ⊎ RanFront o natives held bytes replies
+-- the same; or there are no replies, and the sink is as it was
+abbrev pub RanPart : {K : Type 0} → Handed → List ℕ → K → K → List Reply → Type 0
+RanPart h bytes sink_old sink_new replies = ((replies ≡ []) × (sink_new ≡ sink_old)) ⊎ RanFront h bytes sink_old sink_new replies
 
 -- all bytes of the source are a session text, and the replies to it were written, printed
-pub record WasDone (o : Objects Hosts Bodies) (natives : List NativeInfo) (held : ℕ) (left_old left_new written_old written_new : Option (List ℕ)) (replies : List Reply) : Type 0 where
+pub record WasDone (h : Handed) (left_old left_new written_old written_new : Option (List ℕ)) (replies : List Reply) : Type 0 where
   pub bytes : List ℕ
   pub whole : CameWhole most_bytes left_old left_new bytes
-  pub ran : Ran o natives held bytes replies
+  pub ran : Ran h bytes replies
   pub wrote : Appends written_old written_new (all_printed replies)
 
 -- the same, of which a front was written
-pub record WasCut (o : Objects Hosts Bodies) (natives : List NativeInfo) (held : ℕ) (left_old left_new written_old written_new : Option (List ℕ)) (replies : List Reply) : Type 0 where
+pub record WasCut (h : Handed) (left_old left_new written_old written_new : Option (List ℕ)) (replies : List Reply) : Type 0 where
   pub bytes : List ℕ
   pub whole : CameWhole most_bytes left_old left_new bytes
-  pub ran : Ran o natives held bytes replies
+  pub ran : Ran h bytes replies
   pub wrote : WrotePart written_old written_new (all_printed replies)
 
--- all bytes of the source are a session text, and the replies answer as many of its first commands
-pub record WasStopped (o : Objects Hosts Bodies) (natives : List NativeInfo) (held : ℕ) (left_old left_new : Option (List ℕ)) (replies : List Reply) : Type 0 where
+-- all bytes of the source are a session text, and the replies answer as many of its first commands; the sink was asked to write where these are all
+pub record WasStopped {K : Type 0} (h : Handed) (left_old left_new : Option (List ℕ)) (sink_old sink_new : K) (replies : List Reply) : Type 0 where
   pub bytes : List ℕ
   pub whole : CameWhole most_bytes left_old left_new bytes
-  pub ran : RanFront o natives held bytes replies
+  pub ran : RanFront h bytes sink_old sink_new replies
+
+-- memory ran out before a text was read, with nothing answered and nothing asked of the sink; or after that
+abbrev pub WasStarved : {K : Type 0} → Handed → Option (List ℕ) → Option (List ℕ) → K → K → List Reply → Type 0
+WasStarved h left_old left_new sink_old sink_new replies = ((replies ≡ []) × (sink_new ≡ sink_old)) ⊎ WasStopped h left_old left_new sink_old sink_new replies

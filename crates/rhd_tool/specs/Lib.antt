@@ -1,5 +1,7 @@
+pub mod Asks
 pub mod Causes
 pub mod Ends
+pub mod Handed
 pub mod Kit
 pub mod Memory
 pub mod PlanBodies

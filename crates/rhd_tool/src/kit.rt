@@ -1,7 +1,8 @@
 //! The kit: the natives of the program.
 
-ghost use Rattle.std.specs.Prelude.{◌≡◌, ◌<◌};
-ghost use Rattle.rhd_tool.specs.Kit.{is_built};
+ghost use Rattle.std.specs.Prelude.{◌≡◌, ◌<◌, IfOk};
+ghost use Rattle.std.specs.Option.{option_copied};
+ghost use Rattle.rhd_tool.specs.Kit.{is_built, kit_step};
 
 mod given;
 mod steps;
@@ -36,6 +37,31 @@ impl KitFn {
     {
         self.number != 16
     }
+
+    /// The first step of the native, whatever it is given.
+    fn first_step(
+        &self,
+        alloc: Global,
+        ctx: Option<&NativeCallContext>,
+        given: Given,
+    ) -> Result<NativeStep, OutOfMemory>
+        ensures { IfOk result (λ step. step ≡ kit_step self.now.number (option_copied ctx.entry) given.first given.args) }
+    {
+        if !self.is_built() {
+            return own_fault(alloc, "not built", given.first);
+        }
+        let types = kit_row(self.number).types;
+        if !given.is_count(types.len()) {
+            return own_fault(alloc, "wrong number of arguments", given.first);
+        }
+        if let Some(fault) = given.unfit_fault(alloc, types)? {
+            return Ok(NativeStep::Failed {
+                fault,
+                first: given.first,
+            });
+        }
+        act(self.number, alloc, ctx, given)
+    }
 }
 
 impl PluginFunc for KitFn {
@@ -55,21 +81,7 @@ impl PluginFunc for KitFn {
         first: Option<Dynamic>,
         args: Values,
     ) -> Result<NativeStep, OutOfMemory> {
-        let given = Given { first, args };
-        if !self.is_built() {
-            return own_fault(alloc, "not built", given.first);
-        }
-        let types = kit_row(self.number).types;
-        if !given.is_count(types.len()) {
-            return own_fault(alloc, "wrong number of arguments", given.first);
-        }
-        if let Some(fault) = given.unfit_fault(alloc, types)? {
-            return Ok(NativeStep::Failed {
-                fault,
-                first: given.first,
-            });
-        }
-        act(self.number, alloc, ctx, given)
+        self.first_step(alloc, ctx, Given { first, args })
     }
 
     fn resume(
@@ -104,15 +116,18 @@ impl PluginFunc for KitFn {
 }
 
 /// How many natives the kit has.
-pub(crate) const KIT_LEN: usize = 20;
+pub const KIT_LEN: usize = 20;
 
 /// Puts the kit's natives into an empty table, in the order of their numbers. Where memory ran out,
-/// goes on with the expression `$give_up`, which is to leave the function.
+/// goes on with the expression `$give_up`, which is to leave the function. The function that calls it
+/// names `Natives` and `PluginFunc`: a box is made where it is put into a table, and no function hands
+/// one out.
+#[macro_export]
 macro_rules! kit {
     ($alloc:expr, $natives:ident, $give_up:expr) => {
-        while $natives.len() < KIT_LEN {
+        while $natives.len() < $crate::KIT_LEN {
             let number = $natives.len() as u32;
-            let Ok(made) = Box::new($alloc, KitFn::new(number)) else {
+            let Ok(made) = Box::new($alloc, $crate::KitFn::new(number)) else {
                 $give_up
             };
             let native: Box<dyn PluginFunc> = made;
@@ -122,5 +137,3 @@ macro_rules! kit {
         }
     };
 }
-
-pub(crate) use kit;

@@ -3,14 +3,14 @@
 ghost use Rattle.std.specs.Prelude.{◌≡◌, ◌<◌, IfOk, OnOk, drop, length, slice_get};
 ghost use Rattle.std.specs.Option.{option_copied};
 ghost use Rattle.rhd_func.specs.Shapes.{all_args};
-ghost use Rattle.rhd_tool.specs.PlanBodies.{value_given, with_given, with_args, call_with, ends, step_after, count_in};
+ghost use Rattle.rhd_tool.specs.PlanBodies.{value_given, with_given, with_args, call_with, ends, step_after, count_in, body_step, body_next};
 
 use crate::values::{answer_unit, failed, first_apart, own_fault, values_in};
 use rhd_func::{
     Bodies, CallDone, CallRequest, CallShape, Carry, NativeCallContext, NativeStep, ScriptFuncDef,
 };
 use rhd_text::{BodyEnd, BodyPlan, BodyPlans, CallPlan, Given, GivenAt};
-use rhd_value::{Dynamic, OutOfMemory, Value, Values};
+use rhd_value::{Dynamic, EvalAltResult, OutOfMemory, Value, Values};
 use std::alloc::Global;
 use std::marker::Model;
 
@@ -215,6 +215,48 @@ impl PlanBodies {
     {
         self.plans.get(def.body.0 as usize)
     }
+
+    /// The first step of a body.
+    fn first_step(
+        &self,
+        alloc: Global,
+        def: &ScriptFuncDef,
+        object: Option<Dynamic>,
+        args: Values,
+    ) -> Result<NativeStep, OutOfMemory>
+        ensures { IfOk result (λ step. step ≡ body_step self.now def.now object args) }
+    {
+        let Some(plan) = self.plan(def) else {
+            return Ok(answer_unit(object));
+        };
+        let mut kept = args;
+        kept.push_first(Dynamic::from(Value::Int(0)))?;
+        step_after(alloc, plan, 0, object, None, kept)
+    }
+
+    /// The step of a body after a call that it asked for.
+    fn next_step(
+        &self,
+        alloc: Global,
+        def: &ScriptFuncDef,
+        carry: Carry,
+        answer: Result<Dynamic, EvalAltResult>,
+    ) -> Result<NativeStep, OutOfMemory>
+        ensures { IfOk result (λ step. step ≡ body_next self.now def.now carry answer) }
+    {
+        let Carry { first, kept } = carry;
+        let Some(plan) = self.plan(def) else {
+            return own_fault(alloc, "bad carry", first);
+        };
+        let kept = values_in(alloc, kept);
+        let Some(asked) = count_in(plan.calls.len(), kept.as_slice()) else {
+            return own_fault(alloc, "bad carry", first);
+        };
+        match answer {
+            Ok(latest) => step_after(alloc, plan, asked, first, Some(latest), kept),
+            Err(fault) => Ok(NativeStep::Failed { fault, first }),
+        }
+    }
 }
 
 impl Bodies for PlanBodies {
@@ -232,12 +274,7 @@ impl Bodies for PlanBodies {
         this: Option<Dynamic>,
         args: Values,
     ) -> Result<NativeStep, OutOfMemory> {
-        let Some(plan) = self.plan(def) else {
-            return Ok(answer_unit(this));
-        };
-        let mut kept = args;
-        kept.push_first(Dynamic::from(Value::Int(0)))?;
-        step_after(alloc, plan, 0, this, None, kept)
+        self.first_step(alloc, def, this, args)
     }
 
     fn resume(
@@ -248,18 +285,6 @@ impl Bodies for PlanBodies {
         carry: Carry,
         done: CallDone,
     ) -> Result<NativeStep, OutOfMemory> {
-        let Carry { first, kept } = carry;
-        let CallDone { answer, first: _ } = done;
-        let Some(plan) = self.plan(def) else {
-            return own_fault(alloc, "bad carry", first);
-        };
-        let kept = values_in(alloc, kept);
-        let Some(asked) = count_in(plan.calls.len(), kept.as_slice()) else {
-            return own_fault(alloc, "bad carry", first);
-        };
-        match answer {
-            Ok(latest) => step_after(alloc, plan, asked, first, Some(latest), kept),
-            Err(fault) => Ok(NativeStep::Failed { fault, first }),
-        }
+        self.next_step(alloc, def, carry, done.answer)
     }
 }

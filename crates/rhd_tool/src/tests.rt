@@ -1,74 +1,33 @@
-//! Tests of what no contract says: that calls succeed, and that the contracts say what is meant.
+//! Tests of what no contract says: that each call succeeds where there is memory, and that natives,
+//! bodies and hosts other than those of this crate may be handed in. The program of rows runs texts.
 
-mod calls;
-mod hosts;
-mod machine;
-mod printing;
-mod runs;
-mod searches;
-mod texts;
+mod foreign;
+mod sessions;
+mod values;
 
-use crate::kit::{KIT_LEN, KitFn, kit};
-use crate::sink::Sink;
-use crate::source::Source;
-use crate::tool::{ToolEnd, run_tool};
-use rhd_func::{Natives, PluginFunc};
-use rhd_names::OpToken;
-use rhd_value::{FnPtr, FnPtrType, OutOfMemory, Text, Values};
-use std::alloc::{AllocError, Global};
+use rhd_value::{Dynamic, Text, Value, Values};
+use std::alloc::Global;
 use std::process::Abort;
-use std::test::Fail;
-
-/// So many of the words between commas.
-fn split_words(alloc: Global, count: usize, words: &str) -> Result<Vec<String>, AllocError> {
-    let mut owned = Vec::new(alloc);
-    for word in words.split(',').take(count) {
-        owned.push(String::from_str(alloc, word)?)?;
-    }
-    Ok(owned)
-}
-
-/// Runs the program on so many of the words between commas, with the kit's natives.
-fn run_words<S: Source, K: Sink>(
-    alloc: Global,
-    count: usize,
-    words: &str,
-    source: &mut S,
-    sink: &mut K,
-) -> Result<ToolEnd, Fail> {
-    let owned = split_words(alloc, count, words)?;
-    let mut natives = Natives::new(alloc);
-    kit!(alloc, natives, return Err(AllocError.into()));
-    Ok(run_tool(alloc, owned.as_slice(), source, sink, natives))
-}
-
-/// Stops the test where bytes are not those that are wanted.
-fn same_bytes(rt: &impl Abort, found: &[u8], want: &[u8], what: &str) {
-    assert!(rt; found == want, "{what}");
-}
 
 /// Stops the test where something doesn't hold.
 fn holds(rt: &impl Abort, fact: bool, what: &str) {
     assert!(rt; fact, "{what}");
 }
 
-/// A text.
-fn text_of(alloc: Global, text: &str) -> Result<Text, OutOfMemory> {
+/// A text; empty where memory ran out.
+fn text_of(alloc: Global, text: &str) -> Text {
     let mut made = Text::new(alloc);
-    made.push(text)?;
-    Ok(made)
+    let _ = made.push(text);
+    made
 }
 
-/// The token of a name of the cases, which is `+` or none.
-fn token_of(name: &str) -> Option<OpToken> {
-    if name == "+" {
-        Some(OpToken::Plus)
-    } else {
-        None
-    }
+fn int(number: i64) -> Dynamic {
+    Dynamic::from(Value::Int(number))
 }
 
-/// A pointer to a function of this name.
-fn pointer(alloc: Global, name: &str, curry: Values, typ: FnPtrType) -> Result<FnPtr, OutOfMemory> {
-    FnPtr::from_parts(alloc, text_of(alloc, name)?, curry, typ)
+/// One value; none where memory ran out.
+fn one(alloc: Global, value: Dynamic) -> Values {
+    let mut values = Values::new(alloc);
+    let _ = values.push(value);
+    values
 }

@@ -3,16 +3,15 @@
 ghost use Rattle.std.specs.Prelude.{ℕ, Some, ◌^◌, ◌≡◌, ◌≢◌, ◌↔◌, ◌⊎◌, ◌<◌, ◌≤◌, true, List, [], IfOk, IfErr, map, length, take, string_bytes, IsTrue};
 ghost use Rattle.std.specs.Io.KnownBytes.{Appends};
 ghost use Rattle.std.specs.Str.Lines.{lines};
-ghost use Rattle.rhd_session.specs.Held.{builtins_held};
-ghost use Rattle.rhd_session.specs.Objects.{infos_of, objects_of};
+ghost use Rattle.rhd_func.specs.Infos.{infos_of};
+ghost use Rattle.rhd_engine.specs.Held.{builtins_held};
 ghost use Rattle.rhd_text.specs.declared.session.SessionText.{SessionText};
-ghost use Rattle.rhd_tool.specs.PlanBodies.{plan_starts, plan_resumes};
-ghost use Rattle.rhd_tool.specs.TableHost.{table_answers};
 ghost use Rattle.rhd_text.specs.Session.{IsSession, IsFirstBad};
 ghost use Rattle.rhd_text.specs.PrintedReplies.{all_printed};
 ghost use Rattle.rhd_tool.specs.Causes.{Rose};
+ghost use Rattle.rhd_tool.specs.Handed.{handed_of};
 ghost use Rattle.rhd_tool.specs.Streams.{CameMore, WrotePart, WroteLess};
-ghost use Rattle.rhd_tool.specs.Ends.{run_words, most_bytes, limits_of, IsStatus, IsAnswered, Ran, RanPart, WasBad, WasDone, WasCut, WasStopped};
+ghost use Rattle.rhd_tool.specs.Ends.{run_words, most_bytes, limits_of, IsAnswered, AskedAfterAll, Ran, RanPart, WasBad, WasDone, WasCut, WasStarved};
 
 use crate::plan_bodies::PlanBodies;
 use crate::reading::{ReadEnd, read_whole};
@@ -20,8 +19,10 @@ use crate::sink::{Sink, SinkFault};
 use crate::source::Source;
 use crate::table_host::TableHost;
 use crate::writing::write_whole;
+use rhd_call::{Replies, Reply, Stopped};
+use rhd_engine::Limits;
 use rhd_func::Natives;
-use rhd_session::{Limits, Replies, Reply, Session, Stopped};
+use rhd_session::Session;
 use rhd_text::{SessionText, TextFault, print_replies, read_text};
 use rhd_value::OutOfMemory;
 use std::alloc::Global;
@@ -93,9 +94,9 @@ fn answer(alloc: Global, natives: Natives, text: SessionText) -> Result<Replies,
     requires level { (limits_of text).level ≤ 1000 }
     requires builtins { builtins_held (length natives.items.items) text.builtins ≡ true }
     requires count { length text.commands < 2 ^ 32 }
-    ensures all { IfOk result (IsAnswered (objects_of allows_call allows_resume plan_starts plan_resumes table_answers natives) (infos_of info natives) text text.commands) }
+    ensures all { IfOk result (IsAnswered (handed_of allows_call allows_resume info natives) text text.commands) }
     ensures count { IfOk result (λ replies. length replies ≡ length text.commands) }
-    ensures some { IfErr result (λ s. IsAnswered (objects_of allows_call allows_resume plan_starts plan_resumes table_answers natives) (infos_of info natives) text (take (length s.replies) text.commands) s.replies) }
+    ensures some { IfErr result (λ s. IsAnswered (handed_of allows_call allows_resume info natives) text (take (length s.replies) text.commands) s.replies) }
 {
     let SessionText {
         limits,
@@ -128,8 +129,9 @@ fn answer_and_write<K: Sink>(
     requires count { length text.commands < 2 ^ 32 }
     ensures statuses { (result.status ≡ 0) ⊎ (result.status ≡ 4) ⊎ (result.status ≡ 5) }
     ensures line { result.line ≡ 0 }
-    ensures all { (result.status ≡ 0) ⊎ (result.status ≡ 4) → IsAnswered (objects_of allows_call allows_resume plan_starts plan_resumes table_answers natives) (infos_of info natives) text text.commands result.replies }
-    ensures some { IsAnswered (objects_of allows_call allows_resume plan_starts plan_resumes table_answers natives) (infos_of info natives) text (take (length result.replies) text.commands) result.replies }
+    ensures all { (result.status ≡ 0) ⊎ (result.status ≡ 4) → IsAnswered (handed_of allows_call allows_resume info natives) text text.commands result.replies }
+    ensures some { IsAnswered (handed_of allows_call allows_resume info natives) text (take (length result.replies) text.commands) result.replies }
+    ensures asked { AskedAfterAll sink.old sink.new (length text.commands) (length result.replies) }
     ensures done { result.status ≡ 0 → Appends (K.written sink.old) (K.written sink.new) (all_printed result.replies) }
     ensures part { WrotePart (K.written sink.old) (K.written sink.new) (all_printed result.replies) }
     ensures short { result.status ≡ 4 → WroteLess (K.written sink.old) (K.written sink.new) (all_printed result.replies) }
@@ -151,17 +153,17 @@ fn run_bytes<K: Sink>(alloc: Global, natives: Natives, bytes: &[u8], sink: &mut 
     requires { length bytes.now ≤ most_bytes }
     ensures statuses { (result.status ≡ 0) ⊎ (result.status ≡ 2) ⊎ (result.status ≡ 4) ⊎ (result.status ≡ 5) }
     ensures line { (result.status ≡ 2) ⊎ (result.line ≡ 0) }
-    ensures ran { (result.status ≡ 0) ⊎ (result.status ≡ 4) → Ran (objects_of allows_call allows_resume plan_starts plan_resumes table_answers natives) (infos_of info natives) (length natives.items.items) bytes.now result.replies }
-    ensures made { result.status ≡ 5 → RanPart (objects_of allows_call allows_resume plan_starts plan_resumes table_answers natives) (infos_of info natives) (length natives.items.items) bytes.now result.replies }
+    ensures ran { (result.status ≡ 0) ⊎ (result.status ≡ 4) → Ran (handed_of allows_call allows_resume info natives) bytes.now result.replies }
+    ensures made { result.status ≡ 5 → RanPart (handed_of allows_call allows_resume info natives) bytes.now sink.old sink.new result.replies }
     ensures done { result.status ≡ 0 → Appends (K.written sink.old) (K.written sink.new) (all_printed result.replies) }
     ensures part { WrotePart (K.written sink.old) (K.written sink.new) (all_printed result.replies) }
     ensures short { result.status ≡ 4 → WroteLess (K.written sink.old) (K.written sink.new) (all_printed result.replies) }
-    ensures bad { result.status ≡ 2 → IsFirstBad (length natives.items.items) result.line (lines bytes.now) × (K.written sink.new ≡ K.written sink.old) × (result.replies ≡ []) }
+    ensures bad { result.status ≡ 2 → IsFirstBad (infos_of info natives) result.line (lines bytes.now) × (K.written sink.new ≡ K.written sink.old) × (result.replies ≡ []) }
     ensures untouched { result.status ≡ 2 → sink.new ≡ sink.old }
     ensures fault { result.status ≡ 4 → Rose (K.faults sink.old) (K.faults sink.new) }
     ensures later { K.faults sink.old ≤ K.faults sink.new }
-    ensures text { (text : SessionText) → IsSession (length natives.items.items) (lines bytes.now) text → result.status ≢ 2 }
-    ensures first { (n : ℕ) → IsFirstBad (length natives.items.items) n (lines bytes.now) → (result.status ≡ 2) × (result.line ≡ n) ⊎ (result.status ≡ 5) }
+    ensures text { (text : SessionText) → IsSession (infos_of info natives) (lines bytes.now) text → result.status ≢ 2 }
+    ensures first { (n : ℕ) → IsFirstBad (infos_of info natives) n (lines bytes.now) → (result.status ≡ 2) × (result.line ≡ n) ⊎ (result.status ≡ 5) }
 {
     match read_text(alloc, bytes, &natives) {
         Err(TextFault::BadLine(line)) => end(alloc, 2, line),
@@ -176,46 +178,6 @@ fn is_run(words: &[String]) -> bool
     match words {
         [word] => word.as_str() == "run",
         _ => false,
-    }
-}
-
-fn run<S: Source, K: Sink>(
-    alloc: Global,
-    words: &[String],
-    source: &mut S,
-    sink: &mut K,
-    natives: Natives,
-) -> ToolEnd
-    ensures statuses { IsStatus result.status }
-    ensures done { result.status ≡ 0 → WasDone (objects_of allows_call allows_resume plan_starts plan_resumes table_answers natives) (infos_of info natives) (length natives.items.items) (S.left source.old) (S.left source.new) (K.written sink.old) (K.written sink.new) result.replies }
-    ensures words { (result.status ≡ 1) ↔ (map (λ w. string_bytes w) words.now ≢ run_words) }
-    ensures bad { result.status ≡ 2 → WasBad (length natives.items.items) (S.left source.old) (S.left source.new) result.line }
-    ensures read { result.status ≡ 3 → Rose (S.faults source.old) (S.faults source.new) }
-    ensures write { result.status ≡ 4 → Rose (K.faults sink.old) (K.faults sink.new) }
-    ensures cut { result.status ≡ 4 → WasCut (objects_of allows_call allows_resume plan_starts plan_resumes table_answers natives) (infos_of info natives) (length natives.items.items) (S.left source.old) (S.left source.new) (K.written sink.old) (K.written sink.new) result.replies }
-    ensures stopped { result.status ≡ 5 → (result.replies ≡ []) ⊎ WasStopped (objects_of allows_call allows_resume plan_starts plan_resumes table_answers natives) (infos_of info natives) (length natives.items.items) (S.left source.old) (S.left source.new) result.replies }
-    ensures part { result.status ≡ 5 → WrotePart (K.written sink.old) (K.written sink.new) (all_printed result.replies) }
-    ensures many { result.status ≡ 6 → CameMore most_bytes (S.left source.old) (S.left source.new) }
-    ensures line { (result.status ≡ 2) ⊎ (result.line ≡ 0) }
-    ensures nothing { (result.status ≡ 1) ⊎ (result.status ≡ 2) ⊎ (result.status ≡ 3) ⊎ (result.status ≡ 6) → (K.written sink.new ≡ K.written sink.old) × (result.replies ≡ []) }
-    ensures unread { result.status ≡ 1 → source.new ≡ source.old }
-    ensures untouched { (result.status ≡ 1) ⊎ (result.status ≡ 2) ⊎ (result.status ≡ 3) ⊎ (result.status ≡ 6) → sink.new ≡ sink.old }
-    ensures short { result.status ≡ 4 → WroteLess (K.written sink.old) (K.written sink.new) (all_printed result.replies) }
-    ensures complete { (bytes : List ℕ) (text : SessionText) → map (λ w. string_bytes w) words.now ≡ run_words → S.left source.old ≡ Some bytes → length bytes ≤ most_bytes → IsSession (length natives.items.items) (lines bytes) text
-        → ¬ (Rose (S.faults source.old) (S.faults source.new)) → ¬ (Rose (K.faults sink.old) (K.faults sink.new)) → (result.status ≡ 0) ⊎ (result.status ≡ 5) }
-    ensures refused { (bytes : List ℕ) (n : ℕ) → map (λ w. string_bytes w) words.now ≡ run_words → S.left source.old ≡ Some bytes → length bytes ≤ most_bytes → IsFirstBad (length natives.items.items) n (lines bytes)
-        → ¬ (Rose (S.faults source.old) (S.faults source.new)) → (result.status ≡ 2) × (result.line ≡ n) ⊎ (result.status ≡ 5) }
-    ensures large { (bytes : List ℕ) → map (λ w. string_bytes w) words.now ≡ run_words → S.left source.old ≡ Some bytes → most_bytes < length bytes
-        → ¬ (Rose (S.faults source.old) (S.faults source.new)) → (result.status ≡ 6) ⊎ (result.status ≡ 5) }
-{
-    if !is_run(words) {
-        return end(alloc, 1, 0);
-    }
-    match read_whole(alloc, source, MOST) {
-        Err(ReadEnd::Failed) => end(alloc, 3, 0),
-        Err(ReadEnd::TooMany) => end(alloc, 6, 0),
-        Err(ReadEnd::OutOfMemory) => end(alloc, 5, 0),
-        Ok(bytes) => run_bytes(alloc, natives, &bytes, sink),
     }
 }
 
@@ -235,20 +197,20 @@ pub fn run_tool<S: Source, K: Sink>(
     ensures statuses { result.status ≤ 6 }
     // 0: all bytes of the source are a session text, its commands were answered one after the other in a
     // new session, and all replies were written, printed.
-    ensures done { result.status ≡ 0 → WasDone (objects_of allows_call allows_resume plan_starts plan_resumes table_answers natives) (infos_of info natives) (length natives.items.items) (S.left source.old) (S.left source.new) (K.written sink.old) (K.written sink.new) result.replies }
+    ensures done { result.status ≡ 0 → WasDone (handed_of allows_call allows_resume info natives) (S.left source.old) (S.left source.new) (K.written sink.old) (K.written sink.new) result.replies }
     // 1: exactly where the words are not `run`.
     ensures words { (result.status ≡ 1) ↔ (map (λ w. string_bytes w) words.now ≢ run_words) }
     // 2: the bytes are no session text, and this line is the first bad one.
-    ensures bad { result.status ≡ 2 → WasBad (length natives.items.items) (S.left source.old) (S.left source.new) result.line }
+    ensures bad { result.status ≡ 2 → WasBad (infos_of info natives) (S.left source.old) (S.left source.new) result.line }
     // 3: only where the source failed.
     ensures read { result.status ≡ 3 → Rose (S.faults source.old) (S.faults source.new) }
     // 4: only where the sink failed; all commands were answered, and a front of the printed replies was
     // written.
     ensures write { result.status ≡ 4 → Rose (K.faults sink.old) (K.faults sink.new) }
-    ensures cut { result.status ≡ 4 → WasCut (objects_of allows_call allows_resume plan_starts plan_resumes table_answers natives) (infos_of info natives) (length natives.items.items) (S.left source.old) (S.left source.new) (K.written sink.old) (K.written sink.new) result.replies }
-    // 5: memory ran out; the replies answer as many of the first commands, and a front of the printed
-    // replies was written.
-    ensures stopped { result.status ≡ 5 → (result.replies ≡ []) ⊎ WasStopped (objects_of allows_call allows_resume plan_starts plan_resumes table_answers natives) (infos_of info natives) (length natives.items.items) (S.left source.old) (S.left source.new) result.replies }
+    ensures cut { result.status ≡ 4 → WasCut (handed_of allows_call allows_resume info natives) (S.left source.old) (S.left source.new) (K.written sink.old) (K.written sink.new) result.replies }
+    // 5: memory ran out; the replies answer as many of the first commands, the sink was asked to write
+    // only where these are all, and a front of the printed replies was written.
+    ensures stopped { result.status ≡ 5 → WasStarved (handed_of allows_call allows_resume info natives) (S.left source.old) (S.left source.new) sink.old sink.new result.replies }
     ensures part { result.status ≡ 5 → WrotePart (K.written sink.old) (K.written sink.new) (all_printed result.replies) }
     // 6: more bytes came than a text may have.
     ensures many { result.status ≡ 6 → CameMore most_bytes (S.left source.old) (S.left source.new) }
@@ -264,15 +226,23 @@ pub fn run_tool<S: Source, K: Sink>(
     ensures short { result.status ≡ 4 → WroteLess (K.written sink.old) (K.written sink.new) (all_printed result.replies) }
     // A session text of at most that many bytes ends with 0, unless the source or the sink failed or
     // memory ran out.
-    ensures complete { (bytes : List ℕ) (text : SessionText) → map (λ w. string_bytes w) words.now ≡ run_words → S.left source.old ≡ Some bytes → length bytes ≤ most_bytes → IsSession (length natives.items.items) (lines bytes) text
+    ensures complete { (bytes : List ℕ) (text : SessionText) → map (λ w. string_bytes w) words.now ≡ run_words → S.left source.old ≡ Some bytes → length bytes ≤ most_bytes → IsSession (infos_of info natives) (lines bytes) text
         → ¬ (Rose (S.faults source.old) (S.faults source.new)) → ¬ (Rose (K.faults sink.old) (K.faults sink.new)) → (result.status ≡ 0) ⊎ (result.status ≡ 5) }
     // One that isn't a session text ends with 2 and its first bad line, unless the source failed or memory
     // ran out.
-    ensures refused { (bytes : List ℕ) (n : ℕ) → map (λ w. string_bytes w) words.now ≡ run_words → S.left source.old ≡ Some bytes → length bytes ≤ most_bytes → IsFirstBad (length natives.items.items) n (lines bytes)
+    ensures refused { (bytes : List ℕ) (n : ℕ) → map (λ w. string_bytes w) words.now ≡ run_words → S.left source.old ≡ Some bytes → length bytes ≤ most_bytes → IsFirstBad (infos_of info natives) n (lines bytes)
         → ¬ (Rose (S.faults source.old) (S.faults source.new)) → (result.status ≡ 2) × (result.line ≡ n) ⊎ (result.status ≡ 5) }
     // One of more bytes ends with 6, unless the source failed or memory ran out.
     ensures large { (bytes : List ℕ) → map (λ w. string_bytes w) words.now ≡ run_words → S.left source.old ≡ Some bytes → most_bytes < length bytes
         → ¬ (Rose (S.faults source.old) (S.faults source.new)) → (result.status ≡ 6) ⊎ (result.status ≡ 5) }
 {
-    run(alloc, words, source, sink, natives)
+    if !is_run(words) {
+        return end(alloc, 1, 0);
+    }
+    match read_whole(alloc, source, MOST) {
+        Err(ReadEnd::Failed) => end(alloc, 3, 0),
+        Err(ReadEnd::TooMany) => end(alloc, 6, 0),
+        Err(ReadEnd::OutOfMemory) => end(alloc, 5, 0),
+        Ok(bytes) => run_bytes(alloc, natives, &bytes, sink),
+    }
 }

@@ -4,12 +4,12 @@ ghost use Rattle.std.specs.Prelude.{◌≡◌, ◌++◌, ◌∷◌, [], OnOk, co
 ghost use Rattle.rhd_text.specs.PrintedTexts.{quoted};
 ghost use Rattle.std.specs.Fmt.{decimal};
 ghost use Rattle.rhd_text.specs.PrintedReplies.{spelled_error, spelled_fault, label, layer_text, func_text, pick_text, whose_text, result_text, after_text, shown_text, call_line, indent, tree_text, nodes_text};
-ghost use Rattle.rhd_session.specs.declared.node.CallNode.{out-CallNode};
+ghost use Rattle.rhd_call.specs.declared.node.CallNode.{out-CallNode};
 
 use super::quotes::{push_number, push_quoted};
 use super::values::push_value;
+use rhd_call::{CallNode, Layer, Nodes, Pick, Whose};
 use rhd_func::{CallRequest, RhaiFunc};
-use rhd_session::{CallNode, Layer, Nodes, Pick, Whose};
 use rhd_value::{Dynamic, EvalAltResult, OutOfMemory, ParseErrorType, Text};
 use std::alloc::Global;
 

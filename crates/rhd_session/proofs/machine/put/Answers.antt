@@ -1,8 +1,10 @@
-use Rattle.rhd_session.proofs.Stack.{puts_frame, puts_node}
+use Rattle.std.proofs.Common.{refl}
+use Rattle.rhd_session.proofs.Stack.{puts_frame, puts_node, above_at}
 use Rattle.rhd_session.proofs.machine.put.Goals as goal
 
 pub returns-in_ok-push-in-Waiting-clause-put : goal.returns-in_ok-push-in-Waiting-clause-put
-returns-in_ok-push-in-Waiting-clause-put c = puts_frame c.args.stack.now.items _ c.args.outcome c.in-Waiting.frame c.in-Waiting.asked c.in-Waiting.is c.in_ok-push-in-Waiting.ensures.items
+returns-in_ok-push-in-Waiting-clause-put c = λ w.
+    puts_frame w c.args.stack.now.items _ c.args.state.now _ c.args.outcome c.in-Waiting.suspended (record { suspended = c.in-Waiting.suspended; outer = c.outer_of-outer.result }) c.in-Waiting.asked c.in-Waiting.is refl c.outer_of-outer.ensures c.in_ok-push-in-Waiting.ensures.items refl
 
 pub returns-in-Finished-clause-put : goal.returns-in-Finished-clause-put
-returns-in-Finished-clause-put c = puts_node c.args.stack.now.items c.args.outcome c.in-Finished.node c.in-Finished.is
+returns-in-Finished-clause-put c = λ w. puts_node w c.args.stack.now.items c.args.state.now c.args.outcome c.in-Finished.node c.in-Finished.is

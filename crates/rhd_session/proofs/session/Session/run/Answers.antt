@@ -1,29 +1,33 @@
 use Rattle.std.proofs.Common.{arith, ◌≡◌, ◌≤◌, refl, sym, ap, length, take, ◌∙◌}
-use Rattle.std.proofs.lemmas.List.{length-take}
+use Rattle.rhd_engine.specs.Of.{lists_of}
 use Rattle.rhd_session.specs.Of.{moment_of}
 use Rattle.rhd_session.proofs.Filled.{on_ok_of, on_err_of}
-use Rattle.rhd_session.proofs.Lists.{answered_length, stopped_at, stopped_before, stopped_begins, begins_none, turn}
+use Rattle.rhd_session.proofs.Lists.{run_whole, stopped_at, stopped_before, stopped_begins, begins_none, turn}
 use Rattle.rhd_session.proofs.session.Session.run.Goals as goal
 
-pub returns-in_default-clause-stopped : goal.returns-in_default-clause-stopped
-returns-in_default-clause-stopped g c =
-    let h : c.loop-command.command-index ≤ length c.args.commands.now = omega arith in (
-      moment_of c.loop-command.self c.loop-command.host c.loop-command.bodies,
-      stopped_at _ _ _ _ c.args.commands.now c.loop-command.command-index c.loop-command.replies.items c.from_vec.result _ _ _ _ _ h c.from_vec.ensures refl refl c.loop-command.invariant.answered,
-      λ other stands. stopped_begins _ _ _ _ c.args.commands.now c.loop-command.command-index c.command-item.result other c.loop-command.replies.items c.from_vec.result _ _ _ _ _ c.loop-command-test.true c.command-item.is c.from_vec.ensures c.loop-command.invariant.answered stands (begins_none _ _),
-      stopped_before _ _ _ _ c.args.commands.now c.loop-command.command-index c.loop-command.replies.items c.from_vec.result _ _ _ c.loop-command-test.true c.from_vec.ensures c.loop-command.invariant.answered,
-    )
+pub returns-in_default-clause-gives : goal.returns-in_default-clause-gives
+unfolding lists_of
+returns-in_default-clause-gives g c =
+    let h : c.loop-command.command-index ≤ length c.args.commands.now = omega arith in record {
+      mid = moment_of c.loop-command.self c.loop-command.host c.loop-command.bodies;
+      answered = stopped_at _ _ _ _ c.args.commands.now c.loop-command.command-index c.loop-command.replies.items c.from_vec.result _ _ _ _ _ h c.from_vec.ensures refl refl c.loop-command.invariant.answered;
+      begins = λ other stands. stopped_begins _ _ _ _ c.args.commands.now c.loop-command.command-index c.command-item.result other c.loop-command.replies.items c.from_vec.result _ _ _ _ _ c.loop-command-test.true c.command-item.is c.from_vec.ensures c.loop-command.invariant.answered stands (begins_none _ _);
+      short = stopped_before _ _ _ _ c.args.commands.now c.loop-command.command-index c.loop-command.replies.items c.from_vec.result _ _ _ c.loop-command-test.true c.from_vec.ensures c.loop-command.invariant.answered;
+      within = c.loop-command.self.within;
+    }
 
-pub returns-then-is_err-clause-stopped : goal.returns-then-is_err-clause-stopped
-returns-then-is_err-clause-stopped g c =
+pub returns-then-is_err-clause-gives : goal.returns-then-is_err-clause-gives
+unfolding lists_of
+returns-then-is_err-clause-gives g c =
     let h : c.loop-command.command-index ≤ length c.args.commands.now = omega arith in
     let failed = on_err_of c.perform.result c.perform.ensures.failed (sym c.is_err.ensures.value ∙ c.if-is_err.true) in
-    let kept = c.from_vec-then-is_err.ensures ∙ failed.0 in (
-      moment_of c.loop-command.self c.loop-command.host c.loop-command.bodies,
-      stopped_at _ _ _ _ c.args.commands.now c.loop-command.command-index c.loop-command.replies.items c.from_vec-then-is_err.result _ _ _ _ _ h kept failed.1 failed.2 c.loop-command.invariant.answered,
-      λ other stands. stopped_begins _ _ _ _ c.args.commands.now c.loop-command.command-index c.command-item.result other c.loop-command.replies.items c.from_vec-then-is_err.result _ _ _ _ _ c.loop-command-test.true c.command-item.is kept c.loop-command.invariant.answered stands (simp c.in-Ok.ensures at c.perform.ensures.begins),
-      stopped_before _ _ _ _ c.args.commands.now c.loop-command.command-index c.loop-command.replies.items c.from_vec-then-is_err.result _ _ _ c.loop-command-test.true kept c.loop-command.invariant.answered,
-    )
+    let kept = c.from_vec-then-is_err.ensures ∙ failed.0 in record {
+      mid = moment_of c.loop-command.self c.loop-command.host c.loop-command.bodies;
+      answered = stopped_at _ _ _ _ c.args.commands.now c.loop-command.command-index c.loop-command.replies.items c.from_vec-then-is_err.result _ _ _ _ _ h kept failed.1 failed.2 c.loop-command.invariant.answered;
+      begins = λ other stands. stopped_begins _ _ _ _ c.args.commands.now c.loop-command.command-index c.command-item.result other c.loop-command.replies.items c.from_vec-then-is_err.result _ _ _ _ _ c.loop-command-test.true c.command-item.is kept c.loop-command.invariant.answered stands (simp c.in-Ok.ensures at c.perform.ensures.begins);
+      short = stopped_before _ _ _ _ c.args.commands.now c.loop-command.command-index c.loop-command.replies.items c.from_vec-then-is_err.result _ _ _ c.loop-command-test.true kept c.loop-command.invariant.answered;
+      within = c.perform.new.self.within;
+    }
 
 pub loop-command-preserved : goal.loop-command-preserved
 loop-command-preserved g c =
@@ -35,8 +39,7 @@ loop-command-preserved g c =
       answered = turn _ _ _ _ c.args.commands.now c.loop-command.command-index c.command-item.result c.in-Ok.command c.loop-command.replies.items c.perform.new.replies.items replied.0 _ _ _ _ _ _ c.loop-command-test.true c.command-item.is c.in-Ok.ensures replied.1 i.answered replied.2;
     }
 
-pub returns-clause-counted : goal.returns-clause-counted
-returns-clause-counted g c =
-    let commands = c.args.commands.now in
-    let i : c.loop-command.command-index ≡ length commands = omega arith in
-    omega (arith, i, ap length c.from_vec-2.ensures, answered_length _ _ _ _ (take c.loop-command.command-index commands) c.loop-command.replies.items _ _ _ c.loop-command.invariant.answered, length-take c.loop-command.command-index commands)
+pub returns-clause-gives : goal.returns-clause-gives
+returns-clause-gives g c =
+    let i : c.loop-command.command-index ≡ length c.args.commands.now = omega arith in
+    run_whole _ _ _ _ c.args.commands.now c.loop-command.command-index c.loop-command.replies.items c.from_vec-2.result _ _ _ i c.from_vec-2.ensures c.loop-command.invariant.answered

@@ -2,12 +2,11 @@ use Rattle.std.proofs.Common.{◌≡◌, ◌≤◌, ◌<◌, length, refl, rules
 use Rattle.rhd_module.specs.Tree.{ModuleTree}
 use Rattle.rhd_module.specs.Registered.{with_decl, script_key, script_decl}
 use Rattle.rhd_session.specs.Of.{world_of}
-use Rattle.rhd_session.proofs.HeldLaws.{on_err, all_at, all_set, stays_either}
+use Rattle.rhd_engine.proofs.HeldLaws.{on_err, all_at, all_set, stays_either}
 use Rattle.rhd_session.proofs.Registers.{same_reply, refused_alone, script_done, at_place, set_same}
 use Rattle.rhd_session.proofs.session.Session.script.Goals as goal
 
 pub returns-then-at-len-clause-applied : goal.returns-then-at-len-clause-applied
-unfolding world_of
 returns-then-at-len-clause-applied g c =
     let n : c.len-then-at-len.result ≡ length c.args.self.now.modules.items = search rules in
     let m : c.len.result ≡ length c.args.self.now.modules.items = search rules in
@@ -24,7 +23,6 @@ invariant_of-self-clause-modules_held g c =
     (stays_either c.set_script_fn.result _ _ _ c.index_mut.result.now c.set_script_fn.new.self c.set_script_fn.ensures.ok c.set_script_fn.ensures.err refl held)
 
 pub returns-in_err-set_script_fn-clause-failed : goal.returns-in_err-set_script_fn-clause-failed
-unfolding world_of
 returns-in_err-set_script_fn-clause-failed g c =
     let m : c.len.result ≡ length c.args.self.now.modules.items = search rules in
     let h : c.args.id.0 < length c.args.self.now.modules.items = omega (arith, m, c.if-at-len.false) in
@@ -32,7 +30,6 @@ returns-in_err-set_script_fn-clause-failed g c =
     on_err c.from_residual-in_err-set_script_fn.result _ (ap (λ (ms : List ModuleTree). record (world_of (λ z. (goal.PluginFunc-dyn g z).info z.1) c.args.self.now) { modules = ms }) same)
 
 pub returns-clause-applied : goal.returns-clause-applied
-unfolding world_of
 returns-clause-applied g c =
     let m : c.len.result ≡ length c.args.self.now.modules.items = search rules in
     let h : c.args.id.0 < length c.args.self.now.modules.items = omega (arith, m, c.if-at-len.false) in

@@ -1,5 +1,5 @@
 use Rattle.std.proofs.Common.{◌≡◌, ◌≤◌, length, arith, rules}
-use Rattle.rhd_session.specs.Nodes.{nodes_in}
+use Rattle.rhd_call.specs.Nodes.{nodes_in}
 use Rattle.rhd_text.proofs.PrintingTrees.{all_lines}
 use Rattle.rhd_text.proofs.printing.nodes.+trees.Goals as goal
 

@@ -1,6 +1,6 @@
 use Rattle.std.proofs.Common.{◌≡◌, ◌++◌, take}
 use Rattle.std.specs.List.{flat_map}
-use Rattle.rhd_session.specs.Nodes.{nodes_in}
+use Rattle.rhd_call.specs.Nodes.{nodes_in}
 use Rattle.rhd_text.specs.PrintedReplies.{tree_text}
 use Rattle.rhd_text.proofs.printing.nodes.+trees.Given as goal
 

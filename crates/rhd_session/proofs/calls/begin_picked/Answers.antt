@@ -1,0 +1,16 @@
+use Rattle.std.proofs.Common.{refl, sym, ap, ◌∙◌, ◌≡◌, Bool}
+use Rattle.std.proofs.lemmas.Result.{IfOk-weaker}
+use Rattle.rhd_call.specs.Seen.{seen}
+use Rattle.rhd_engine.specs.Of.{lists_of}
+use Rattle.rhd_session.specs.Plans.{plan_of}
+use Rattle.rhd_session.specs.World.{moment}
+use Rattle.std.proofs.Common.{◌+◌, []}
+use Rattle.rhd_session.specs.Runs.{none_yet}
+use Rattle.rhd_session.specs.Waits.{in_progress}
+use Rattle.rhd_session.proofs.Stack.{settled}
+use Rattle.rhd_session.proofs.calls.begin_picked.Goals as goal
+
+pub returns-in-Ok : goal.returns-in-Ok
+unfolding lists_of
+returns-in-Ok g c = λ modules begun host begins within decided.
+    IfOk-weaker c.settle.result _ _ (λ asking s. settled _ _ within decided (c.in-Ok.ensures (begun + 1) host) none_yet s) (c.settle.ensures (in_progress (seen c.args.node.now).call (seen c.args.node.now).level c.args.pick [] []) begins refl)

@@ -1,0 +1,29 @@
+use Rattle.std.proofs.Common.{refl, sym, ap, ◌∙◌, ◌≡◌, Bool}
+use Rattle.std.proofs.lemmas.Result.{IfOk-weaker}
+use Rattle.rhd_call.specs.Seen.{seen}
+use Rattle.rhd_engine.specs.Of.{lists_of}
+use Rattle.rhd_session.specs.Plans.{plan_of}
+use Rattle.rhd_session.specs.World.{moment}
+use Rattle.rhd_func.specs.Funcs.{native_of}
+use Rattle.rhd_session.specs.Entered.{context_if}
+use Rattle.rhd_session.specs.Objects.{objects_of}
+use Rattle.rhd_session.proofs.Stepped.{native_resumed, body_resumed, context_asked}
+use Rattle.rhd_session.proofs.calls.go_on.Goals as goal
+
+pub returns-in-Script : goal.returns-in-Script
+unfolding objects_of
+returns-in-Script g c = λ begun host.
+    body_resumed _ _ c.resume.result c.args.func.now c.in-Script.fn_def c.def.result.now c.in-Script.env c.args.ctx.now c.args.carry c.args.done (moment begun host c.args.bodies.now) c.resume.new.self
+    c.in-Script.is c.def.ensures c.resume.ensures.step c.resume.ensures.back
+
+pub returns-in-Pure : goal.returns-in-Pure
+unfolding objects_of
+returns-in-Pure g c = λ begun host.
+    native_resumed _ _ c.resume-in-Pure.result c.args.func.now c.args.ctx.now c.args.carry c.args.done c.in-Pure.id _ (moment begun host c.args.bodies.now)
+    (ap native_of c.in-Pure.is) (c.context_if-ctx.ensures ∙ ap (λ (b : Bool). context_if b c.args.ctx.now) (c.has_context.ensures ∙ context_asked _ _ c.args.func.now)) c.resume-in-Pure.ensures.step c.resume-in-Pure.ensures.back
+
+pub returns-in-Method : goal.returns-in-Method
+unfolding objects_of
+returns-in-Method g c = λ begun host.
+    native_resumed _ _ c.resume-in-Method.result c.args.func.now c.args.ctx.now c.args.carry c.args.done c.in-Method.id _ (moment begun host c.args.bodies.now)
+    (ap native_of c.in-Method.is) (c.context_if-ctx-in-Method.ensures ∙ ap (λ (b : Bool). context_if b c.args.ctx.now) (c.has_context-in-Method.ensures ∙ context_asked _ _ c.args.func.now)) c.resume-in-Method.ensures.step c.resume-in-Method.ensures.back

@@ -1,0 +1,12 @@
+use Rattle.std.proofs.Common.{refl, sym, ap, ◌∙◌, ◌≡◌, Bool}
+use Rattle.std.proofs.lemmas.Result.{IfOk-weaker}
+use Rattle.rhd_call.specs.Seen.{seen}
+use Rattle.rhd_engine.specs.Of.{lists_of}
+use Rattle.rhd_session.specs.Plans.{plan_of}
+use Rattle.rhd_session.specs.World.{moment}
+use Rattle.rhd_session.proofs.Stack.{resumes_with}
+use Rattle.rhd_session.proofs.calls.resume.Goals as goal
+
+pub returns : goal.returns
+returns g c = λ modules level begun host inner call waited before mid opened runs.
+    resumes_with _ _ c.settle_waiting.result opened runs (c.in_ok-step.ensures begun host) (λ k under pick. c.settle_waiting.ensures k under pick)

@@ -1,0 +1,9 @@
+use Rattle.std.proofs.lemmas.Result.{IfOk-weaker}
+use Rattle.rhd_session.specs.World.{moment}
+use Rattle.rhd_session.proofs.Stack.{answered_goes}
+use Rattle.rhd_session.proofs.run.answer.Goals as goal
+
+pub returns-clause-going : goal.returns-clause-going
+returns-clause-going g c = λ modules base call before begun host going.
+    IfOk-weaker c.put.result _ _ (λ hand p. answered_goes _ _ c.args.stack.now.items c.put.new.stack.items c.args.frame c.args.node base c.args.state.now c.give_back.new.state c.put.new.state call before (moment begun host c.args.bodies.now) (moment begun host c.resume.new.bodies) c.in_ok-outcome.outcome hand c.give_back.ensures
+    (λ level own waited from mid opened runs. c.in_ok-outcome.ensures modules level begun host c.args.state.now own waited from mid opened runs) (p _) going) c.put.ensures.put

@@ -1,5 +1,0 @@
-use Rattle.rhd_session.proofs.Stepped.{resumed_of}
-use Rattle.rhd_session.proofs.session.Session.answered_step.Goals as goal
-
-pub returns : goal.returns
-returns g c = λ begun host. resumed_of _ c.next_step.result _ _ c.in_ok-carry.carry c.args.frame.now.carry c.in_ok-done.done _ _ _ c.in_ok-carry.ensures c.in_ok-done.ensures (c.next_step.ensures begun host)
