@@ -91,6 +91,12 @@ number_of end fault (own_refuses own value is refuses some) h = subst (λ (x : E
 number_of end fault (is_called e none) h = absurd (called_own end e h)
 number_of end fault (is_hosts e none) h = absurd (host_own end e h)
 
+fault_of : (end : End) → EndOf end → end.whose ≡ Call → (fault : EvalAltResult) × IsOwn end fault
+fault_of end (own_plain fault is numbered plain none) h = (fault, is)
+fault_of end (own_refuses fault value is refuses some) h = (fault, is)
+fault_of end (is_called e none) h = let q : Called ≡ Call = sym e ∙ h in absurd cc
+fault_of end (is_hosts e none) h = let q : Host ≡ Call = sym e ∙ h in absurd cc
+
 some_none : (end : End) (value : Tree) → end.refused ≡ None → end.refused ≡ Some value → ⊥
 some_none end value none some = let q : None ≡ Some value = sym none ∙ some in absurd cc
 
@@ -137,6 +143,10 @@ module _ {H B : Type 0} (o : Objects H B) (w : World) where
 
   tree_end : {node root : CallNode} (inside : InTree node root) {f : Frame} {level : ℕ} {call : CallRequest} {before after : Moment H B} {cut : Bool} → Runs o w f level call root before after cut → EndOf (seen node).end
   tree_end inside r = end_of_node (runs_end o w (tree_runs o w inside r).3)
+
+  -- an end of a call itself is a fault
+  pub own_fault_is : {node root : CallNode} (inside : InTree node root) {f : Frame} {level : ℕ} {call : CallRequest} {before after : Moment H B} {cut : Bool} → Runs o w f level call root before after cut → (seen node).end.whose ≡ Call → (fault : EvalAltResult) × IsOwn (seen node).end fault
+  own_fault_is {node} inside r h = fault_of (seen node).end (tree_end inside r) h
 
   -- a fault of a call itself has one of these numbers
   pub own_number : {node root : CallNode} (inside : InTree node root) {f : Frame} {level : ℕ} {call : CallRequest} {before after : Moment H B} {cut : Bool} (fault : EvalAltResult)

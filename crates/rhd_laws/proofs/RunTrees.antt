@@ -1,6 +1,7 @@
 -- Where the trees of a run stand.
 use Rattle.std.proofs.Common.{◌≡◌, ℕ, Bool, List, [], ◌∷◌, length, refl, sym, ap, subst, ◌∙◌}
-use Rattle.std.specs.Prelude.{zero, suc, take, slice_get, Option, None, Some, option_map}
+use Rattle.std.specs.Prelude.{zero, suc, take, slice_get, Option, None, Some, option_map, Result, Ok, Err}
+use Rattle.std.proofs.Math.Seq.{take-length}
 use Rattle.rhd_func.specs.declared.request.CallRequest.{CallRequest}
 use Rattle.rhd_func.specs.Natives.{info_of}
 use Rattle.rhd_module.specs.declared.fault.DeclFault.{DeclFault}
@@ -10,14 +11,15 @@ use Rattle.rhd_call.specs.declared.command.ModuleId.{ModuleId}
 use Rattle.rhd_call.specs.declared.node.CallNode.{CallNode}
 use Rattle.rhd_call.specs.declared.reply.Reply.{Reply}
 use Rattle.rhd_call.specs.declared.reply.Reply.TheVariants.{Done, Made, Refused, Called}
+use Rattle.rhd_call.specs.declared.reply.Stopped.{Stopped}
 use Rattle.rhd_call.specs.Trees.{InTree}
 use Rattle.rhd_engine.specs.Engine.{Frame}
-use Rattle.rhd_session.specs.Answered.{Declares, refused, done, Applied, declared, CallReplied, Replied, Answered}
+use Rattle.rhd_session.specs.Answered.{Declares, refused, done, Applied, declared, CallReplied, Replied, Answered, RunGives}
 use Rattle.rhd_session.specs.Commands.{change, Change}
 use Rattle.rhd_session.specs.Runs.{Runs}
 use Rattle.rhd_session.specs.Trees.{frame_at, RunsAt}
 use Rattle.rhd_session.specs.World.{World, Objects, Moment}
-use Rattle.rhd_laws.specs.Ran.{RunOf}
+use Rattle.rhd_laws.specs.Ran.{RunOf, IsRunOf}
 use Rattle.rhd_laws.specs.Reached.{IsTreeAt}
 use Rattle.rhd_laws.proofs.TreeLaws.{tree_runs}
 
@@ -154,3 +156,15 @@ module _ {H B : Type 0} (o : Objects H B) where
 
   pub run_many : (run : RunOf o) → length run.replies ≡ length run.commands
   run_many run = answered_many run.world run.last_world run.frame run.last_frame run.before run.after run.commands run.replies run.answered
+
+  -- what a run gives
+  pub run_gives : (w w2 : World) (f f2 : Frame) (before after : Moment H B) (commands : List Command) (result : Result (List Reply) Stopped) → RunGives (record { objects = o; world = w; frame = f }) before commands result w2 f2 after
+      → (run : RunOf o) × IsRunOf o w f before commands result run
+  run_gives w w2 f f2 before after commands (Ok replies) h = (
+    record { world = w; frame = f; before = before; commands = commands; replies = replies; last_world = w2; last_frame = f2; after = after; answered = h.0 },
+    record { world_is = refl; frame_is = refl; before_is = refl; first = sym (ap (λ n. take n commands) h.1 ∙ take-length commands); given = refl },
+  )
+  run_gives w w2 f f2 before after commands (Err stopped) h = (
+    record { world = w; frame = f; before = before; commands = take (length stopped.replies) commands; replies = stopped.replies; last_world = w2; last_frame = f2; after = h.mid; answered = h.answered },
+    record { world_is = refl; frame_is = refl; before_is = refl; first = refl; given = refl },
+  )
