@@ -17,10 +17,10 @@ ghost use Rattle.rhd_session.specs.Trees.{frame_at};
 
 use rhd_func::{Bodies, Host, Natives};
 
-/// A call's own end is a fault. A fault of a call itself has one of the numbers 1 to 7 and 9 to 11, and refuses a value exactly
-/// where its number is 7 or 11; no other end refuses one. A fault is the function's exactly where its
-/// last step failed with it, and the host's exactly where the host was asked and gave it. So a fault
-/// of a call itself is told apart from one of its function with the same number.
+/// A call's own end is a fault. It has one of the numbers 1 to 7 and 9 to 11, and refuses a value
+/// exactly where its number is 7 or 11; no other end refuses one. A fault is the function's exactly
+/// where its last step failed with it, and the host's exactly where the host was asked and gave it.
+/// So a fault of a call itself is told apart from one of its function with the same number.
 pub fn a_fault_of_a_call_is_told_apart<H: Host, B: Bodies>(natives: &Natives)
     ensures own { let o = objects_of allows_call allows_resume B.allows_start B.allows_next H.allows_missing natives.now in
         (r : Ran o) (node : CallNode) → InTree node r.node → (seen node).end.whose ≡ Call → (fault : EvalAltResult) × IsOwn (seen node).end fault }

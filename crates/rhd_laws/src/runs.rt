@@ -19,11 +19,11 @@ ghost use Rattle.rhd_session.specs.Trees.{frame_at, RunsAt};
 
 use rhd_func::{Bodies, Host, Natives};
 
-/// The replies that a run of commands gives answer the commands, or where memory ran out the first of
-/// them. Each tree that a run answers is that of the call at the same place of the commands, and runs in
-/// the world and the frame that the commands before it leave; and so runs each call of the tree, in
-/// the frame in which it is asked for. Each call of the run is answered by such a tree, and there are
-/// as many replies as commands.
+/// The replies that are given to commands answer them, or where memory ran out the first of them.
+/// Each tree among them is that of the call at the same place of the commands, and runs in the world
+/// and the frame that the commands before it leave; and so runs each call of the tree, in the frame
+/// in which it is asked for. Each call that is answered is answered by such a tree, and there are as
+/// many replies as commands that are answered.
 pub fn each_tree_of_a_run_runs_where_the_run_came<H: Host, B: Bodies>(natives: &Natives)
     ensures gives { let o = objects_of allows_call allows_resume B.allows_start B.allows_next H.allows_missing natives.now in
         (w w2 : World) (f f2 : Frame) (before after : Moment H B) (commands : List Command) (result : Result (List Reply) Stopped)
