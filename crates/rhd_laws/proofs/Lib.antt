@@ -2,6 +2,7 @@ pub mod FirstAnswered
 pub mod TreeLaws
 pub mod TreeFaults
 pub mod TreePlants
+pub mod RunTrees
 pub mod Locked
 pub mod PrintedEnds
 pub mod LastSteps
@@ -10,6 +11,9 @@ pub mod UnfoundRows
 pub mod NodeEnds
 pub mod Owned
 pub mod PrintedNodes
+pub mod OwnedFaults
+pub mod FirstLeft
+pub mod ReceivedPlaces
 pub mod PatternOrder
 pub mod PatternPlaces
 pub mod PickPlaces

@@ -8,7 +8,7 @@ use Rattle.rhd_value.specs.Firsts.{first_of}
 use Rattle.rhd_value.specs.Same.{tag_eq, tag_eq-Decides}
 use Rattle.rhd_value.specs.declared.tag.TypeTag.{TypeTag}
 use Rattle.rhd_value.specs.declared.tag.TypeTag.TheVariants.{Dynamic}
-use Rattle.rhd_session.specs.Patterns.{patterns_to}
+use Rattle.rhd_dispatch.specs.Patterns.{patterns_to}
 use Rattle.rhd_laws.specs.Matches.{Takes, its_kind, any_kind, TypesMatch, IsMoreExact}
 
 -- place by place, where n types may be `Dynamic`
@@ -63,7 +63,8 @@ of_map f g [] = refl
 of_map f g (x ∷ xs) = ap (option_or (f (g x))) (of_map f g xs)
 
 -- one place: its kind, and then `Dynamic`
-one_place : {P : Type 0} (look : List TypeTag → Option P) (n : ℕ) (k : TypeTag) (ks : List TypeTag) → first_of look (patterns_to (suc n) (k ∷ ks)) ≡ option_or (first_of (λ ts. look (k ∷ ts)) (patterns_to n ks)) (first_of (λ ts. look (Dynamic ∷ ts)) (patterns_to n ks))
+one_place : {P : Type 0} (look : List TypeTag → Option P) (n : ℕ) (k : TypeTag) (ks : List TypeTag)
+    → first_of look (patterns_to (suc n) (k ∷ ks)) ≡ option_or (first_of (λ ts. look (k ∷ ts)) (patterns_to n ks)) (first_of (λ ts. look (Dynamic ∷ ts)) (patterns_to n ks))
 unfolding patterns_to
 one_place look n k ks =
     of_append look (map (λ p. k ∷ p) (patterns_to n ks)) (map (λ p. Dynamic ∷ p) (patterns_to n ks))
@@ -114,7 +115,8 @@ before_kept look n k ks types h [] m b = absurd m
 before_kept look n k ks types h (o ∷ rest) m (inl b) = absurd (b.1 refl)
 before_kept look n k ks types h (o ∷ rest) m (inr b) = ap (λ x. look (x ∷ rest)) b.0 ∙ h rest m.1 b.1
 
-before_any : {P : Type 0} (look : List TypeTag → Option P) (n : ℕ) (k : TypeTag) (ks types : List TypeTag) → first_of (λ xs. look (k ∷ xs)) (patterns_to n ks) ≡ None → ((others : List TypeTag) → MatchTo n others ks → Before ks others types → look (Dynamic ∷ others) ≡ None)
+before_any : {P : Type 0} (look : List TypeTag → Option P) (n : ℕ) (k : TypeTag) (ks types : List TypeTag) → first_of (λ xs. look (k ∷ xs)) (patterns_to n ks) ≡ None
+    → ((others : List TypeTag) → MatchTo n others ks → Before ks others types → look (Dynamic ∷ others) ≡ None)
     → (others : List TypeTag) → MatchTo (suc n) others (k ∷ ks) → Before (k ∷ ks) others (Dynamic ∷ types) → look others ≡ None
 before_any look n k ks types none h [] m b = absurd m
 before_any look n k ks types none h (o ∷ rest) m (inl b) = ap (λ x. look (x ∷ rest)) b.0 ∙ none_matching (λ xs. look (k ∷ xs)) n ks rest none m.1
@@ -201,7 +203,8 @@ types_match types kinds m = record { as_many = as_long 16 types kinds m; each = 
 
 -- the order of two
 
-before_at : (kinds types others : List TypeTag) (place : ℕ) → length types ≡ length kinds → length others ≡ length kinds → take place types ≡ take place others → slice_get types place ≡ slice_get kinds place → slice_get others place ≢ slice_get kinds place → Before kinds types others
+before_at : (kinds types others : List TypeTag) (place : ℕ) → length types ≡ length kinds → length others ≡ length kinds → take place types ≡ take place others
+    → slice_get types place ≡ slice_get kinds place → slice_get others place ≢ slice_get kinds place → Before kinds types others
 before_at [] [] [] place a b alike exact apart = absurd (apart refl)
 before_at [] [] (o ∷ rest) place a b alike exact apart = absurd (omega (arith, b))
 before_at [] (t ∷ ts) others place a b alike exact apart = absurd (omega (arith, a))

@@ -6,7 +6,7 @@ use Rattle.rhd_value.specs.Kinds.{tag_of, tag_of_kind}
 use Rattle.rhd_value.specs.Tree.{Tree, Kind, unit, boolean, integer, character, text, array, object, pointer, custom}
 use Rattle.rhd_value.specs.declared.tag.TypeTag.{TypeTag}
 use Rattle.rhd_value.specs.declared.tag.TypeTag.TheVariants.{Dynamic}
-use Rattle.rhd_session.specs.Patterns.{patterns_to, patterns}
+use Rattle.rhd_dispatch.specs.Patterns.{patterns_to, patterns}
 use Rattle.rhd_laws.specs.Matches.{IsMoreExact}
 use Rattle.rhd_laws.proofs.PatternOrder.{MatchTo, Before, not_before_itself, pattern_matches, before_is, is_before, as_long, in_order, Ordered, first_goes, second_goes, same_types}
 
@@ -142,7 +142,8 @@ contained [] i x h = absurd cc
 contained (a ∷ xs) zero x h = (0, omega arith, got_head a x h)
 contained (a ∷ xs) (suc i) x h = let r = contained xs i x h in (suc r.0, omega (arith, r.1), r.2)
 
-pub exact_first : (args : List Tree) (types others : List TypeTag) (i j : ℕ) → slice_get (patterns (map tag_of args)) i ≡ Some types → slice_get (patterns (map tag_of args)) j ≡ Some others → (i < j) ↔ IsMoreExact (map tag_of args) types others
+pub exact_first : (args : List Tree) (types others : List TypeTag) (i j : ℕ) → slice_get (patterns (map tag_of args)) i ≡ Some types → slice_get (patterns (map tag_of args)) j ≡ Some others
+    → (i < j) ↔ IsMoreExact (map tag_of args) types others
 exact_first args types others i j a b =
     let kinds : List TypeTag = map tag_of args in
     let m : MatchTo 16 types kinds = pattern_matches 16 kinds types (contained (patterns kinds) i types a) in

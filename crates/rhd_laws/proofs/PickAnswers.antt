@@ -16,26 +16,26 @@ use Rattle.rhd_func.specs.declared.request.CallShape.{CallShape}
 use Rattle.rhd_func.specs.declared.request.CallShape.TheVariants.{Plain, ByRef, Method}
 use Rattle.rhd_module.specs.declared.key.Key.{Key}
 use Rattle.rhd_module.specs.declared.key.Key.TheVariants.{Script, Typed, Native}
-use Rattle.rhd_session.specs.declared.pick.Layer.{Layer}
-use Rattle.rhd_session.specs.declared.pick.Pick.{Pick}
-use Rattle.rhd_session.specs.Engine.{EngineLists, Frame}
-use Rattle.rhd_session.specs.declared.builtins.Operator.{Operator}
-use Rattle.rhd_session.specs.Display.{display}
-use Rattle.rhd_session.specs.Operators.{operator_eq, operator_eq-Decides}
-use Rattle.rhd_session.specs.Patterns.{patterns_to}
+use Rattle.rhd_call.specs.declared.pick.Layer.{Layer}
+use Rattle.rhd_call.specs.declared.pick.Pick.{Pick}
+use Rattle.rhd_engine.specs.Engine.{EngineLists, Frame}
+use Rattle.rhd_engine.specs.declared.builtins.Operator.{Operator}
+use Rattle.rhd_engine.specs.Display.{display}
+use Rattle.rhd_engine.specs.Operators.{operator_eq, operator_eq-Decides}
+use Rattle.rhd_dispatch.specs.Patterns.{patterns_to}
 use Rattle.rhd_session.specs.World.{Objects}
-use Rattle.rhd_session.specs.Ends.{End}
+use Rattle.rhd_call.specs.End.{End}
 use Rattle.rhd_laws.specs.Unfound.{AllFail, without_host, and_host}
-use Rattle.rhd_session.specs.Received.{Manner, native_method, other_native, script, received}
-use Rattle.rhd_session.specs.Searched.{found}
-use Rattle.rhd_session.specs.Asks.{looked, native_found, builtin, builtin_pick, params_of}
+use Rattle.rhd_session.specs.Received.{Convention, native_method, other_native, script, received}
+use Rattle.rhd_dispatch.specs.Searched.{found}
+use Rattle.rhd_dispatch.specs.Asks.{looked, native_found, builtin, builtin_pick, params_of}
 use Rattle.rhd_session.specs.Plans.{plan_of, token_in}
 use Rattle.rhd_session.specs.Decisions.{asks_of}
 use Rattle.rhd_laws.specs.FirstAsks.{IsAnsweredFirst, IsUnanswered}
-use Rattle.rhd_laws.specs.Matches.{TypesMatch, kinds_in, MatchesCall, by_type, by_number, by_kinds, IsEarlier, turn, GoesBefore, earlier_turn, more_exact, earlier_module, NoneMatches, IsFirstMatch, IsFirstBuiltin, HasBuiltin, IsAnsweredBy, by_declaration, by_builtin, all_received}
+use Rattle.rhd_laws.specs.Matches.{TypesMatch, kinds_in, MatchesCall, by_type, by_number, by_kinds, IsEarlier, rank, GoesBefore, lower_rank, more_exact, earlier_module, NoneMatches, IsFirstMatch, IsFirstBuiltin, HasBuiltin, IsAnsweredBy, by_declaration, by_builtin, all_received}
 use Rattle.rhd_laws.proofs.FirstAnswered.{first_is-first, first_none, none_first}
 use Rattle.rhd_laws.proofs.PatternOrder.{or_parts, match_to, is_before, in_order, Ordered, first_goes, second_goes, same_types}
-use Rattle.rhd_laws.proofs.PickPlaces.{modules_ordered, same_declared, same_shown}
+use Rattle.rhd_laws.proofs.PickPlaces.{modules_ordered, same_declared, sources_same, same_shown}
 use Rattle.rhd_laws.proofs.PickCalls.{NoTyped, NoScript, native_look, none_match, asked_by, true_false, plain_method, ref_method, one_method, typed_native, script_native, same_natives}
 
 -- Where no ask is found.
@@ -71,21 +71,23 @@ unbuilt e call none pick r = let q : None ≡ Some pick = sym none ∙ built e c
 none_natives : (e : EngineLists) (f : Frame) (call : CallRequest) → NoTyped e f call → NoScript e f call → option_or (native_look e f call) None ≡ None → NoneMatches e f call × NoBuiltin e call
 none_natives e f call untyped unscripted h =
     let p = or_parts (native_look e f call) None h in
-    let q = or_parts (first_of (native_found e f (plan_of call).name) (patterns_to 16 (kinds_in call))) (builtin e (token_in (plan_of call).search) (kinds_in call)) p.0 in
+    let q = or_parts (first_of (native_found e f.lib f.imports (plan_of call).name) (patterns_to 16 (kinds_in call))) (builtin e (token_in (plan_of call).search) (kinds_in call)) p.0 in
     (none_match e f call untyped unscripted q.0, unbuilt e call q.1)
 
-none_scripts : (e : EngineLists) (f : Frame) (call : CallRequest) → NoTyped e f call → option_or (found e f (Script None (plan_of call).name (params_of (plan_of call).shape))) (option_or (native_look e f call) None) ≡ None → NoneMatches e f call × NoBuiltin e call
+none_scripts : (e : EngineLists) (f : Frame) (call : CallRequest) → NoTyped e f call
+    → option_or (found e f.lib f.imports (Script None (plan_of call).name (params_of (plan_of call).shape))) (option_or (native_look e f call) None) ≡ None → NoneMatches e f call × NoBuiltin e call
 none_scripts e f call untyped h =
-    let p = or_parts (found e f (Script None (plan_of call).name (params_of (plan_of call).shape))) (option_or (native_look e f call) None) h in
+    let p = or_parts (found e f.lib f.imports (Script None (plan_of call).name (params_of (plan_of call).shape))) (option_or (native_look e f call) None) h in
     none_natives e f call untyped (λ _. p.0) p.1
 
 none_typed : (e : EngineLists) (f : Frame) (call : CallRequest) (target : Tree) (args : List Tree) → (plan_of call).shape ≡ Method target args
-    → option_or (found e f (Typed None (plan_of call).name (length args) (display target))) (option_or (found e f (Script None (plan_of call).name (params_of (plan_of call).shape))) (option_or (native_look e f call) None)) ≡ None → NoneMatches e f call × NoBuiltin e call
+    → option_or (found e f.lib f.imports (Typed None (plan_of call).name (length args) (display e target))) (option_or (found e f.lib f.imports (Script None (plan_of call).name (params_of (plan_of call).shape))) (option_or (native_look e f call) None)) ≡ None
+    → NoneMatches e f call × NoBuiltin e call
 none_typed e f call target args shape h =
-    let p = or_parts (found e f (Typed None (plan_of call).name (length args) (display target))) (option_or (found e f (Script None (plan_of call).name (params_of (plan_of call).shape))) (option_or (native_look e f call) None)) h in
+    let p = or_parts (found e f.lib f.imports (Typed None (plan_of call).name (length args) (display e target))) (option_or (found e f.lib f.imports (Script None (plan_of call).name (params_of (plan_of call).shape))) (option_or (native_look e f call) None)) h in
     none_scripts e f call (λ other others _ same. one_method e f (plan_of call).name target other args others p.0 (sym shape ∙ same)) p.1
 
-pub asked_in_vain : (e : EngineLists) (f : Frame) (call : CallRequest) → first_of (looked e f) (asks_of call) ≡ None → NoneMatches e f call × NoBuiltin e call
+pub asked_in_vain : (e : EngineLists) (f : Frame) (call : CallRequest) → first_of (looked e f.lib f.imports) (asks_of e call) ≡ None → NoneMatches e f call × NoBuiltin e call
 asked_in_vain e f (Named name token true shape want pos) h = none_natives e f (Named name token true shape want pos) (λ target args allowed _. absurd (true_false allowed)) (λ allowed. absurd (true_false allowed)) h
 asked_in_vain e f (Named name token false (Plain args) want pos) h = none_scripts e f (Named name token false (Plain args) want pos) (λ target others _ same. absurd (plain_method args target others same)) h
 asked_in_vain e f (Named name token false (ByRef first args) want pos) h = none_scripts e f (Named name token false (ByRef first args) want pos) (λ target others _ same. absurd (ref_method first args target others same)) h
@@ -98,39 +100,40 @@ data KeysOrdered (kinds : List TypeTag) (key other : Key) : Type 0 where
   goes_second : ((layer behind : Layer) → GoesBefore kinds other layer key behind) → KeysOrdered kinds key other
   one_key : key ≡ other → KeysOrdered kinds key other
 
-by_turn : (kinds : List TypeTag) (key other : Key) (n m : ℕ) → turn key ≡ n → turn other ≡ m → n < m → KeysOrdered kinds key other
-by_turn kinds key other n m a b less = goes_first (λ layer behind. earlier_turn (omega (arith, a, b, less)))
+by_rank : (kinds : List TypeTag) (key other : Key) (n m : ℕ) → rank key ≡ n → rank other ≡ m → n < m → KeysOrdered kinds key other
+by_rank kinds key other n m a b less = goes_first (λ layer behind. lower_rank (omega (arith, a, b, less)))
 
-by_turn_back : (kinds : List TypeTag) (key other : Key) (n m : ℕ) → turn key ≡ n → turn other ≡ m → m < n → KeysOrdered kinds key other
-by_turn_back kinds key other n m a b less = goes_second (λ layer behind. earlier_turn (omega (arith, a, b, less)))
+by_rank_back : (kinds : List TypeTag) (key other : Key) (n m : ℕ) → rank key ≡ n → rank other ≡ m → m < n → KeysOrdered kinds key other
+by_rank_back kinds key other n m a b less = goes_second (λ layer behind. lower_rank (omega (arith, a, b, less)))
 
-same_typed : (name : Bytes) (target other : Tree) (args others : List Tree) → Method target args ≡ Method other others → Typed None name (length args) (display target) ≡ Typed None name (length others) (display other)
-same_typed name target other args others same =
+same_typed : (e : EngineLists) (name : Bytes) (target other : Tree) (args others : List Tree) → Method target args ≡ Method other others → Typed None name (length args) (display e target) ≡ Typed None name (length others) (display e other)
+same_typed e name target other args others same =
     let a : target ≡ other = cc in
     let b : args ≡ others = cc in
-    (λ i. Typed None name (length (b i)) (display (a i)))
+    (λ i. Typed None name (length (b i)) (display e (a i)))
 
 natives_ordered : (kinds : List TypeTag) (key other : Key) (name : Bytes) (types others : List TypeTag) → key ≡ Native None name types → other ≡ Native None name others → Ordered kinds types others → KeysOrdered kinds key other
 natives_ordered kinds key other name types others k o (first_goes b) = goes_first (λ layer behind. more_exact name types others k o (is_before kinds types others b))
 natives_ordered kinds key other name types others k o (second_goes b) = goes_second (λ layer behind. more_exact name others types o k (is_before kinds others types b))
 natives_ordered kinds key other name types others k o (same_types s) = one_key (k ∙ ap (Native None name) s ∙ sym o)
 
-keys_ordered : (call : CallRequest) (key other : Key) → MatchesCall call key → MatchesCall call other → KeysOrdered (kinds_in call) key other
-keys_ordered call key other (by_type x xs a s k) (by_type y ys b t o) = one_key (k ∙ same_typed (plan_of call).name x y xs ys (sym s ∙ t) ∙ sym o)
-keys_ordered call key other (by_type x xs a s k) (by_number b o) = by_turn (kinds_in call) key other 0 1 (ap turn k) (ap turn o) (omega arith)
-keys_ordered call key other (by_type x xs a s k) (by_kinds ts o m) = by_turn (kinds_in call) key other 0 2 (ap turn k) (ap turn o) (omega arith)
-keys_ordered call key other (by_number a k) (by_type y ys b t o) = by_turn_back (kinds_in call) key other 1 0 (ap turn k) (ap turn o) (omega arith)
-keys_ordered call key other (by_number a k) (by_number b o) = one_key (k ∙ sym o)
-keys_ordered call key other (by_number a k) (by_kinds ts o m) = by_turn (kinds_in call) key other 1 2 (ap turn k) (ap turn o) (omega arith)
-keys_ordered call key other (by_kinds types k n) (by_type y ys b t o) = by_turn_back (kinds_in call) key other 2 0 (ap turn k) (ap turn o) (omega arith)
-keys_ordered call key other (by_kinds types k n) (by_number b o) = by_turn_back (kinds_in call) key other 2 1 (ap turn k) (ap turn o) (omega arith)
-keys_ordered call key other (by_kinds types k n) (by_kinds ts o m) = natives_ordered (kinds_in call) key other (plan_of call).name types ts k o (in_order 16 (kinds_in call) types ts (match_to types (kinds_in call) n) (match_to ts (kinds_in call) m))
+keys_ordered : (e : EngineLists) (call : CallRequest) (key other : Key) → MatchesCall e call key → MatchesCall e call other → KeysOrdered (kinds_in call) key other
+keys_ordered e call key other (by_type x xs a s k) (by_type y ys b t o) = one_key (k ∙ same_typed e (plan_of call).name x y xs ys (sym s ∙ t) ∙ sym o)
+keys_ordered e call key other (by_type x xs a s k) (by_number b o) = by_rank (kinds_in call) key other 0 1 (ap rank k) (ap rank o) (omega arith)
+keys_ordered e call key other (by_type x xs a s k) (by_kinds ts o m) = by_rank (kinds_in call) key other 0 2 (ap rank k) (ap rank o) (omega arith)
+keys_ordered e call key other (by_number a k) (by_type y ys b t o) = by_rank_back (kinds_in call) key other 1 0 (ap rank k) (ap rank o) (omega arith)
+keys_ordered e call key other (by_number a k) (by_number b o) = one_key (k ∙ sym o)
+keys_ordered e call key other (by_number a k) (by_kinds ts o m) = by_rank (kinds_in call) key other 1 2 (ap rank k) (ap rank o) (omega arith)
+keys_ordered e call key other (by_kinds types k n) (by_type y ys b t o) = by_rank_back (kinds_in call) key other 2 0 (ap rank k) (ap rank o) (omega arith)
+keys_ordered e call key other (by_kinds types k n) (by_number b o) = by_rank_back (kinds_in call) key other 2 1 (ap rank k) (ap rank o) (omega arith)
+keys_ordered e call key other (by_kinds types k n) (by_kinds ts o m) = natives_ordered (kinds_in call) key other (plan_of call).name types ts k o (in_order 16 (kinds_in call) types ts (match_to types (kinds_in call) n) (match_to ts (kinds_in call) m))
 
 -- One pick answers a call.
 
-one_match : (e : EngineLists) (f : Frame) (call : CallRequest) (key other : Key) (pick own : Pick) → IsFirstMatch e f call key pick → IsFirstMatch e f call other own → key ≡ other → IsEarlier pick.layer own.layer ⊎ ((pick.layer ≡ own.layer) ⊎ IsEarlier own.layer pick.layer) → pick ≡ own
+one_match : (e : EngineLists) (f : Frame) (call : CallRequest) (key other : Key) (pick own : Pick) → IsFirstMatch e f call key pick → IsFirstMatch e f call other own → key ≡ other
+    → IsEarlier pick.layer own.layer ⊎ ((pick.layer ≡ own.layer) ⊎ IsEarlier own.layer pick.layer) → pick ≡ own
 one_match e f call key other pick own a b k (inl before) = absurd (b.first key pick.layer a.decl a.matches a.stands (earlier_module k before))
-one_match e f call key other pick own a b k (inr (inl same)) = same_shown pick own a.decl b.decl same a.func b.func (same_declared e f pick.layer own.layer key other a.decl b.decl same k a.stands b.stands)
+one_match e f call key other pick own a b k (inr (inl same)) = same_shown pick own a.decl b.decl same a.func b.func (a.source ∙ sources_same e f pick.layer own.layer a.stands.tree b.stands.tree same a.stands.stands b.stands.stands ∙ sym b.source) (same_declared e f pick.layer own.layer key other a.decl b.decl same k a.stands b.stands)
 one_match e f call key other pick own a b k (inr (inr before)) = absurd (a.first other own.layer b.decl b.matches b.stands (earlier_module (sym k) before))
 
 two_matches : (e : EngineLists) (f : Frame) (call : CallRequest) (key other : Key) (pick own : Pick) → IsFirstMatch e f call key pick → IsFirstMatch e f call other own → KeysOrdered (kinds_in call) key other → pick ≡ own
@@ -142,7 +145,7 @@ same_some : (a b : Pick) → ◌≡◌ {A = Option Pick} (Some a) (Some b) → a
 same_some a b e = cc
 
 pub one_answer : (e : EngineLists) (f : Frame) (call : CallRequest) (pick own : Pick) → IsAnsweredBy e f call pick → IsAnsweredBy e f call own → pick ≡ own
-one_answer e f call pick own (by_declaration key a) (by_declaration other b) = two_matches e f call key other pick own a b (keys_ordered call key other a.matches b.matches)
+one_answer e f call pick own (by_declaration key a) (by_declaration other b) = two_matches e f call key other pick own a b (keys_ordered e call key other a.matches b.matches)
 one_answer e f call pick own (by_declaration key a) (by_builtin none b) = absurd (none key pick.layer a.decl a.matches a.stands)
 one_answer e f call pick own (by_builtin none a) (by_declaration other b) = absurd (none other own.layer b.decl b.matches b.stands)
 one_answer e f call pick own (by_builtin none a) (by_builtin also b) = same_some pick own (sym (built e call pick a) ∙ built e call own b)
@@ -153,19 +156,19 @@ unanswered_not e f call pick none (by_builtin also b) = none.1 pick b
 
 pub match_first : (e : EngineLists) (f : Frame) (call : CallRequest) (pick : Pick) → IsAnsweredBy e f call pick → IsAnsweredFirst e f call pick
 match_first e f call pick a =
-    let by : (o : Option Pick) → first_of (looked e f) (asks_of call) ≡ o → IsAnsweredFirst e f call pick = elim [
+    let by : (o : Option Pick) → first_of (looked e f.lib f.imports) (asks_of e call) ≡ o → IsAnsweredFirst e f call pick = elim [
       | None ↦ (λ h. absurd (unanswered_not e f call pick (asked_in_vain e f call h) a))
-      | Some own ↦ (λ h. first_is-first (looked e f) pick (asks_of call) (h ∙ ap Some (one_answer e f call own pick (asked_by e f call own h) a)))
+      | Some own ↦ (λ h. first_is-first (looked e f.lib f.imports) pick (asks_of e call) (h ∙ ap Some (one_answer e f call own pick (asked_by e f call own h) a)))
     ]
-    in by (first_of (looked e f) (asks_of call)) refl
+    in by (first_of (looked e f.lib f.imports) (asks_of e call)) refl
 
 pub unanswered_exactly : (e : EngineLists) (f : Frame) (call : CallRequest) → IsUnanswered e f call ↔ (NoneMatches e f call × ((pick : Pick) → HasBuiltin e call pick → ⊥))
 unanswered_exactly e f call =
-    let back : NoneMatches e f call × NoBuiltin e call → (o : Option Pick) → first_of (looked e f) (asks_of call) ≡ o → IsUnanswered e f call = λ none. elim [
-      | None ↦ (λ h. first_none (looked e f) (asks_of call) h)
+    let back : NoneMatches e f call × NoBuiltin e call → (o : Option Pick) → first_of (looked e f.lib f.imports) (asks_of e call) ≡ o → IsUnanswered e f call = λ none. elim [
+      | None ↦ (λ h. first_none (looked e f.lib f.imports) (asks_of e call) h)
       | Some own ↦ (λ h. absurd (unanswered_not e f call own none (asked_by e f call own h)))
     ]
-    in (λ h. asked_in_vain e f call (none_first (looked e f) (asks_of call) h), λ none. back none (first_of (looked e f) (asks_of call)) refl)
+    in (λ h. asked_in_vain e f call (none_first (looked e f.lib f.imports) (asks_of e call) h), λ none. back none (first_of (looked e f.lib f.imports) (asks_of e call)) refl)
 
 -- What a function receives has the kinds of the arguments.
 
@@ -180,7 +183,7 @@ copied_tag (object es) = refl
 copied_tag (pointer n ts p) = refl
 copied_tag (custom n z) = refl
 
-pub same_kinds : (manner : Manner) (shape : CallShape) → map tag_of (all_received (received manner shape)) ≡ map tag_of (all_args shape)
+pub same_kinds : (convention : Convention) (shape : CallShape) → map tag_of (all_received (received convention shape)) ≡ map tag_of (all_args shape)
 same_kinds native_method (Plain []) = refl
 same_kinds native_method (Plain (a ∷ args)) = refl
 same_kinds native_method (ByRef a args) = refl
@@ -192,13 +195,14 @@ same_kinds script (Plain args) = refl
 same_kinds script (ByRef a args) = (λ i. copied_tag a.kind i ∷ map tag_of args)
 same_kinds script (Method target args) = refl
 
-received_types : (call : CallRequest) (other : Key) (name : Bytes) (types : List TypeTag) → MatchesCall call other → other ≡ Native None name types → TypesMatch types (kinds_in call)
-received_types call other name types (by_type x xs a s k) o = absurd (typed_native other (plan_of call).name name (length xs) (display x) types k o)
-received_types call other name types (by_number a k) o = absurd (script_native other (plan_of call).name name (params_of (plan_of call).shape) types k o)
-received_types call other name types (by_kinds own k m) o = subst (λ ts. TypesMatch ts (kinds_in call)) (same_natives other (plan_of call).name name own types k o) m
+received_types : (e : EngineLists) (call : CallRequest) (other : Key) (name : Bytes) (types : List TypeTag) → MatchesCall e call other → other ≡ Native None name types → TypesMatch types (kinds_in call)
+received_types e call other name types (by_type x xs a s k) o = absurd (typed_native other (plan_of call).name name (length xs) (display e x) types k o)
+received_types e call other name types (by_number a k) o = absurd (script_native other (plan_of call).name name (params_of (plan_of call).shape) types k o)
+received_types e call other name types (by_kinds own k m) o = subst (λ ts. TypesMatch ts (kinds_in call)) (same_natives other (plan_of call).name name own types k o) m
 
-pub receives : (call : CallRequest) (name : Bytes) (types : List TypeTag) (manner : Manner) → MatchesCall call (Native None name types) → TypesMatch types (map tag_of (all_received (received manner (plan_of call).shape)))
-receives call name types manner m = subst (TypesMatch types) (sym (same_kinds manner (plan_of call).shape)) (received_types call (Native None name types) name types m refl)
+pub receives : (e : EngineLists) (call : CallRequest) (name : Bytes) (types : List TypeTag) (convention : Convention) → MatchesCall e call (Native None name types)
+    → TypesMatch types (map tag_of (all_received (received convention (plan_of call).shape)))
+receives e call name types convention m = subst (TypesMatch types) (sym (same_kinds convention (plan_of call).shape)) (received_types e call (Native None name types) name types m refl)
 
 -- a call that isn't found has no ask that is found
 pub not_found_unanswered : {H B : Type 0} {o : Objects H B} {e : EngineLists} {f : Frame} {level : ℕ} {call : CallRequest} {from to : H} {end : End} → AllFail o e f level call from to end → IsUnanswered e f call

@@ -14,19 +14,19 @@ use Rattle.rhd_func.specs.declared.request.CallShape.TheVariants.{Plain, ByRef, 
 use Rattle.rhd_module.specs.declared.key.Key.{Key}
 use Rattle.rhd_module.specs.declared.key.Key.TheVariants.{Script, Typed, Native}
 use Rattle.rhd_module.specs.declared.declaration.Declaration.{Declaration}
-use Rattle.rhd_session.specs.declared.pick.Layer.{Layer}
-use Rattle.rhd_session.specs.declared.pick.Pick.{Pick}
-use Rattle.rhd_session.specs.Engine.{EngineLists, Frame}
-use Rattle.rhd_session.specs.declared.builtins.Operator.{Operator}
-use Rattle.rhd_session.specs.Display.{display}
-use Rattle.rhd_session.specs.Operators.{operator_eq, operator_eq-Decides}
-use Rattle.rhd_session.specs.Patterns.{patterns_to}
-use Rattle.rhd_session.specs.Searched.{found}
-use Rattle.rhd_session.specs.Asks.{looked, native, native_found, builtin, builtin_pick, params_of}
+use Rattle.rhd_call.specs.declared.pick.Layer.{Layer}
+use Rattle.rhd_call.specs.declared.pick.Pick.{Pick}
+use Rattle.rhd_engine.specs.Engine.{EngineLists, Frame}
+use Rattle.rhd_engine.specs.declared.builtins.Operator.{Operator}
+use Rattle.rhd_engine.specs.Display.{display}
+use Rattle.rhd_engine.specs.Operators.{operator_eq, operator_eq-Decides}
+use Rattle.rhd_dispatch.specs.Patterns.{patterns_to}
+use Rattle.rhd_dispatch.specs.Searched.{found}
+use Rattle.rhd_dispatch.specs.Asks.{looked, native, native_found, builtin, builtin_pick, params_of}
 use Rattle.rhd_session.specs.Plans.{plan_of, only_natives, token_in}
 use Rattle.rhd_session.specs.Decisions.{asks_of}
 use Rattle.rhd_laws.specs.FirstAsks.{IsAnsweredFirst}
-use Rattle.rhd_laws.specs.Matches.{TypesMatch, IsMoreExact, kinds_in, MatchesCall, by_type, by_number, by_kinds, Declares, IsEarlier, turn, GoesBefore, earlier_turn, more_exact, earlier_module, NoneMatches, IsFirstBuiltin, HasBuiltin, IsAnsweredBy, by_declaration, by_builtin, IsInFirstModule}
+use Rattle.rhd_laws.specs.Matches.{TypesMatch, IsMoreExact, kinds_in, MatchesCall, by_type, by_number, by_kinds, HasDeclaration, IsEarlier, rank, GoesBefore, lower_rank, more_exact, earlier_module, NoneMatches, IsFirstBuiltin, HasBuiltin, IsAnsweredBy, by_declaration, by_builtin, IsInFirstModule}
 use Rattle.rhd_laws.proofs.FirstAnswered.{is-first_first}
 use Rattle.rhd_laws.proofs.PatternOrder.{or_cases, or_none, none_matching, first_pattern, FirstOf, first_types, match_to, types_match, before_is}
 use Rattle.rhd_laws.proofs.PickPlaces.{found_where, is_in_first, not_found}
@@ -38,16 +38,16 @@ got x y e = cc
 
 -- no script of the object's type, and no other script
 abbrev pub NoTyped : EngineLists → Frame → CallRequest → Type 0
-NoTyped e f call = (object : Tree) (args : List Tree) → only_natives (plan_of call).search ≡ false → (plan_of call).shape ≡ Method object args → found e f (Typed None (plan_of call).name (length args) (display object)) ≡ None
+NoTyped e f call = (object : Tree) (args : List Tree) → only_natives (plan_of call).search ≡ false → (plan_of call).shape ≡ Method object args → found e f.lib f.imports (Typed None (plan_of call).name (length args) (display e object)) ≡ None
 
 abbrev pub NoScript : EngineLists → Frame → CallRequest → Type 0
-NoScript e f call = only_natives (plan_of call).search ≡ false → found e f (Script None (plan_of call).name (params_of (plan_of call).shape)) ≡ None
+NoScript e f call = only_natives (plan_of call).search ≡ false → found e f.lib f.imports (Script None (plan_of call).name (params_of (plan_of call).shape)) ≡ None
 
-undeclared : (e : EngineLists) (f : Frame) (key other : Key) (layer : Layer) (d : Declaration) → other ≡ key → found e f key ≡ None → Declares e f layer other d → ⊥
-undeclared e f key other layer d same none r = not_found e f key none layer d (subst (λ k. Declares e f layer k d) same r)
+undeclared : (e : EngineLists) (f : Frame) (key other : Key) (layer : Layer) (d : Declaration) → other ≡ key → found e f.lib f.imports key ≡ None → HasDeclaration e f layer other d → ⊥
+undeclared e f key other layer d same none r = not_found e f key none layer d (subst (λ k. HasDeclaration e f layer k d) same r)
 
-not_earlier : (e : EngineLists) (f : Frame) (key other : Key) (pick : Pick) (layer : Layer) (d : Declaration) → IsInFirstModule e f key pick → other ≡ key → Declares e f layer other d → IsEarlier layer pick.layer → ⊥
-not_earlier e f key other pick layer d r same it before = r.first layer d (subst (λ k. Declares e f layer k d) same it) before
+not_earlier : (e : EngineLists) (f : Frame) (key other : Key) (pick : Pick) (layer : Layer) (d : Declaration) → IsInFirstModule e f key pick → other ≡ key → HasDeclaration e f layer other d → IsEarlier layer pick.layer → ⊥
+not_earlier e f key other pick layer d r same it before = r.first layer d (subst (λ k. HasDeclaration e f layer k d) same it) before
 
 pub typed_native : (other : Key) (name own : Bytes) (params : ℕ) (this_type : Bytes) (types : List TypeTag) → other ≡ Typed None name params this_type → other ≡ Native None own types → ⊥
 typed_native other name own params this_type types a b = let q : Typed None name params this_type ≡ Native None own types = sym a ∙ b in absurd cc
@@ -58,48 +58,50 @@ script_native other name own params types a b = let q : Script None name params 
 pub same_natives : (other : Key) (name own : Bytes) (types others : List TypeTag) → other ≡ Native None name types → other ≡ Native None own others → types ≡ others
 same_natives other name own types others a b = let q : Native None name types ≡ Native None own others = sym a ∙ b in cc
 
-typed_before : (e : EngineLists) (f : Frame) (call : CallRequest) (object : Tree) (args : List Tree) (pick : Pick) → IsInFirstModule e f (Typed None (plan_of call).name (length args) (display object)) pick
-    → (other : Key) (layer : Layer) (d : Declaration) → MatchesCall call other → Declares e f layer other d → GoesBefore (kinds_in call) other layer (Typed None (plan_of call).name (length args) (display object)) pick.layer → ⊥
-typed_before e f call object args pick r other layer d m it (earlier_turn less) = omega (arith, less)
-typed_before e f call object args pick r other layer d m it (more_exact name types others k o x) = typed_native (Typed None (plan_of call).name (length args) (display object)) (plan_of call).name name (length args) (display object) others refl o
-typed_before e f call object args pick r other layer d m it (earlier_module same before) = not_earlier e f (Typed None (plan_of call).name (length args) (display object)) other pick layer d r same it before
+typed_before : (e : EngineLists) (f : Frame) (call : CallRequest) (object : Tree) (args : List Tree) (pick : Pick) → IsInFirstModule e f (Typed None (plan_of call).name (length args) (display e object)) pick
+    → (other : Key) (layer : Layer) (d : Declaration) → MatchesCall e call other → HasDeclaration e f layer other d → GoesBefore (kinds_in call) other layer (Typed None (plan_of call).name (length args) (display e object)) pick.layer → ⊥
+typed_before e f call object args pick r other layer d m it (lower_rank less) = omega (arith, less)
+typed_before e f call object args pick r other layer d m it (more_exact name types others k o x) = typed_native (Typed None (plan_of call).name (length args) (display e object)) (plan_of call).name name (length args) (display e object) others refl o
+typed_before e f call object args pick r other layer d m it (earlier_module same before) = not_earlier e f (Typed None (plan_of call).name (length args) (display e object)) other pick layer d r same it before
 
 typed_first : (e : EngineLists) (f : Frame) (call : CallRequest) (object : Tree) (args : List Tree) (pick : Pick) → only_natives (plan_of call).search ≡ false → (plan_of call).shape ≡ Method object args
-    → found e f (Typed None (plan_of call).name (length args) (display object)) ≡ Some pick → IsAnsweredBy e f call pick
+    → found e f.lib f.imports (Typed None (plan_of call).name (length args) (display e object)) ≡ Some pick → IsAnsweredBy e f call pick
 typed_first e f call object args pick allowed shape h =
-    let key : Key = Typed None (plan_of call).name (length args) (display object) in
+    let key : Key = Typed None (plan_of call).name (length args) (display e object) in
     let r : IsInFirstModule e f key pick = is_in_first e f key pick (found_where e f key pick h) in
-    by_declaration key (record { matches = by_type object args allowed shape refl; decl = r.decl; stands = r.stands; func = r.func; first = typed_before e f call object args pick r })
+    by_declaration key (record { matches = by_type object args allowed shape refl; decl = r.decl; stands = r.stands; func = r.func; source = r.source; first = typed_before e f call object args pick r })
 
-script_turn : (e : EngineLists) (f : Frame) (call : CallRequest) (other : Key) (layer : Layer) (d : Declaration) → NoTyped e f call → MatchesCall call other → Declares e f layer other d → turn other < 1 → ⊥
-script_turn e f call other layer d untyped (by_type object args allowed shape k) it less = undeclared e f (Typed None (plan_of call).name (length args) (display object)) other layer d k (untyped object args allowed shape) it
-script_turn e f call other layer d untyped (by_number allowed k) it less = let t : turn other ≡ 1 = ap turn k in omega (arith, less, t)
-script_turn e f call other layer d untyped (by_kinds types k m) it less = let t : turn other ≡ 2 = ap turn k in omega (arith, less, t)
+script_rank : (e : EngineLists) (f : Frame) (call : CallRequest) (other : Key) (layer : Layer) (d : Declaration) → NoTyped e f call → MatchesCall e call other → HasDeclaration e f layer other d → rank other < 1 → ⊥
+script_rank e f call other layer d untyped (by_type object args allowed shape k) it less = undeclared e f (Typed None (plan_of call).name (length args) (display e object)) other layer d k (untyped object args allowed shape) it
+script_rank e f call other layer d untyped (by_number allowed k) it less = let t : rank other ≡ 1 = ap rank k in omega (arith, less, t)
+script_rank e f call other layer d untyped (by_kinds types k m) it less = let t : rank other ≡ 2 = ap rank k in omega (arith, less, t)
 
 script_before : (e : EngineLists) (f : Frame) (call : CallRequest) (pick : Pick) → NoTyped e f call → IsInFirstModule e f (Script None (plan_of call).name (params_of (plan_of call).shape)) pick
-    → (other : Key) (layer : Layer) (d : Declaration) → MatchesCall call other → Declares e f layer other d → GoesBefore (kinds_in call) other layer (Script None (plan_of call).name (params_of (plan_of call).shape)) pick.layer → ⊥
-script_before e f call pick untyped r other layer d m it (earlier_turn less) = script_turn e f call other layer d untyped m it less
+    → (other : Key) (layer : Layer) (d : Declaration) → MatchesCall e call other → HasDeclaration e f layer other d → GoesBefore (kinds_in call) other layer (Script None (plan_of call).name (params_of (plan_of call).shape)) pick.layer → ⊥
+script_before e f call pick untyped r other layer d m it (lower_rank less) = script_rank e f call other layer d untyped m it less
 script_before e f call pick untyped r other layer d m it (more_exact name types others k o x) = script_native (Script None (plan_of call).name (params_of (plan_of call).shape)) (plan_of call).name name (params_of (plan_of call).shape) others refl o
 script_before e f call pick untyped r other layer d m it (earlier_module same before) = not_earlier e f (Script None (plan_of call).name (params_of (plan_of call).shape)) other pick layer d r same it before
 
-script_first : (e : EngineLists) (f : Frame) (call : CallRequest) (pick : Pick) → NoTyped e f call → only_natives (plan_of call).search ≡ false → found e f (Script None (plan_of call).name (params_of (plan_of call).shape)) ≡ Some pick → IsAnsweredBy e f call pick
+script_first : (e : EngineLists) (f : Frame) (call : CallRequest) (pick : Pick) → NoTyped e f call → only_natives (plan_of call).search ≡ false
+    → found e f.lib f.imports (Script None (plan_of call).name (params_of (plan_of call).shape)) ≡ Some pick → IsAnsweredBy e f call pick
 script_first e f call pick untyped allowed h =
     let key : Key = Script None (plan_of call).name (params_of (plan_of call).shape) in
     let r : IsInFirstModule e f key pick = is_in_first e f key pick (found_where e f key pick h) in
-    by_declaration key (record { matches = by_number allowed refl; decl = r.decl; stands = r.stands; func = r.func; first = script_before e f call pick untyped r })
+    by_declaration key (record { matches = by_number allowed refl; decl = r.decl; stands = r.stands; func = r.func; source = r.source; first = script_before e f call pick untyped r })
 
 -- no native with more exact types that match
 abbrev pub NoneBefore : EngineLists → Frame → CallRequest → List TypeTag → Type 0
-NoneBefore e f call types = (others : List TypeTag) → TypesMatch others (kinds_in call) → IsMoreExact (kinds_in call) others types → found e f (Native None (plan_of call).name others) ≡ None
+NoneBefore e f call types = (others : List TypeTag) → TypesMatch others (kinds_in call) → IsMoreExact (kinds_in call) others types → found e f.lib f.imports (Native None (plan_of call).name others) ≡ None
 
-native_turn : (e : EngineLists) (f : Frame) (call : CallRequest) (other : Key) (layer : Layer) (d : Declaration) → NoTyped e f call → NoScript e f call → MatchesCall call other → Declares e f layer other d → turn other < 2 → ⊥
-native_turn e f call other layer d untyped unscripted (by_type object args allowed shape k) it less = undeclared e f (Typed None (plan_of call).name (length args) (display object)) other layer d k (untyped object args allowed shape) it
-native_turn e f call other layer d untyped unscripted (by_number allowed k) it less = undeclared e f (Script None (plan_of call).name (params_of (plan_of call).shape)) other layer d k (unscripted allowed) it
-native_turn e f call other layer d untyped unscripted (by_kinds types k m) it less = let t : turn other ≡ 2 = ap turn k in omega (arith, less, t)
+native_rank : (e : EngineLists) (f : Frame) (call : CallRequest) (other : Key) (layer : Layer) (d : Declaration) → NoTyped e f call → NoScript e f call → MatchesCall e call other → HasDeclaration e f layer other d → rank other < 2 → ⊥
+native_rank e f call other layer d untyped unscripted (by_type object args allowed shape k) it less = undeclared e f (Typed None (plan_of call).name (length args) (display e object)) other layer d k (untyped object args allowed shape) it
+native_rank e f call other layer d untyped unscripted (by_number allowed k) it less = undeclared e f (Script None (plan_of call).name (params_of (plan_of call).shape)) other layer d k (unscripted allowed) it
+native_rank e f call other layer d untyped unscripted (by_kinds types k m) it less = let t : rank other ≡ 2 = ap rank k in omega (arith, less, t)
 
-native_exact : (e : EngineLists) (f : Frame) (call : CallRequest) (types : List TypeTag) (other : Key) (layer : Layer) (d : Declaration) (name : Bytes) (exact others : List TypeTag) → NoneBefore e f call types → MatchesCall call other → Declares e f layer other d
+native_exact : (e : EngineLists) (f : Frame) (call : CallRequest) (types : List TypeTag) (other : Key) (layer : Layer) (d : Declaration) (name : Bytes) (exact others : List TypeTag)
+    → NoneBefore e f call types → MatchesCall e call other → HasDeclaration e f layer other d
     → other ≡ Native None name exact → Native None (plan_of call).name types ≡ Native None name others → IsMoreExact (kinds_in call) exact others → ⊥
-native_exact e f call types other layer d name exact others none (by_type object args allowed shape k) it p q x = typed_native other (plan_of call).name name (length args) (display object) exact k p
+native_exact e f call types other layer d name exact others none (by_type object args allowed shape k) it p q x = typed_native other (plan_of call).name name (length args) (display e object) exact k p
 native_exact e f call types other layer d name exact others none (by_number allowed k) it p q x = script_native other (plan_of call).name name (params_of (plan_of call).shape) exact k p
 native_exact e f call types other layer d name exact others none (by_kinds own k m) it p q x =
     let a : exact ≡ own = same_natives other name (plan_of call).name exact own p k in
@@ -107,12 +109,12 @@ native_exact e f call types other layer d name exact others none (by_kinds own k
     undeclared e f (Native None (plan_of call).name own) other layer d k (none own m (subst (λ ts. IsMoreExact (kinds_in call) own ts) b (subst (λ ts. IsMoreExact (kinds_in call) ts others) a x))) it
 
 native_before : (e : EngineLists) (f : Frame) (call : CallRequest) (pick : Pick) (types : List TypeTag) → NoTyped e f call → NoScript e f call → NoneBefore e f call types → IsInFirstModule e f (Native None (plan_of call).name types) pick
-    → (other : Key) (layer : Layer) (d : Declaration) → MatchesCall call other → Declares e f layer other d → GoesBefore (kinds_in call) other layer (Native None (plan_of call).name types) pick.layer → ⊥
-native_before e f call pick types untyped unscripted none r other layer d m it (earlier_turn less) = native_turn e f call other layer d untyped unscripted m it less
+    → (other : Key) (layer : Layer) (d : Declaration) → MatchesCall e call other → HasDeclaration e f layer other d → GoesBefore (kinds_in call) other layer (Native None (plan_of call).name types) pick.layer → ⊥
+native_before e f call pick types untyped unscripted none r other layer d m it (lower_rank less) = native_rank e f call other layer d untyped unscripted m it less
 native_before e f call pick types untyped unscripted none r other layer d m it (more_exact name exact others k o x) = native_exact e f call types other layer d name exact others none m it k o x
 native_before e f call pick types untyped unscripted none r other layer d m it (earlier_module same before) = not_earlier e f (Native None (plan_of call).name types) other pick layer d r same it before
 
-native_first : (e : EngineLists) (f : Frame) (call : CallRequest) (pick : Pick) → NoTyped e f call → NoScript e f call → FirstOf (native_found e f (plan_of call).name) 16 (kinds_in call) pick → IsAnsweredBy e f call pick
+native_first : (e : EngineLists) (f : Frame) (call : CallRequest) (pick : Pick) → NoTyped e f call → NoScript e f call → FirstOf (native_found e f.lib f.imports (plan_of call).name) 16 (kinds_in call) pick → IsAnsweredBy e f call pick
 native_first e f call pick untyped unscripted (first_types types m h none) =
     let key : Key = Native None (plan_of call).name types in
     let own : TypesMatch types (kinds_in call) = types_match types (kinds_in call) m in
@@ -122,14 +124,15 @@ native_first e f call pick untyped unscripted (first_types types m h none) =
       decl = r.decl;
       stands = r.stands;
       func = r.func;
+      source = r.source;
       first = native_before e f call pick types untyped unscripted (λ others o x. none others (match_to others (kinds_in call) o) (before_is (kinds_in call) others types o.as_many own.as_many x)) r;
     })
 
-pub none_match : (e : EngineLists) (f : Frame) (call : CallRequest) → NoTyped e f call → NoScript e f call → first_of (native_found e f (plan_of call).name) (patterns_to 16 (kinds_in call)) ≡ None → NoneMatches e f call
-none_match e f call untyped unscripted none key layer d (by_type object args allowed shape k) it = undeclared e f (Typed None (plan_of call).name (length args) (display object)) key layer d k (untyped object args allowed shape) it
+pub none_match : (e : EngineLists) (f : Frame) (call : CallRequest) → NoTyped e f call → NoScript e f call → first_of (native_found e f.lib f.imports (plan_of call).name) (patterns_to 16 (kinds_in call)) ≡ None → NoneMatches e f call
+none_match e f call untyped unscripted none key layer d (by_type object args allowed shape k) it = undeclared e f (Typed None (plan_of call).name (length args) (display e object)) key layer d k (untyped object args allowed shape) it
 none_match e f call untyped unscripted none key layer d (by_number allowed k) it = undeclared e f (Script None (plan_of call).name (params_of (plan_of call).shape)) key layer d k (unscripted allowed) it
 none_match e f call untyped unscripted none key layer d (by_kinds types k m) it =
-    undeclared e f (Native None (plan_of call).name types) key layer d k (none_matching (native_found e f (plan_of call).name) 16 (kinds_in call) types none (match_to types (kinds_in call) m)) it
+    undeclared e f (Native None (plan_of call).name types) key layer d k (none_matching (native_found e f.lib f.imports (plan_of call).name) 16 (kinds_in call) types none (match_to types (kinds_in call) m)) it
 
 -- A built-in of the table.
 
@@ -160,7 +163,8 @@ listed e call pick token left right None t k is h = absurd cc
 listed e call pick token left right (Some id) t k is h =
     record { token = token; asked = t; left = left; right = right; two = k; id = id; listed = listed_first (record { token = token; left = left; right = right }) id e.builtins is; shown = sym (got (builtin_pick e token id) pick h) }
 
-pub has_builtin : (e : EngineLists) (call : CallRequest) (pick : Pick) (token : Option OpToken) (kinds : List TypeTag) → token_in (plan_of call).search ≡ token → kinds_in call ≡ kinds → builtin e token kinds ≡ Some pick → HasBuiltin e call pick
+pub has_builtin : (e : EngineLists) (call : CallRequest) (pick : Pick) (token : Option OpToken) (kinds : List TypeTag) → token_in (plan_of call).search ≡ token → kinds_in call ≡ kinds
+    → builtin e token kinds ≡ Some pick → HasBuiltin e call pick
 has_builtin e call pick None kinds t k h = absurd cc
 has_builtin e call pick (Some token) [] t k h = absurd cc
 has_builtin e call pick (Some token) (left ∷ []) t k h = absurd cc
@@ -170,34 +174,36 @@ has_builtin e call pick (Some token) (left ∷ right ∷ more ∷ rest) t k h = 
 -- The asks of a call.
 
 abbrev pub native_look : EngineLists → Frame → CallRequest → Option Pick
-native_look e f call = looked e f (native (plan_of call).name (kinds_in call) (token_in (plan_of call).search))
+native_look e f call = looked e f.lib f.imports (native (plan_of call).name (kinds_in call) (token_in (plan_of call).search))
 
 from_natives : (e : EngineLists) (f : Frame) (call : CallRequest) (pick : Pick) → NoTyped e f call → NoScript e f call → option_or (native_look e f call) None ≡ Some pick → IsAnsweredBy e f call pick
 from_natives e f call pick untyped unscripted h =
-    let by : (first_of (native_found e f (plan_of call).name) (patterns_to 16 (kinds_in call)) ≡ Some pick) ⊎ ((first_of (native_found e f (plan_of call).name) (patterns_to 16 (kinds_in call)) ≡ None) × (builtin e (token_in (plan_of call).search) (kinds_in call) ≡ Some pick)) → IsAnsweredBy e f call pick = elim [
-      | inl q ↦ native_first e f call pick untyped unscripted (first_pattern (native_found e f (plan_of call).name) 16 (kinds_in call) pick q)
+    let by : (first_of (native_found e f.lib f.imports (plan_of call).name) (patterns_to 16 (kinds_in call)) ≡ Some pick) ⊎ ((first_of (native_found e f.lib f.imports (plan_of call).name) (patterns_to 16 (kinds_in call)) ≡ None) × (builtin e (token_in (plan_of call).search) (kinds_in call) ≡ Some pick)) → IsAnsweredBy e f call pick = elim [
+      | inl q ↦ native_first e f call pick untyped unscripted (first_pattern (native_found e f.lib f.imports (plan_of call).name) 16 (kinds_in call) pick q)
       | inr q ↦ by_builtin (none_match e f call untyped unscripted q.0) (has_builtin e call pick (token_in (plan_of call).search) (kinds_in call) refl refl q.1)
     ]
-    in by (or_cases (first_of (native_found e f (plan_of call).name) (patterns_to 16 (kinds_in call))) (builtin e (token_in (plan_of call).search) (kinds_in call)) pick (sym (or_none (native_look e f call)) ∙ h))
+    in by (or_cases (first_of (native_found e f.lib f.imports (plan_of call).name) (patterns_to 16 (kinds_in call))) (builtin e (token_in (plan_of call).search) (kinds_in call)) pick (sym (or_none (native_look e f call)) ∙ h))
 
 from_scripts : (e : EngineLists) (f : Frame) (call : CallRequest) (pick : Pick) → NoTyped e f call → only_natives (plan_of call).search ≡ false
-    → option_or (found e f (Script None (plan_of call).name (params_of (plan_of call).shape))) (option_or (native_look e f call) None) ≡ Some pick → IsAnsweredBy e f call pick
+    → option_or (found e f.lib f.imports (Script None (plan_of call).name (params_of (plan_of call).shape))) (option_or (native_look e f call) None) ≡ Some pick → IsAnsweredBy e f call pick
 from_scripts e f call pick untyped allowed h =
-    let script : Option Pick = found e f (Script None (plan_of call).name (params_of (plan_of call).shape)) in
+    let script : Option Pick = found e f.lib f.imports (Script None (plan_of call).name (params_of (plan_of call).shape)) in
     let by : (script ≡ Some pick) ⊎ ((script ≡ None) × (option_or (native_look e f call) None ≡ Some pick)) → IsAnsweredBy e f call pick = elim [ inl q ↦ script_first e f call pick untyped allowed q | inr q ↦ from_natives e f call pick untyped (λ _. q.0) q.1 ]
     in by (or_cases script (option_or (native_look e f call) None) pick h)
 
-pub one_method : (e : EngineLists) (f : Frame) (name : Bytes) (object other : Tree) (args others : List Tree) → found e f (Typed None name (length args) (display object)) ≡ None → Method object args ≡ Method other others → found e f (Typed None name (length others) (display other)) ≡ None
+pub one_method : (e : EngineLists) (f : Frame) (name : Bytes) (object other : Tree) (args others : List Tree) → found e f.lib f.imports (Typed None name (length args) (display e object)) ≡ None
+    → Method object args ≡ Method other others → found e f.lib f.imports (Typed None name (length others) (display e other)) ≡ None
 one_method e f name object other args others none same =
     let a : object ≡ other = cc in
     let b : args ≡ others = cc in
-    (λ i. found e f (Typed None name (length (sym b i)) (display (sym a i)))) ∙ none
+    (λ i. found e f.lib f.imports (Typed None name (length (sym b i)) (display e (sym a i)))) ∙ none
 
 from_typed : (e : EngineLists) (f : Frame) (call : CallRequest) (object : Tree) (args : List Tree) (pick : Pick) → only_natives (plan_of call).search ≡ false → (plan_of call).shape ≡ Method object args
-    → option_or (found e f (Typed None (plan_of call).name (length args) (display object))) (option_or (found e f (Script None (plan_of call).name (params_of (plan_of call).shape))) (option_or (native_look e f call) None)) ≡ Some pick → IsAnsweredBy e f call pick
+    → option_or (found e f.lib f.imports (Typed None (plan_of call).name (length args) (display e object))) (option_or (found e f.lib f.imports (Script None (plan_of call).name (params_of (plan_of call).shape))) (option_or (native_look e f call) None)) ≡ Some pick
+    → IsAnsweredBy e f call pick
 from_typed e f call object args pick allowed shape h =
-    let typed : Option Pick = found e f (Typed None (plan_of call).name (length args) (display object)) in
-    let rest : Option Pick = option_or (found e f (Script None (plan_of call).name (params_of (plan_of call).shape))) (option_or (native_look e f call) None) in
+    let typed : Option Pick = found e f.lib f.imports (Typed None (plan_of call).name (length args) (display e object)) in
+    let rest : Option Pick = option_or (found e f.lib f.imports (Script None (plan_of call).name (params_of (plan_of call).shape))) (option_or (native_look e f call) None) in
     let by : (typed ≡ Some pick) ⊎ ((typed ≡ None) × (rest ≡ Some pick)) → IsAnsweredBy e f call pick = elim [
       | inl q ↦ typed_first e f call object args pick allowed shape q
       | inr q ↦ from_scripts e f call pick (λ other others _ same. one_method e f (plan_of call).name object other args others q.0 (sym shape ∙ same)) allowed q.1
@@ -213,11 +219,11 @@ plain_method args object others h = absurd cc
 pub ref_method : (first : Tree) (args : List Tree) (object : Tree) (others : List Tree) → ByRef first args ≡ Method object others → ⊥
 ref_method first args object others h = absurd cc
 
-pub asked_by : (e : EngineLists) (f : Frame) (call : CallRequest) (pick : Pick) → first_of (looked e f) (asks_of call) ≡ Some pick → IsAnsweredBy e f call pick
+pub asked_by : (e : EngineLists) (f : Frame) (call : CallRequest) (pick : Pick) → first_of (looked e f.lib f.imports) (asks_of e call) ≡ Some pick → IsAnsweredBy e f call pick
 asked_by e f (Named name token true shape want pos) pick h = from_natives e f (Named name token true shape want pos) pick (λ object args allowed _. absurd (true_false allowed)) (λ allowed. absurd (true_false allowed)) h
 asked_by e f (Named name token false (Plain args) want pos) pick h = from_scripts e f (Named name token false (Plain args) want pos) pick (λ object others _ same. absurd (plain_method args object others same)) refl h
 asked_by e f (Named name token false (ByRef first args) want pos) pick h = from_scripts e f (Named name token false (ByRef first args) want pos) pick (λ object others _ same. absurd (ref_method first args object others same)) refl h
 asked_by e f (Named name token false (Method object args) want pos) pick h = from_typed e f (Named name token false (Method object args) want pos) object args pick refl refl h
 
 pub first_match : (e : EngineLists) (f : Frame) (call : CallRequest) (pick : Pick) → IsAnsweredFirst e f call pick → IsAnsweredBy e f call pick
-first_match e f call pick h = asked_by e f call pick (is-first_first (looked e f) pick (asks_of call) h)
+first_match e f call pick h = asked_by e f call pick (is-first_first (looked e f.lib f.imports) pick (asks_of e call) h)

@@ -10,13 +10,14 @@ use Rattle.rhd_value.specs.Firsts.{where_holds}
 use Rattle.rhd_value.specs.declared.fault.EvalAltResult.{EvalAltResult}
 use Rattle.rhd_value.specs.declared.fault.EvalAltResult.TheVariants.{ErrorMismatchOutputType}
 use Rattle.rhd_func.specs.Funcs.{is_script}
-use Rattle.rhd_session.specs.declared.limits.Printers.{Printers}
-use Rattle.rhd_session.specs.declared.pick.Layer.{Layer}
-use Rattle.rhd_session.specs.declared.pick.Layer.TheVariants.{Library, Global, Builtin}
-use Rattle.rhd_session.specs.declared.pick.Pick.{Pick}
-use Rattle.rhd_session.specs.Display.{display}
+use Rattle.rhd_engine.specs.declared.limits.Printers.{Printers}
+use Rattle.rhd_call.specs.declared.pick.Layer.{Layer}
+use Rattle.rhd_call.specs.declared.pick.Layer.TheVariants.{Library, Global, Builtin}
+use Rattle.rhd_call.specs.declared.pick.Pick.{Pick}
+use Rattle.rhd_engine.specs.Engine.{EngineLists}
+use Rattle.rhd_engine.specs.Display.{display}
 use Rattle.rhd_session.specs.Plans.{Plan}
-use Rattle.rhd_session.specs.Printed.{is_builtin, printer, no_text, printed_text, said}
+use Rattle.rhd_session.specs.Printed.{is_builtin, printer, no_text, printed_text, answer_after_printing}
 use Rattle.rhd_laws.specs.Prints.{Prints, by_print, by_debug, IsPrintable, Makes, unit_for_it, itself}
 
 no_builtin : (layer : Layer) → is_builtin layer ≡ false → layer ≡ Builtin → ⊥
@@ -31,89 +32,92 @@ other_layer Builtin h = absurd (h refl)
 abbrev tested : Printers → Bool → Bool → Bool → Bool → Option Bool
 tested printers script builtin print debug = if script || builtin then None else if print then Some printers.print else if debug then Some printers.debug else None
 
-prints_by : (printers : Printers) (plan : Plan) (pick : Pick) (set script builtin print debug : Bool) → is_script pick.func ≡ script → is_builtin pick.layer ≡ builtin → text_eq plan.name (codes "print") ≡ print → text_eq plan.name (codes "debug") ≡ debug
-    → tested printers script builtin print debug ≡ Some set → Prints printers plan pick set
-prints_by printers plan pick set true builtin print debug s b p d h = absurd cc
-prints_by printers plan pick set false true print debug s b p d h = absurd cc
-prints_by printers plan pick set false false true debug s b p d h = by_print (s, no_builtin pick.layer b) ((bytes_eq-Decides plan.name (codes "print")).0 p) cc
-prints_by printers plan pick set false false false true s b p d h = by_debug (s, no_builtin pick.layer b) ((bytes_eq-Decides plan.name (codes "debug")).0 d) cc
-prints_by printers plan pick set false false false false s b p d h = absurd cc
+prints_by : (e : EngineLists) (plan : Plan) (pick : Pick) (set script builtin print debug : Bool) → is_script pick.func ≡ script → is_builtin pick.layer ≡ builtin
+    → text_eq plan.name (codes "print") ≡ print → text_eq plan.name (codes "debug") ≡ debug
+    → tested e.printers script builtin print debug ≡ Some set → Prints e.printers plan pick set
+prints_by e plan pick set true builtin print debug s b p d h = absurd cc
+prints_by e plan pick set false true print debug s b p d h = absurd cc
+prints_by e plan pick set false false true debug s b p d h = by_print (s, no_builtin pick.layer b) ((bytes_eq-Decides plan.name (codes "print")).0 p) cc
+prints_by e plan pick set false false false true s b p d h = by_debug (s, no_builtin pick.layer b) ((bytes_eq-Decides plan.name (codes "debug")).0 d) cc
+prints_by e plan pick set false false false false s b p d h = absurd cc
 
 -- a call has a printer exactly where it is one of the native `print` or `debug`
-pub printer_prints : (printers : Printers) (plan : Plan) (pick : Pick) (set : Bool) → printer printers plan pick ≡ Some set → Prints printers plan pick set
-printer_prints printers plan pick set h =
-    prints_by printers plan pick set (is_script pick.func) (is_builtin pick.layer) (text_eq plan.name (codes "print")) (text_eq plan.name (codes "debug")) refl refl refl refl h
+pub printer_prints : (e : EngineLists) (plan : Plan) (pick : Pick) (set : Bool) → printer e.printers plan pick ≡ Some set → Prints e.printers plan pick set
+printer_prints e plan pick set h =
+    prints_by e plan pick set (is_script pick.func) (is_builtin pick.layer) (text_eq plan.name (codes "print")) (text_eq plan.name (codes "debug")) refl refl refl refl h
 
-pub prints_printer : (printers : Printers) (plan : Plan) (pick : Pick) (set : Bool) → Prints printers plan pick set → printer printers plan pick ≡ Some set
-prints_printer printers plan pick set (by_print native name is) =
-    (λ i. tested printers (native.0 i) (other_layer pick.layer native.1 i) ((bytes_eq-Decides plan.name (codes "print")).1 name i) (text_eq plan.name (codes "debug"))) ∙ ap Some is
-prints_printer printers plan pick set (by_debug native name is) =
-    (λ i. tested printers (native.0 i) (other_layer pick.layer native.1 i) (text_eq (name i) (codes "print")) ((bytes_eq-Decides plan.name (codes "debug")).1 name i)) ∙ ap Some is
+pub prints_printer : (e : EngineLists) (plan : Plan) (pick : Pick) (set : Bool) → Prints e.printers plan pick set → printer e.printers plan pick ≡ Some set
+prints_printer e plan pick set (by_print native name is) =
+    (λ i. tested e.printers (native.0 i) (other_layer pick.layer native.1 i) ((bytes_eq-Decides plan.name (codes "print")).1 name i) (text_eq plan.name (codes "debug"))) ∙ ap Some is
+prints_printer e plan pick set (by_debug native name is) =
+    (λ i. tested e.printers (native.0 i) (other_layer pick.layer native.1 i) (text_eq (name i) (codes "print")) ((bytes_eq-Decides plan.name (codes "debug")).1 name i)) ∙ ap Some is
 
-no_printer : (printers : Printers) (plan : Plan) (pick : Pick) (p : Option Bool) → printer printers plan pick ≡ p → ((set : Bool) → Prints printers plan pick set → ⊥) → p ≡ None
-no_printer printers plan pick None is h = refl
-no_printer printers plan pick (Some set) is h = absurd (h set (printer_prints printers plan pick set is))
+no_printer : (e : EngineLists) (plan : Plan) (pick : Pick) (p : Option Bool) → printer e.printers plan pick ≡ p → ((set : Bool) → Prints e.printers plan pick set → ⊥) → p ≡ None
+no_printer e plan pick None is h = refl
+no_printer e plan pick (Some set) is h = absurd (h set (printer_prints e plan pick set is))
 
 -- what a call makes of a value
-pub makes_said : (printers : Printers) (plan : Plan) (pick : Pick) (v : Tree) (p : Option Bool) → printer printers plan pick ≡ p → Makes printers plan pick v (said p v)
-makes_said printers plan pick v (Some set) is = unit_for_it set (printer_prints printers plan pick set is) refl
-makes_said printers plan pick v None is = itself (λ set prints. let q : None ≡ Some set = sym is ∙ prints_printer printers plan pick set prints in absurd cc) refl
+pub makes_printing : (e : EngineLists) (plan : Plan) (pick : Pick) (v : Tree) (p : Option Bool) → printer e.printers plan pick ≡ p → Makes e.printers plan pick v (answer_after_printing p v)
+makes_printing e plan pick v (Some set) is = unit_for_it set (printer_prints e plan pick set is) refl
+makes_printing e plan pick v None is = itself (λ set prints. let q : None ≡ Some set = sym is ∙ prints_printer e plan pick set prints in absurd cc) refl
 
-pub said_makes : (printers : Printers) (plan : Plan) (pick : Pick) (v made : Tree) → Makes printers plan pick v made → made ≡ said (printer printers plan pick) v
-said_makes printers plan pick v made (unit_for_it set prints is) = is ∙ ap (λ (p : Option Bool). said p v) (sym (prints_printer printers plan pick set prints))
-said_makes printers plan pick v made (itself none is) = is ∙ ap (λ (p : Option Bool). said p v) (sym (no_printer printers plan pick (printer printers plan pick) refl none))
+pub printing_makes : (e : EngineLists) (plan : Plan) (pick : Pick) (v made : Tree) → Makes e.printers plan pick v made → made ≡ answer_after_printing (printer e.printers plan pick) v
+printing_makes e plan pick v made (unit_for_it set prints is) = is ∙ ap (λ (p : Option Bool). answer_after_printing p v) (sym (prints_printer e plan pick set prints))
+printing_makes e plan pick v made (itself none is) = is ∙ ap (λ (p : Option Bool). answer_after_printing p v) (sym (no_printer e plan pick (printer e.printers plan pick) refl none))
 
 -- a value is no text for a printer exactly where that is set and takes none
-pub record Untold (printers : Printers) (plan : Plan) (pick : Pick) (v : Tree) (fault : EvalAltResult) : Type 0 where
-  pub prints : Prints printers plan pick true
+pub record TextMissing (e : EngineLists) (plan : Plan) (pick : Pick) (v : Tree) (fault : EvalAltResult) : Type 0 where
+  pub prints : Prints e.printers plan pick true
   pub none : text_in v.kind ≡ None
-  pub says : fault ≡ ErrorMismatchOutputType (codes "string") (display v) plan.pos
-  pub unprinted : printed_text (printer printers plan pick) v ≡ None
+  pub says : fault ≡ ErrorMismatchOutputType (codes "string") (display e v) plan.pos
+  pub unprinted : printed_text (printer e.printers plan pick) v ≡ None
 
-untold_by : (printers : Printers) (plan : Plan) (pick : Pick) (v : Tree) (fault : EvalAltResult) (p : Option Bool) (text : Option Bytes) → printer printers plan pick ≡ p → text_in v.kind ≡ text → no_text p plan.pos v ≡ Some fault → Untold printers plan pick v fault
-untold_by printers plan pick v fault None text is t h = absurd cc
-untold_by printers plan pick v fault (Some false) text is t h = absurd cc
-untold_by printers plan pick v fault (Some true) (Some s) is t h =
-    let q : None ≡ Some fault = sym (ap (λ (o : Option Bytes). where_holds (is_none o) (ErrorMismatchOutputType (codes "string") (display v) plan.pos)) t) ∙ h in absurd cc
-untold_by printers plan pick v fault (Some true) None is t h =
-    let q : Some (ErrorMismatchOutputType (codes "string") (display v) plan.pos) ≡ Some fault = sym (ap (λ (o : Option Bytes). where_holds (is_none o) (ErrorMismatchOutputType (codes "string") (display v) plan.pos)) t) ∙ h in
-    record { prints = printer_prints printers plan pick true is; none = t; says = cc; unprinted = ap (λ (p : Option Bool). printed_text p v) is ∙ t }
+no_text_by : (e : EngineLists) (plan : Plan) (pick : Pick) (v : Tree) (fault : EvalAltResult) (p : Option Bool) (text : Option Bytes) → printer e.printers plan pick ≡ p → text_in v.kind ≡ text
+    → no_text e p plan.pos v ≡ Some fault → TextMissing e plan pick v fault
+no_text_by e plan pick v fault None text is t h = absurd cc
+no_text_by e plan pick v fault (Some false) text is t h = absurd cc
+no_text_by e plan pick v fault (Some true) (Some s) is t h =
+    let q : None ≡ Some fault = sym (ap (λ (o : Option Bytes). where_holds (is_none o) (ErrorMismatchOutputType (codes "string") (display e v) plan.pos)) t) ∙ h in absurd cc
+no_text_by e plan pick v fault (Some true) None is t h =
+    let q : Some (ErrorMismatchOutputType (codes "string") (display e v) plan.pos) ≡ Some fault = sym (ap (λ (o : Option Bytes). where_holds (is_none o) (ErrorMismatchOutputType (codes "string") (display e v) plan.pos)) t) ∙ h in
+    record { prints = printer_prints e plan pick true is; none = t; says = cc; unprinted = ap (λ (p : Option Bool). printed_text p v) is ∙ t }
 
-pub untold : (printers : Printers) (plan : Plan) (pick : Pick) (v : Tree) (fault : EvalAltResult) → no_text (printer printers plan pick) plan.pos v ≡ Some fault → Untold printers plan pick v fault
-untold printers plan pick v fault h = untold_by printers plan pick v fault (printer printers plan pick) (text_in v.kind) refl refl h
+pub text_missing : (e : EngineLists) (plan : Plan) (pick : Pick) (v : Tree) (fault : EvalAltResult) → no_text e (printer e.printers plan pick) plan.pos v ≡ Some fault → TextMissing e plan pick v fault
+text_missing e plan pick v fault h = no_text_by e plan pick v fault (printer e.printers plan pick) (text_in v.kind) refl refl h
 
-pub no_text_untold : (printers : Printers) (plan : Plan) (pick : Pick) (v : Tree) → Prints printers plan pick true → text_in v.kind ≡ None → no_text (printer printers plan pick) plan.pos v ≡ Some (ErrorMismatchOutputType (codes "string") (display v) plan.pos)
-no_text_untold printers plan pick v prints none =
-    ap (λ (p : Option Bool). no_text p plan.pos v) (prints_printer printers plan pick true prints) ∙ ap (λ (o : Option Bytes). where_holds (is_none o) (ErrorMismatchOutputType (codes "string") (display v) plan.pos)) none
+pub missing_text : (e : EngineLists) (plan : Plan) (pick : Pick) (v : Tree) → Prints e.printers plan pick true → text_in v.kind ≡ None
+    → no_text e (printer e.printers plan pick) plan.pos v ≡ Some (ErrorMismatchOutputType (codes "string") (display e v) plan.pos)
+missing_text e plan pick v prints none =
+    ap (λ (p : Option Bool). no_text e p plan.pos v) (prints_printer e plan pick true prints) ∙ ap (λ (o : Option Bytes). where_holds (is_none o) (ErrorMismatchOutputType (codes "string") (display e v) plan.pos)) none
 
-pub unprinted : (printers : Printers) (plan : Plan) (pick : Pick) (v : Tree) → Prints printers plan pick true → text_in v.kind ≡ None → printed_text (printer printers plan pick) v ≡ None
-unprinted printers plan pick v prints none = ap (λ (p : Option Bool). printed_text p v) (prints_printer printers plan pick true prints) ∙ none
+pub unprinted : (e : EngineLists) (plan : Plan) (pick : Pick) (v : Tree) → Prints e.printers plan pick true → text_in v.kind ≡ None → printed_text (printer e.printers plan pick) v ≡ None
+unprinted e plan pick v prints none = ap (λ (p : Option Bool). printed_text p v) (prints_printer e plan pick true prints) ∙ none
 
-printable_by : (printers : Printers) (plan : Plan) (pick : Pick) (v : Tree) (text : Option Bytes) → text_in v.kind ≡ text → no_text (printer printers plan pick) plan.pos v ≡ None → IsPrintable printers plan pick v
-printable_by printers plan pick v (Some s) t h prints = (s, t)
-printable_by printers plan pick v None t h prints =
-    let q : None ≡ Some (ErrorMismatchOutputType (codes "string") (display v) plan.pos) = sym h ∙ no_text_untold printers plan pick v prints t in absurd cc
+printable_by : (e : EngineLists) (plan : Plan) (pick : Pick) (v : Tree) (text : Option Bytes) → text_in v.kind ≡ text → no_text e (printer e.printers plan pick) plan.pos v ≡ None → IsPrintable e.printers plan pick v
+printable_by e plan pick v (Some s) t h prints = (s, t)
+printable_by e plan pick v None t h prints =
+    let q : None ≡ Some (ErrorMismatchOutputType (codes "string") (display e v) plan.pos) = sym h ∙ missing_text e plan pick v prints t in absurd cc
 
-pub printable : (printers : Printers) (plan : Plan) (pick : Pick) (v : Tree) → no_text (printer printers plan pick) plan.pos v ≡ None → IsPrintable printers plan pick v
-printable printers plan pick v h = printable_by printers plan pick v (text_in v.kind) refl h
+pub printable : (e : EngineLists) (plan : Plan) (pick : Pick) (v : Tree) → no_text e (printer e.printers plan pick) plan.pos v ≡ None → IsPrintable e.printers plan pick v
+printable e plan pick v h = printable_by e plan pick v (text_in v.kind) refl h
 
-text_by : (printers : Printers) (plan : Plan) (pick : Pick) (v : Tree) (p : Option Bool) → printer printers plan pick ≡ p → IsPrintable printers plan pick v → no_text p plan.pos v ≡ None
-text_by printers plan pick v None is h = refl
-text_by printers plan pick v (Some false) is h = refl
-text_by printers plan pick v (Some true) is h =
-    ap (λ (o : Option Bytes). where_holds (is_none o) (ErrorMismatchOutputType (codes "string") (display v) plan.pos)) (h (printer_prints printers plan pick true is)).1
+text_by : (e : EngineLists) (plan : Plan) (pick : Pick) (v : Tree) (p : Option Bool) → printer e.printers plan pick ≡ p → IsPrintable e.printers plan pick v → no_text e p plan.pos v ≡ None
+text_by e plan pick v None is h = refl
+text_by e plan pick v (Some false) is h = refl
+text_by e plan pick v (Some true) is h =
+    ap (λ (o : Option Bytes). where_holds (is_none o) (ErrorMismatchOutputType (codes "string") (display e v) plan.pos)) (h (printer_prints e plan pick true is)).1
 
-pub printable_text : (printers : Printers) (plan : Plan) (pick : Pick) (v : Tree) → IsPrintable printers plan pick v → no_text (printer printers plan pick) plan.pos v ≡ None
-printable_text printers plan pick v h = text_by printers plan pick v (printer printers plan pick) refl h
+pub printable_text : (e : EngineLists) (plan : Plan) (pick : Pick) (v : Tree) → IsPrintable e.printers plan pick v → no_text e (printer e.printers plan pick) plan.pos v ≡ None
+printable_text e plan pick v h = text_by e plan pick v (printer e.printers plan pick) refl h
 
 -- the text that is printed
-printed_by : (printers : Printers) (plan : Plan) (pick : Pick) (v : Tree) (text : Bytes) (p : Option Bool) → printer printers plan pick ≡ p → printed_text p v ≡ Some text → Prints printers plan pick true × (text_in v.kind ≡ Some text)
-printed_by printers plan pick v text None is h = absurd cc
-printed_by printers plan pick v text (Some false) is h = absurd cc
-printed_by printers plan pick v text (Some true) is h = (printer_prints printers plan pick true is, h)
+printed_by : (e : EngineLists) (plan : Plan) (pick : Pick) (v : Tree) (text : Bytes) (p : Option Bool) → printer e.printers plan pick ≡ p → printed_text p v ≡ Some text → Prints e.printers plan pick true × (text_in v.kind ≡ Some text)
+printed_by e plan pick v text None is h = absurd cc
+printed_by e plan pick v text (Some false) is h = absurd cc
+printed_by e plan pick v text (Some true) is h = (printer_prints e plan pick true is, h)
 
-pub printed_prints : (printers : Printers) (plan : Plan) (pick : Pick) (v : Tree) (text : Bytes) → printed_text (printer printers plan pick) v ≡ Some text → Prints printers plan pick true × (text_in v.kind ≡ Some text)
-printed_prints printers plan pick v text h = printed_by printers plan pick v text (printer printers plan pick) refl h
+pub printed_prints : (e : EngineLists) (plan : Plan) (pick : Pick) (v : Tree) (text : Bytes) → printed_text (printer e.printers plan pick) v ≡ Some text → Prints e.printers plan pick true × (text_in v.kind ≡ Some text)
+printed_prints e plan pick v text h = printed_by e plan pick v text (printer e.printers plan pick) refl h
 
-pub prints_printed : (printers : Printers) (plan : Plan) (pick : Pick) (v : Tree) (text : Bytes) → Prints printers plan pick true → text_in v.kind ≡ Some text → printed_text (printer printers plan pick) v ≡ Some text
-prints_printed printers plan pick v text prints is = ap (λ (p : Option Bool). printed_text p v) (prints_printer printers plan pick true prints) ∙ is
+pub prints_printed : (e : EngineLists) (plan : Plan) (pick : Pick) (v : Tree) (text : Bytes) → Prints e.printers plan pick true → text_in v.kind ≡ Some text → printed_text (printer e.printers plan pick) v ≡ Some text
+prints_printed e plan pick v text prints is = ap (λ (p : Option Bool). printed_text p v) (prints_printer e plan pick true prints) ∙ is

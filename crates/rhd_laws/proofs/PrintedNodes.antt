@@ -9,21 +9,21 @@ use Rattle.rhd_func.specs.declared.request.CallRequest.{CallRequest}
 use Rattle.rhd_func.specs.declared.request.HostAnswer.{HostAnswer}
 use Rattle.rhd_func.specs.declared.request.NativeStep.{NativeStep}
 use Rattle.rhd_func.specs.declared.request.NativeStep.TheVariants.{Done}
-use Rattle.rhd_session.specs.Engine.{EngineLists, Frame}
+use Rattle.rhd_engine.specs.Engine.{EngineLists, Frame}
 use Rattle.rhd_session.specs.World.{World, Objects, Moment}
-use Rattle.rhd_session.specs.Ends.{End}
-use Rattle.rhd_session.specs.declared.limits.Printers.{Printers}
-use Rattle.rhd_session.specs.declared.node.CallNode.{CallNode}
-use Rattle.rhd_session.specs.declared.node.Whose.TheVariants.{Call, Called}
-use Rattle.rhd_session.specs.declared.pick.Pick.{Pick}
+use Rattle.rhd_call.specs.End.{End, failed}
+use Rattle.rhd_engine.specs.declared.limits.Printers.{Printers}
+use Rattle.rhd_call.specs.declared.node.CallNode.{CallNode}
+use Rattle.rhd_call.specs.declared.node.Whose.TheVariants.{Call, Called}
+use Rattle.rhd_call.specs.declared.pick.Pick.{Pick}
 use Rattle.rhd_session.specs.Plans.{Plan, plan_of}
-use Rattle.rhd_session.specs.Ends.{failed}
 use Rattle.rhd_laws.specs.Prints.{Prints, IsPrintable, Makes, unit_for_it, itself}
 use Rattle.rhd_laws.specs.Causes.{AreWithin, IsOfOtherKind, EndsWith}
 use Rattle.rhd_laws.specs.PrintedTexts.{ShowsText, AnswersValue}
-use Rattle.rhd_session.specs.Seen.{Seen, seen}
+use Rattle.rhd_call.specs.Seen.{Seen, seen}
 use Rattle.rhd_session.specs.Runs.{Runs}
-use Rattle.rhd_session.specs.Trees.{InTree, frame_at}
+use Rattle.rhd_call.specs.Trees.{InTree}
+use Rattle.rhd_session.specs.Trees.{frame_at}
 use Rattle.rhd_laws.proofs.PrintedEnds.{printed_prints, prints_printed}
 use Rattle.rhd_laws.proofs.HostEnds.{HostSays, host_unprinted}
 use Rattle.rhd_laws.proofs.Owned.{not_called}
@@ -36,7 +36,7 @@ record LastPrints (e : EngineLists) (plan : Plan) (pick : Pick) (step : NativeSt
   answer : Tree
   back : Option Tree
   step_is : step ≡ Done answer back
-  within : AreWithin e.limits plan pick back answer
+  within : AreWithin e plan pick back answer
   set : Prints e.printers plan pick true
   is_text : text_in answer.kind ≡ Some text
 
@@ -44,10 +44,10 @@ last_prints : {e : EngineLists} {plan : Plan} {pick : Pick} {step : NativeStep} 
 last_prints text (fails own back is by) h = let q : None ≡ Some text = sym (ap (λ (x : End). x.printed) by) ∙ h in absurd cc
 last_prints text (is_large v back what is l by) h = let q : None ≡ Some text = sym (ap (λ (x : End). x.printed) by) ∙ h in absurd cc
 last_prints {e} {plan} {pick} text (is_other v made back wanted is within other by) h =
-    let p = printed_prints e.printers plan pick v text (sym (ap (λ (x : End). x.printed) by) ∙ h) in
+    let p = printed_prints e plan pick v text (sym (ap (λ (x : End). x.printed) by) ∙ h) in
     record { answer = v; back = back; step_is = is; within = within; set = p.0; is_text = p.1 }
 last_prints {e} {plan} {pick} text (fits v made back is within printable makes wanted by) h =
-    let p = printed_prints e.printers plan pick v text (sym (ap (λ (x : End). x.printed) by) ∙ h) in
+    let p = printed_prints e plan pick v text (sym (ap (λ (x : End). x.printed) by) ∙ h) in
     record { answer = v; back = back; step_is = is; within = within; set = p.0; is_text = p.1 }
 
 no_answer : {fault : EvalAltResult} {value : Tree} → ◌≡◌ {A = Result Tree EvalAltResult} (Err fault) (Ok value) → ⊥
@@ -64,7 +64,7 @@ record LastAnswers (e : EngineLists) (plan : Plan) (pick : Pick) (step : NativeS
   answer : Tree
   back : Option Tree
   step_is : step ≡ Done answer back
-  within : AreWithin e.limits plan pick back answer
+  within : AreWithin e plan pick back answer
   printable : IsPrintable e.printers plan pick answer
   makes : Makes e.printers plan pick answer value
   wanted : (kind : TypeTag) → IsOfOtherKind plan.want kind value → ⊥
@@ -82,7 +82,7 @@ last_answers {e} {plan} {pick} value (fits v made back is within printable makes
       within = within;
       printable = printable;
       makes = subst (Makes e.printers plan pick v) same makes;
-      wanted = subst (λ (x : Tree). (kind : TypeTag) → IsOfOtherKind plan.want kind x → ⊥) same (λ kind. none_other plan.want plan.pos made kind wanted);
+      wanted = subst (λ (x : Tree). (kind : TypeTag) → IsOfOtherKind plan.want kind x → ⊥) same (λ kind. none_other e plan.want plan.pos made kind wanted);
     }
 
 -- what a call of `print` or `debug` makes of a value
@@ -111,7 +111,7 @@ module _ {H B : Type 0} (o : Objects H B) (w : World) where
     unanswered = λ pick value is h. no_answer (sym (ap (λ (x : End). x.answer) e) ∙ h);
   }
 
-  hosts_nothing : (node : CallNode) {answer : HostAnswer} → (seen node).pick ≡ None → HostSays (plan_of (seen node).call) answer (seen node).end → SaysNothing node
+  hosts_nothing : (node : CallNode) {answer : HostAnswer} → (seen node).pick ≡ None → HostSays w.engine (plan_of (seen node).call) answer (seen node).end → SaysNothing node
   hosts_nothing node alone says = record {
     unprinted = host_unprinted says;
     own = not_called says;
@@ -123,7 +123,7 @@ module _ {H B : Type 0} (o : Objects H B) (w : World) where
   ran_or_not {node = node} (is_deep deep s) = inr (says_nothing node _ _ (ap (λ (x : Seen). x.end) s))
   ran_or_not {node = node} (is_locked n l place s) = inr (says_nothing node _ _ (ap (λ (x : Seen). x.end) s))
   ran_or_not {node = node} (is_missing l none s) = inr (says_nothing node _ _ (ap (λ (x : Seen). x.end) s))
-  ran_or_not {node = node} (by_host from to answer l none c told alone says) = inr (hosts_nothing node alone says)
+  ran_or_not {node = node} (by_host from to answer l none c asked alone says) = inr (hosts_nothing node alone says)
   ran_or_not {node = node} (is_constant own l none u first on s) = inr (says_nothing node _ _ (ap (λ (x : Seen). x.end) s))
   ran_or_not (has_ended pick last l none c came by) = inl (record { pick = pick; last = last; came = came; by = by })
   ran_or_not {node = node} (was_cut pick c l none begun shown e) = inr (says_nothing node _ _ e)
@@ -147,13 +147,14 @@ module _ {H B : Type 0} (o : Objects H B) (w : World) where
   text_back : {f : Frame} (node : CallNode) (text : Bytes) → ShowsText o w f (seen node) text → (seen node).end.printed ≡ Some text
   text_back node text r =
       printed_ends w.engine (plan_of (seen node).call) r.pick r.answer r.back (seen node).end r.within r.ended.ends
-      ∙ prints_printed w.engine.printers (plan_of (seen node).call) r.pick r.answer text r.set r.is_text
+      ∙ prints_printed w.engine (plan_of (seen node).call) r.pick r.answer text r.set r.is_text
 
-  text_exactly : {f : Frame} {level : ℕ} {call : CallRequest} {node : CallNode} {before after : Moment H B} {cut : Bool} (text : Bytes) → Runs o w f level call node before after cut → ((seen node).end.printed ≡ Some text) ↔ ShowsText o w f (seen node) text
+  text_exactly : {f : Frame} {level : ℕ} {call : CallRequest} {node : CallNode} {before after : Moment H B} {cut : Bool} (text : Bytes) → Runs o w f level call node before after cut
+      → ((seen node).end.printed ≡ Some text) ↔ ShowsText o w f (seen node) text
   text_exactly {node = node} text r = (text_only node text (ran_or_not (runs_end o w r)), text_back node text)
 
   pub tree_text : {node root : CallNode} (inside : InTree node root) {f : Frame} {level : ℕ} {call : CallRequest} {before after : Moment H B} {cut : Bool} (text : Bytes) → Runs o w f level call root before after cut
-      → ((seen node).end.printed ≡ Some text) ↔ ShowsText o w (frame_at f inside) (seen node) text
+      → ((seen node).end.printed ≡ Some text) ↔ ShowsText o w (frame_at w f inside) (seen node) text
   tree_text inside text r = text_exactly text (tree_runs o w inside r).3
 
   -- a call answers a value that its function ended with
@@ -179,19 +180,22 @@ module _ {H B : Type 0} (o : Objects H B) (w : World) where
       (ap (λ (x : End). x.whose) e, ap (λ (x : End). x.answer) e)
 
   pub tree_value : {node root : CallNode} (inside : InTree node root) {f : Frame} {level : ℕ} {call : CallRequest} {before after : Moment H B} {cut : Bool} (value : Tree) → Runs o w f level call root before after cut
-      → (((seen node).end.whose ≡ Called) × ((seen node).end.answer ≡ Ok value)) ↔ AnswersValue o w (frame_at f inside) (seen node) value
+      → (((seen node).end.whose ≡ Called) × ((seen node).end.answer ≡ Ok value)) ↔ AnswersValue o w (frame_at w f inside) (seen node) value
   tree_value {node} inside value r = (value_only node value (ran_or_not (runs_end o w (tree_runs o w inside r).3)), value_back node value)
 
   -- and a call of `print` or `debug` answers unit
-  unit_of_last : {f : Frame} (node : CallNode) (pick : Pick) (set : Bool) (value : Tree) (r : RanOut f node) → r.pick ≡ pick → Prints w.engine.printers (plan_of (seen node).call) pick set → LastAnswers w.engine (plan_of (seen node).call) r.pick r.last value → value ≡ plain unit
+  unit_of_last : {f : Frame} (node : CallNode) (pick : Pick) (set : Bool) (value : Tree) (r : RanOut f node) → r.pick ≡ pick → Prints w.engine.printers (plan_of (seen node).call) pick set
+      → LastAnswers w.engine (plan_of (seen node).call) r.pick r.last value → value ≡ plain unit
   unit_of_last node pick set value r same prints p = made_unit set (subst (λ (x : Pick). Prints w.engine.printers (plan_of (seen node).call) x set) (sym same) prints) p.makes
 
-  unit_only : {f : Frame} (node : CallNode) (pick : Pick) (set : Bool) (value : Tree) → RanOut f node ⊎ SaysNothing node → (seen node).pick ≡ Some pick → Prints w.engine.printers (plan_of (seen node).call) pick set → (seen node).end.answer ≡ Ok value → value ≡ plain unit
+  unit_only : {f : Frame} (node : CallNode) (pick : Pick) (set : Bool) (value : Tree) → RanOut f node ⊎ SaysNothing node → (seen node).pick ≡ Some pick
+      → Prints w.engine.printers (plan_of (seen node).call) pick set → (seen node).end.answer ≡ Ok value → value ≡ plain unit
   unit_only node pick set value (inl r) is prints h =
       let q : Some r.pick ≡ Some pick = sym r.came.shown ∙ is in
       unit_of_last node pick set value r (some_pick q) prints (last_answers value r.by h)
   unit_only node pick set value (inr n) is prints h = absurd (n.unanswered pick value is h)
 
-  pub tree_unit : {node root : CallNode} (inside : InTree node root) {f : Frame} {level : ℕ} {call : CallRequest} {before after : Moment H B} {cut : Bool} (pick : Pick) (set : Bool) (value : Tree) → Runs o w f level call root before after cut
+  pub tree_unit : {node root : CallNode} (inside : InTree node root) {f : Frame} {level : ℕ} {call : CallRequest} {before after : Moment H B} {cut : Bool} (pick : Pick) (set : Bool) (value : Tree)
+      → Runs o w f level call root before after cut
       → (seen node).pick ≡ Some pick → Prints w.engine.printers (plan_of (seen node).call) pick set → (seen node).end.answer ≡ Ok value → value ≡ plain unit
   tree_unit {node} inside pick set value r is prints h = unit_only node pick set value (ran_or_not (runs_end o w (tree_runs o w inside r).3)) is prints h

@@ -9,10 +9,11 @@ use Rattle.rhd_value.specs.Tree.{Bytes, Tree}
 use Rattle.rhd_value.specs.Same.{text_eq}
 use Rattle.rhd_value.specs.declared.tag.Position.{Position}
 use Rattle.rhd_value.specs.declared.fault.EvalAltResult.{EvalAltResult}
-use Rattle.rhd_session.specs.Display.{display}
-use Rattle.rhd_session.specs.NotFound.{get_index, set_index, get_property, set_property, not_found}
+use Rattle.rhd_engine.specs.Engine.{EngineLists}
+use Rattle.rhd_engine.specs.Display.{display}
+use Rattle.rhd_engine.specs.NotFound.{get_index, set_index, get_property, set_property, not_found}
 use Rattle.rhd_laws.specs.Unfound.{fault_number, IsProperty, is_getter, is_setter, IsIndexer, is_index_getter, is_index_setter, IsAccess}
-use Rattle.rhd_session.proofs.Unfound.{by_tests, tested}
+use Rattle.rhd_engine.proofs.Unfound.{by_tests, tested}
 
 -- the numbers of each form: with the wanted number of arguments, or with another
 abbrev IsOfForm : ℕ → ℕ → ℕ → ℕ → Type 0
@@ -70,25 +71,27 @@ has_prefix name prefix h = (starts_is Decides-eqb name prefix _ refl).0 h
 has_no_prefix : (name prefix rest : Bytes) → starts_with nat_eq name prefix ≡ false → name ≡ prefix ++ rest → ⊥
 has_no_prefix name prefix rest h e = let q : false ≡ true = sym h ∙ (starts_is Decides-eqb name prefix _ refl).1 rest e in absurd cc
 
-no_access : (name : Bytes) → text_eq name (codes "index$get$") ≡ false → text_eq name (codes "index$set$") ≡ false → starts_with nat_eq name (codes "get$") ≡ false → starts_with nat_eq name (codes "set$") ≡ false → (m : ℕ) → IsAccess name m → ⊥
+no_access : (name : Bytes) → text_eq name (codes "index$get$") ≡ false → text_eq name (codes "index$set$") ≡ false → starts_with nat_eq name (codes "get$") ≡ false
+    → starts_with nat_eq name (codes "set$") ≡ false → (m : ℕ) → IsAccess name m → ⊥
 no_access name i j g s m (inl (is_getter p e n)) = has_no_prefix name (codes "get$") p g e
 no_access name i j g s m (inl (is_setter p e n)) = has_no_prefix name (codes "set$") p s e
 no_access name i j g s m (inr (is_index_getter e n)) = other_name name (codes "index$get$") i e
 no_access name i j g s m (inr (is_index_setter e n)) = other_name name (codes "index$set$") j e
 
-row_by : (pos : Position) (name : Bytes) (args : List Tree) (i j g s : Bool) → text_eq name (codes "index$get$") ≡ i → text_eq name (codes "index$set$") ≡ j → starts_with nat_eq name (codes "get$") ≡ g → starts_with nat_eq name (codes "set$") ≡ s
-    → Row name (length (map display args)) (fault_number (by_tests pos name args i j g s))
-row_by pos name args true j g s a b c d = indexer_row name _ 2 _ (λ i e. is_index_getter (same_name name (codes "index$get$") a) e) (get_index_form pos (map display args))
-row_by pos name args false true g s a b c d = indexer_row name _ 3 _ (λ i e. is_index_setter (same_name name (codes "index$set$") b) e) (set_index_form pos (map display args))
-row_by pos name args false false true s a b c d = property_row name _ 1 _ (λ i e. is_getter (drop 4 name) (has_prefix name (codes "get$") c) e) (get_property_form pos (drop 4 name) (map display args))
-row_by pos name args false false false true a b c d = property_row name _ 2 _ (λ i e. is_setter (drop 4 name) (has_prefix name (codes "set$") d) e) (set_property_form pos (drop 4 name) (map display args))
-row_by pos name args false false false false a b c d = by_other (no_access name a b c d) refl
+row_by : (e : EngineLists) (pos : Position) (name : Bytes) (args : List Tree) (i j g s : Bool) → text_eq name (codes "index$get$") ≡ i → text_eq name (codes "index$set$") ≡ j
+    → starts_with nat_eq name (codes "get$") ≡ g → starts_with nat_eq name (codes "set$") ≡ s
+    → Row name (length (map (display e) args)) (fault_number (by_tests e pos name args i j g s))
+row_by e pos name args true j g s a b c d = indexer_row name _ 2 _ (λ i h. is_index_getter (same_name name (codes "index$get$") a) h) (get_index_form pos (map (display e) args))
+row_by e pos name args false true g s a b c d = indexer_row name _ 3 _ (λ i h. is_index_setter (same_name name (codes "index$set$") b) h) (set_index_form pos (map (display e) args))
+row_by e pos name args false false true s a b c d = property_row name _ 1 _ (λ i h. is_getter (drop 4 name) (has_prefix name (codes "get$") c) h) (get_property_form pos (drop 4 name) (map (display e) args))
+row_by e pos name args false false false true a b c d = property_row name _ 2 _ (λ i h. is_setter (drop 4 name) (has_prefix name (codes "set$") d) h) (set_property_form pos (drop 4 name) (map (display e) args))
+row_by e pos name args false false false false a b c d = by_other (no_access name a b c d) refl
 
-row_of : (pos : Position) (name : Bytes) (args : List Tree) → Row name (length args) (fault_number (not_found pos name args))
-row_of pos name args =
-    let tests = tested pos name args _ _ _ _ refl refl refl refl in
-    subst (λ (n : ℕ). Row name n (fault_number (not_found pos name args))) (length-map args display)
-    (subst (λ (x : EvalAltResult). Row name (length (map display args)) (fault_number x)) (sym tests) (row_by pos name args _ _ _ _ refl refl refl refl))
+row_of : (e : EngineLists) (pos : Position) (name : Bytes) (args : List Tree) → Row name (length args) (fault_number (not_found e pos name args))
+row_of e pos name args =
+    let tests = tested e pos name args _ _ _ _ refl refl refl refl in
+    subst (λ (n : ℕ). Row name n (fault_number (not_found e pos name args))) (length-map args (display e))
+    (subst (λ (x : EvalAltResult). Row name (length (map (display e) args)) (fault_number x)) (sym tests) (row_by e pos name args _ _ _ _ refl refl refl refl))
 
 -- no name is of two forms
 apart : (k : ℕ) (name xs ys : Bytes) → name ≡ xs → name ≡ ys → (get_or xs k 0 ≡ get_or ys k 0 → ⊥) → ⊥
@@ -167,24 +170,33 @@ other_is name n k (by_indexer p e) h = absurd (h n (inr p))
 other_is name n k (by_number m a d e) h = absurd (h m a)
 other_is name n k (by_other none e) h = e
 
-pub property_exactly : (pos : Position) (name : Bytes) (args : List Tree) → (fault_number (not_found pos name args) ≡ 2) ↔ IsProperty name (length args)
-property_exactly pos name args = (only_property name _ _ (row_of pos name args), property_is name _ _ (row_of pos name args))
+pub property_exactly : (e : EngineLists) (pos : Position) (name : Bytes) (args : List Tree) → (fault_number (not_found e pos name args) ≡ 2) ↔ IsProperty name (length args)
+property_exactly e pos name args = (only_property name _ _ (row_of e pos name args), property_is name _ _ (row_of e pos name args))
 
-pub indexer_exactly : (pos : Position) (name : Bytes) (args : List Tree) → (fault_number (not_found pos name args) ≡ 3) ↔ IsIndexer name (length args)
-indexer_exactly pos name args = (only_indexer name _ _ (row_of pos name args), indexer_is name _ _ (row_of pos name args))
+pub indexer_exactly : (e : EngineLists) (pos : Position) (name : Bytes) (args : List Tree) → (fault_number (not_found e pos name args) ≡ 3) ↔ IsIndexer name (length args)
+indexer_exactly e pos name args = (only_indexer name _ _ (row_of e pos name args), indexer_is name _ _ (row_of e pos name args))
 
-pub number_exactly : (pos : Position) (name : Bytes) (args : List Tree) → (fault_number (not_found pos name args) ≡ 4) ↔ ((n : ℕ) × IsAccess name n × (length args ≡ n → ⊥))
-number_exactly pos name args = (only_number name _ _ (row_of pos name args), number_is name _ _ (row_of pos name args))
+pub number_exactly : (e : EngineLists) (pos : Position) (name : Bytes) (args : List Tree) → (fault_number (not_found e pos name args) ≡ 4) ↔ ((n : ℕ) × IsAccess name n × (length args ≡ n → ⊥))
+number_exactly e pos name args = (only_number name _ _ (row_of e pos name args), number_is name _ _ (row_of e pos name args))
 
-pub other_exactly : (pos : Position) (name : Bytes) (args : List Tree) → (fault_number (not_found pos name args) ≡ 1) ↔ ((n : ℕ) → IsAccess name n → ⊥)
-other_exactly pos name args = (only_other name _ _ (row_of pos name args), other_is name _ _ (row_of pos name args))
+pub other_exactly : (e : EngineLists) (pos : Position) (name : Bytes) (args : List Tree) → (fault_number (not_found e pos name args) ≡ 1) ↔ ((n : ℕ) → IsAccess name n → ⊥)
+other_exactly e pos name args = (only_other name _ _ (row_of e pos name args), other_is name _ _ (row_of e pos name args))
 
 -- it is one of the first four
+positive : (name : Bytes) (n k : ℕ) → Row name n k → 1 ≤ k
+positive name n k (by_property p e) = omega arith
+positive name n k (by_indexer p e) = omega arith
+positive name n k (by_number m a d e) = omega arith
+positive name n k (by_other none e) = omega arith
+
+pub missing_positive : (e : EngineLists) (pos : Position) (name : Bytes) (args : List Tree) → 1 ≤ fault_number (not_found e pos name args)
+missing_positive e pos name args = positive name _ _ (row_of e pos name args)
+
 small : (name : Bytes) (n k : ℕ) → Row name n k → k ≤ 4
 small name n k (by_property p e) = omega arith
 small name n k (by_indexer p e) = omega arith
 small name n k (by_number m a d e) = omega arith
 small name n k (by_other none e) = omega arith
 
-pub missing_number : (pos : Position) (name : Bytes) (args : List Tree) → fault_number (not_found pos name args) ≤ 4
-missing_number pos name args = small name _ _ (row_of pos name args)
+pub missing_number : (e : EngineLists) (pos : Position) (name : Bytes) (args : List Tree) → fault_number (not_found e pos name args) ≤ 4
+missing_number e pos name args = small name _ _ (row_of e pos name args)

@@ -12,18 +12,19 @@ use Rattle.rhd_func.specs.declared.request.CallRequest.{CallRequest}
 use Rattle.rhd_func.specs.declared.request.CallShape.{CallShape}
 use Rattle.rhd_func.specs.declared.request.CallShape.TheVariants.{Plain, ByRef, Method}
 use Rattle.rhd_func.specs.declared.request.NativeStep.{NativeStep}
-use Rattle.rhd_func.specs.declared.request.NativeStep.TheVariants.{Done, Failed, Ask}
+use Rattle.rhd_func.specs.declared.request.NativeStep.TheVariants.{Done}
 use Rattle.rhd_func.specs.declared.request.HostAnswer.TheVariants.{Value}
 use Rattle.rhd_func.specs.Funcs.{is_script}
+use Rattle.rhd_func.specs.GivenBack.{back_of}
 use Rattle.rhd_func.specs.Shapes.{pos_of}
-use Rattle.rhd_session.specs.Engine.{EngineLists, Frame}
+use Rattle.rhd_engine.specs.Engine.{EngineLists, Frame}
 use Rattle.rhd_session.specs.World.{World, Objects, Moment}
-use Rattle.rhd_session.specs.Ends.{End}
-use Rattle.rhd_session.specs.declared.limits.Limits.{Limits}
-use Rattle.rhd_session.specs.declared.limits.Printers.{Printers}
-use Rattle.rhd_session.specs.declared.node.Whose.TheVariants.{Call}
-use Rattle.rhd_session.specs.declared.pick.Pick.{Pick}
-use Rattle.rhd_session.specs.Display.{display}
+use Rattle.rhd_call.specs.End.{End}
+use Rattle.rhd_engine.specs.declared.limits.Limits.{Limits}
+use Rattle.rhd_engine.specs.declared.limits.Printers.{Printers}
+use Rattle.rhd_call.specs.declared.node.Whose.TheVariants.{Call}
+use Rattle.rhd_call.specs.declared.pick.Pick.{Pick}
+use Rattle.rhd_engine.specs.Display.{display}
 use Rattle.rhd_session.specs.Plans.{Plan, plan_of}
 use Rattle.rhd_session.specs.Ends.{first_at_end, end_of}
 use Rattle.rhd_session.specs.Decisions.{locked_text, refusal}
@@ -31,7 +32,7 @@ use Rattle.rhd_laws.specs.FirstAsks.{IsAnsweredFirst, IsOnConstant}
 use Rattle.rhd_session.specs.Entered.{context}
 use Rattle.rhd_laws.specs.Hosts.{HostEnds}
 use Rattle.rhd_laws.specs.Prints.{Prints, IsPrintable, Makes}
-use Rattle.rhd_session.specs.Seen.{Seen}
+use Rattle.rhd_call.specs.Seen.{Seen}
 use Rattle.rhd_session.specs.Steps.{Starts}
 use Rattle.rhd_session.specs.Runs.{Steps, received_by}
 
@@ -69,9 +70,9 @@ NamesLocked call fault = (n : ℕ) × IsFirstLocked (plan_of call).shape n × (f
 -- Nothing refuses the call, and the function of the first ask that is found isn't for a constant; the fault has the name.
 pub record IsForNoConstant (e : EngineLists) (f : Frame) (level : ℕ) (call : CallRequest) (fault : EvalAltResult) : Type 0 where
   pub pick : Pick
-  pub unrefused : refusal e level call ≡ None
+  pub unrefused : refusal e f level call ≡ None
   pub first : IsAnsweredFirst e f call pick
-  pub on : IsOnConstant (plan_of call) pick
+  pub on : IsOnConstant e (plan_of call) pick
   pub says : fault ≡ ErrorNonPureMethodCallOnConstant (plan_of call).name (plan_of call).pos
 
 -- no count of a value passes its limit
@@ -85,17 +86,17 @@ pub data Passes (limits : Limits) (sizes : Sizes) : Bytes → Type 0 where
   by_texts : {what : Bytes} → sizes.array ≤ limits.array → sizes.map ≤ limits.map → limits.text < sizes.text → what ≡ codes "Length of string" → Passes limits sizes what
 
 -- a native is called with this as its first argument by reference, or object, as that is in the end
-abbrev pub HasFirst : Plan → Pick → Option Tree → Tree → Type 0
-HasFirst plan pick back first = (is_script pick.func ≡ false) × (first_at_end plan pick back ≡ Some first)
+abbrev pub HasFirst : EngineLists → Plan → Pick → Option Tree → Tree → Type 0
+HasFirst e plan pick back first = (is_script pick.func ≡ false) × (first_at_end e plan pick back ≡ Some first)
 
 -- neither the value nor such an argument passes a limit
-abbrev pub AreWithin : Limits → Plan → Pick → Option Tree → Tree → Type 0
-AreWithin limits plan pick back v = IsWithin limits (sizes_of v) × ((first : Tree) → HasFirst plan pick back first → IsWithin limits (sizes_of first))
+abbrev pub AreWithin : EngineLists → Plan → Pick → Option Tree → Tree → Type 0
+AreWithin e plan pick back v = IsWithin e.limits (sizes_of v) × ((first : Tree) → HasFirst e plan pick back first → IsWithin e.limits (sizes_of first))
 
 -- the value passes one, or else such an argument
-pub data IsTooLarge (limits : Limits) (plan : Plan) (pick : Pick) (back : Option Tree) (v : Tree) : Bytes → Type 0 where
-  the_value : {what : Bytes} → Passes limits (sizes_of v) what → IsTooLarge limits plan pick back v what
-  the_first : {what : Bytes} (first : Tree) → IsWithin limits (sizes_of v) → HasFirst plan pick back first → Passes limits (sizes_of first) what → IsTooLarge limits plan pick back v what
+pub data IsTooLarge (e : EngineLists) (plan : Plan) (pick : Pick) (back : Option Tree) (v : Tree) : Bytes → Type 0 where
+  the_value : {what : Bytes} → Passes e.limits (sizes_of v) what → IsTooLarge e plan pick back v what
+  the_first : {what : Bytes} (first : Tree) → IsWithin e.limits (sizes_of v) → HasFirst e plan pick back first → Passes e.limits (sizes_of first) what → IsTooLarge e plan pick back v what
 
 -- A kind is wanted, and that of any value isn't; the value is of another.
 abbrev pub IsOfOtherKind : Option TypeTag → TypeTag → Tree → Type 0
@@ -104,7 +105,8 @@ IsOfOtherKind want kind v = (want ≡ Some kind) × (kind ≡ tags.Dynamic → �
 -- What a function answered is no text for a printer that is set; or else what the call makes of it isn't of the wanted kind. The text says which type was wanted, and the value at the end was refused.
 pub data IsMismatch (printers : Printers) (plan : Plan) (pick : Pick) (answer : Tree) : Bytes → Tree → Type 0 where
   isnt_text : {wanted : Bytes} {value : Tree} → Prints printers plan pick true → text_in answer.kind ≡ None → wanted ≡ codes "string" → value ≡ answer → IsMismatch printers plan pick answer wanted value
-  isnt_wanted : {wanted : Bytes} {value : Tree} (kind : TypeTag) → IsPrintable printers plan pick answer → Makes printers plan pick answer value → IsOfOtherKind plan.want kind value → wanted ≡ type_name kind → IsMismatch printers plan pick answer wanted value
+  isnt_wanted : {wanted : Bytes} {value : Tree} (kind : TypeTag) → IsPrintable printers plan pick answer → Makes printers plan pick answer value → IsOfOtherKind plan.want kind value
+      → wanted ≡ type_name kind → IsMismatch printers plan pick answer wanted value
 
 -- The function that a node shows came through the node's children to this last step, and the call ends with it.
 pub record EndsWith {H B : Type 0} (o : Objects H B) (w : World) (f : Frame) (node : Seen) (pick : Pick) (last : NativeStep) : Type 0 where
@@ -113,7 +115,7 @@ pub record EndsWith {H B : Type 0} (o : Objects H B) (w : World) (f : Frame) (no
   pub after : Moment H B
   pub first : NativeStep
   pub shown : node.pick ≡ Some pick
-  pub starts : Starts o (context f node.level (plan_of node.call)) pick.func (received_by (plan_of node.call) pick) before first started
+  pub starts : Starts o w.engine.natives (context f node.level (plan_of node.call) pick) pick.func (received_by w.engine (plan_of node.call) pick) before first started
   pub steps : Steps o w f node.level (plan_of node.call) pick first node.carries node.children last started after
   pub ends : end_of w.engine (plan_of node.call) pick last ≡ Some node.end
 
@@ -125,9 +127,9 @@ pub record RefusesKind {H B : Type 0} (o : Objects H B) (w : World) (f : Frame) 
   pub value : Tree
   pub wanted : Bytes
   pub ended : EndsWith o w f node pick (Done answer back)
-  pub within : AreWithin w.engine.limits (plan_of node.call) pick back answer
+  pub within : AreWithin w.engine (plan_of node.call) pick back answer
   pub other : IsMismatch w.engine.printers (plan_of node.call) pick answer wanted value
-  pub says : fault ≡ ErrorMismatchOutputType wanted (display value) (pos_of node.call)
+  pub says : fault ≡ ErrorMismatchOutputType wanted (display w.engine value) (pos_of node.call)
   pub refused : node.end.refused ≡ Some value
 
 -- The function ended with a value, and that passes a limit, or else the first argument that a native had; the fault says so, and the node shows the value.
@@ -137,34 +139,28 @@ pub record RefusesSize {H B : Type 0} (o : Objects H B) (w : World) (f : Frame) 
   pub value : Tree
   pub what : Bytes
   pub ended : EndsWith o w f node pick (Done value back)
-  pub large : IsTooLarge w.engine.limits (plan_of node.call) pick back value what
+  pub large : IsTooLarge w.engine (plan_of node.call) pick back value what
   pub says : fault ≡ ErrorDataTooLarge what (pos_of node.call)
   pub refused : node.end.refused ≡ Some value
 
 -- The host answered a value that isn't of the wanted kind; the fault says so, and the node shows the value.
-pub record RefusesHosts {H B : Type 0} (o : Objects H B) (node : Seen) (fault : EvalAltResult) : Type 0 where
+pub record RefusesHosts {H B : Type 0} (o : Objects H B) (e : EngineLists) (node : Seen) (fault : EvalAltResult) : Type 0 where
   pub from : H
   pub to : H
   pub value : Tree
   pub kind : TypeTag
   pub alone : node.pick ≡ None
-  pub ended : HostEnds o node.call from (Value value) to node.end
+  pub ended : HostEnds o e node.call from (Value value) to node.end
   pub other : IsOfOtherKind (plan_of node.call).want kind value
-  pub says : fault ≡ ErrorMismatchOutputType (type_name kind) (display value) (pos_of node.call)
+  pub says : fault ≡ ErrorMismatchOutputType (type_name kind) (display e value) (pos_of node.call)
   pub refused : node.end.refused ≡ Some value
 
 -- The node's call refuses this value, for its kind or for a size, or for its kind where it is the host's.
 pub data RefusesValue {H B : Type 0} (o : Objects H B) (w : World) (f : Frame) (node : Seen) (value : Tree) : Type 0 where
   for_kind : {fault : EvalAltResult} (r : RefusesKind o w f node fault) → r.value ≡ value → RefusesValue o w f node value
   for_size : {fault : EvalAltResult} (r : RefusesSize o w f node fault) → r.value ≡ value → RefusesValue o w f node value
-  for_host : {fault : EvalAltResult} (r : RefusesHosts o node fault) → r.value ≡ value → RefusesValue o w f node value
+  for_host : {fault : EvalAltResult} (r : RefusesHosts o w.engine node fault) → r.value ≡ value → RefusesValue o w f node value
 
--- what a function gave back of its first argument
-abbrev pub gave_back : NativeStep → Option Tree
-gave_back (Done v back) = back
-gave_back (Failed fault back) = back
-gave_back (Ask request carry) = None
-
--- The node shows what its function gave back with its last step.
-abbrev pub GivesBack : {H B : Type 0} → Objects H B → World → Frame → Seen → Pick → Type 0
-GivesBack o w f node pick = (last : NativeStep) × EndsWith o w f node pick last × (node.end.first_after ≡ gave_back last)
+-- The node shows what its function gave back of its first argument with its last step.
+abbrev pub ShowsGivenBack : {H B : Type 0} → Objects H B → World → Frame → Seen → Pick → Type 0
+ShowsGivenBack o w f node pick = (last : NativeStep) × EndsWith o w f node pick last × (node.end.first_after ≡ back_of last)

@@ -7,3 +7,7 @@ pub mod Unfound
 pub mod Owners
 pub mod PrintedTexts
 pub mod Matches
+pub mod Ran
+pub mod Reached
+pub mod OwnFaults
+pub mod Arguments

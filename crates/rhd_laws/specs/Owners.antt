@@ -7,17 +7,17 @@ use Rattle.rhd_func.specs.declared.request.HostAnswer.{HostAnswer}
 use Rattle.rhd_func.specs.declared.request.HostAnswer.TheVariants.{Value, Fault}
 use Rattle.rhd_func.specs.declared.request.NativeStep.{NativeStep}
 use Rattle.rhd_func.specs.declared.request.NativeStep.TheVariants.{Done, Failed}
-use Rattle.rhd_session.specs.Engine.{EngineLists, Frame}
+use Rattle.rhd_engine.specs.Engine.{EngineLists, Frame}
 use Rattle.rhd_session.specs.World.{World, Objects}
-use Rattle.rhd_session.specs.Ends.{End}
-use Rattle.rhd_session.specs.declared.limits.Printers.{Printers}
-use Rattle.rhd_session.specs.declared.pick.Pick.{Pick}
+use Rattle.rhd_call.specs.End.{End}
+use Rattle.rhd_engine.specs.declared.limits.Printers.{Printers}
+use Rattle.rhd_call.specs.declared.pick.Pick.{Pick}
 use Rattle.rhd_session.specs.Plans.{Plan, plan_of}
 use Rattle.rhd_laws.specs.Prints.{Makes}
 use Rattle.rhd_session.specs.Decisions.{Decision, ends, asks_host, runs}
 use Rattle.rhd_laws.specs.FirstAsks.{IsForHost}
 use Rattle.rhd_laws.specs.Hosts.{HostEnds}
-use Rattle.rhd_session.specs.Seen.{Seen}
+use Rattle.rhd_call.specs.Seen.{Seen}
 use Rattle.rhd_laws.specs.Causes.{EndsWith}
 
 -- the function that a call shows
@@ -35,7 +35,7 @@ pub data IsHosts (gave : HostAnswer) (answer : Result Tree EvalAltResult) : Type
 pub record IsAnsweredByHost {H B : Type 0} (o : Objects H B) (e : EngineLists) (f : Frame) (level : ℕ) (call : CallRequest) (from to : H) (end : End) : Type 0 where
   pub asked : IsForHost e f level call
   pub gave : HostAnswer
-  pub ended : HostEnds o call from gave to end
+  pub ended : HostEnds o e call from gave to end
   pub shown : IsHosts gave end.answer
 
 -- a function's last step gave the answer: what the call makes of its value, or its fault

@@ -4,13 +4,13 @@ use Rattle.rhd_value.specs.Tree.{Bytes, Tree}
 use Rattle.rhd_value.specs.Kinds.{text_in}
 use Rattle.rhd_value.specs.declared.tag.TypeTag.{TypeTag}
 use Rattle.rhd_func.specs.declared.request.NativeStep.TheVariants.{Done}
-use Rattle.rhd_session.specs.Engine.{Frame}
+use Rattle.rhd_engine.specs.Engine.{Frame}
 use Rattle.rhd_session.specs.World.{World, Objects}
-use Rattle.rhd_session.specs.declared.pick.Pick.{Pick}
+use Rattle.rhd_call.specs.declared.pick.Pick.{Pick}
 use Rattle.rhd_session.specs.Plans.{plan_of}
 use Rattle.rhd_laws.specs.Prints.{Prints, IsPrintable, Makes}
 use Rattle.rhd_laws.specs.Causes.{AreWithin, IsOfOtherKind, EndsWith}
-use Rattle.rhd_session.specs.Seen.{Seen}
+use Rattle.rhd_call.specs.Seen.{Seen}
 
 -- The node's function is the native `print` or `debug`, whose printer is set, and it ended with this text within the limits.
 pub record ShowsText {H B : Type 0} (o : Objects H B) (w : World) (f : Frame) (node : Seen) (text : Bytes) : Type 0 where
@@ -18,7 +18,7 @@ pub record ShowsText {H B : Type 0} (o : Objects H B) (w : World) (f : Frame) (n
   pub back : Option Tree
   pub answer : Tree
   pub ended : EndsWith o w f node pick (Done answer back)
-  pub within : AreWithin w.engine.limits (plan_of node.call) pick back answer
+  pub within : AreWithin w.engine (plan_of node.call) pick back answer
   pub set : Prints w.engine.printers (plan_of node.call) pick true
   pub is_text : text_in answer.kind ≡ Some text
 
@@ -28,7 +28,7 @@ pub record AnswersValue {H B : Type 0} (o : Objects H B) (w : World) (f : Frame)
   pub back : Option Tree
   pub answer : Tree
   pub ended : EndsWith o w f node pick (Done answer back)
-  pub within : AreWithin w.engine.limits (plan_of node.call) pick back answer
+  pub within : AreWithin w.engine (plan_of node.call) pick back answer
   pub printable : IsPrintable w.engine.printers (plan_of node.call) pick answer
   pub makes : Makes w.engine.printers (plan_of node.call) pick answer value
   pub wanted : (kind : TypeTag) → IsOfOtherKind (plan_of node.call).want kind value → ⊥

@@ -3,9 +3,9 @@ use Rattle.std.specs.Prelude.{◌≡◌, Bool, true, false, Some, codes}
 use Rattle.rhd_value.specs.Tree.{Bytes, Tree, unit}
 use Rattle.rhd_value.specs.Kinds.{plain, text_in}
 use Rattle.rhd_func.specs.Funcs.{is_script}
-use Rattle.rhd_session.specs.declared.limits.Printers.{Printers}
-use Rattle.rhd_session.specs.declared.pick.Layer.TheVariants.{Builtin}
-use Rattle.rhd_session.specs.declared.pick.Pick.{Pick}
+use Rattle.rhd_engine.specs.declared.limits.Printers.{Printers}
+use Rattle.rhd_call.specs.declared.pick.Layer.TheVariants.{Builtin}
+use Rattle.rhd_call.specs.declared.pick.Pick.{Pick}
 use Rattle.rhd_session.specs.Plans.{Plan}
 
 -- the function is a native that was found by its name: no script, and no built-in

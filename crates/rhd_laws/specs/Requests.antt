@@ -4,18 +4,18 @@ use Rattle.rhd_func.specs.declared.request.CallRequest.{CallRequest}
 use Rattle.rhd_func.specs.declared.request.Carry.{Carry}
 use Rattle.rhd_func.specs.declared.request.NativeStep.{NativeStep}
 use Rattle.rhd_func.specs.declared.request.NativeStep.TheVariants.{Ask}
-use Rattle.rhd_session.specs.Engine.{Frame}
+use Rattle.rhd_engine.specs.Engine.{Frame}
 use Rattle.rhd_session.specs.World.{World, Objects, Moment}
-use Rattle.rhd_session.specs.declared.pick.Pick.{Pick}
-use Rattle.rhd_session.specs.declared.node.CallNode.{CallNode}
+use Rattle.rhd_call.specs.declared.pick.Pick.{Pick}
+use Rattle.rhd_call.specs.declared.node.CallNode.{CallNode}
 use Rattle.rhd_session.specs.Plans.{Plan, plan_of}
-use Rattle.rhd_session.specs.Ends.{End}
+use Rattle.rhd_call.specs.End.{End}
 use Rattle.rhd_session.specs.Ends.{end_of}
 use Rattle.rhd_session.specs.Entered.{context}
-use Rattle.rhd_session.specs.Seen.{Seen, seen, cut_end, done_of}
+use Rattle.rhd_call.specs.Seen.{Seen, seen, cut_end, done_of}
 use Rattle.rhd_session.specs.Steps.{Starts, Resumes}
 use Rattle.rhd_session.specs.Runs.{received_by}
-use Rattle.rhd_session.specs.Trees.{CutTree}
+use Rattle.rhd_call.specs.Trees.{CutTree}
 
 -- From this step on the function keeps these carries, its requests are the calls of these children, and the call ends so.
 -- The truth value says whether the budget was spent.
@@ -33,7 +33,7 @@ pub data Requests {H B : Type 0} (o : Objects H B) (w : World) (f : Frame) (leve
   -- it is given the answer to the call that it asks for, and goes on
   one_then : {step next : NativeStep} {carry : Carry} {child : CallNode} {carries : List Carry} {children : List CallNode} {end : End} {cut : Bool} {before after : Moment H B} →
       step ≡ Ask (seen child).call carry →
-      Resumes o (context f level plan) pick.func carry (done_of child) before next after →
+      Resumes o w.engine.natives (context f level plan pick) pick.func carry (done_of child) before next after →
       Requests o w f level call plan pick next carries children end cut →
       Requests o w f level call plan pick step (carry ∷ carries) (child ∷ children) end cut
 
@@ -41,5 +41,5 @@ pub data Requests {H B : Type 0} (o : Objects H B) (w : World) (f : Frame) (leve
 abbrev pub ShowsRequests : {H B : Type 0} → Objects H B → World → Frame → Seen → Pick → Bool → Type 0
 ShowsRequests {H} {B} o w f node pick cut =
     let plan = plan_of node.call in
-    (before : Moment H B) × (first : NativeStep) × (after : Moment H B) × Starts o (context f node.level plan) pick.func (received_by plan pick) before first after
+    (before : Moment H B) × (first : NativeStep) × (after : Moment H B) × Starts o w.engine.natives (context f node.level plan pick) pick.func (received_by w.engine plan pick) before first after
     × Requests o w f node.level node.call plan pick first node.carries node.children node.end cut

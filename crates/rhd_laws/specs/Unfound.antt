@@ -6,11 +6,11 @@ use Rattle.rhd_value.specs.declared.fault.EvalAltResult.TheVariants.{ErrorFuncti
 use Rattle.rhd_func.specs.declared.request.CallRequest.{CallRequest}
 use Rattle.rhd_func.specs.declared.request.HostAnswer.TheVariants.{Nothing}
 use Rattle.rhd_func.specs.Shapes.{all_args}
-use Rattle.rhd_session.specs.Engine.{EngineLists, Frame}
+use Rattle.rhd_engine.specs.Engine.{EngineLists, Frame}
 use Rattle.rhd_session.specs.World.{Objects}
-use Rattle.rhd_session.specs.Ends.{End}
+use Rattle.rhd_call.specs.End.{End}
 use Rattle.rhd_session.specs.Plans.{only_natives, plan_of}
-use Rattle.rhd_session.specs.NotFound.{not_found}
+use Rattle.rhd_engine.specs.NotFound.{not_found}
 use Rattle.rhd_session.specs.Decisions.{refusal}
 use Rattle.rhd_laws.specs.FirstAsks.{IsUnanswered, IsForHost}
 use Rattle.rhd_laws.specs.Hosts.{HostEnds}
@@ -46,10 +46,10 @@ IsAccess name n = IsProperty name n ⊎ IsIndexer name n
 
 -- Nothing refuses the call, and neither a declaration nor a built-in answers it; and the host isn't asked, as natives alone are meant, or gave nothing between these states, and the call ends so.
 pub data AllFail {H B : Type 0} (o : Objects H B) (e : EngineLists) (f : Frame) (level : ℕ) (call : CallRequest) (from to : H) (end : End) : Type 0 where
-  without_host : refusal e level call ≡ None → only_natives (plan_of call).search ≡ true → IsUnanswered e f call → AllFail o e f level call from to end
-  and_host : IsForHost e f level call → HostEnds o call from Nothing to end → AllFail o e f level call from to end
+  without_host : refusal e f level call ≡ None → only_natives (plan_of call).search ≡ true → IsUnanswered e f call → AllFail o e f level call from to end
+  and_host : IsForHost e f level call → HostEnds o e call from Nothing to end → AllFail o e f level call from to end
 
 -- so it is, and the fault is that of its name and arguments
 pub record IsUnfound {H B : Type 0} (o : Objects H B) (e : EngineLists) (f : Frame) (level : ℕ) (call : CallRequest) (from to : H) (end : End) (fault : EvalAltResult) : Type 0 where
   pub all_fail : AllFail o e f level call from to end
-  pub says : fault ≡ not_found (plan_of call).pos (plan_of call).name (all_args (plan_of call).shape)
+  pub says : fault ≡ not_found e (plan_of call).pos (plan_of call).name (all_args (plan_of call).shape)

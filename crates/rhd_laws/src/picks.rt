@@ -1,6 +1,6 @@
 //! Laws of what answers a call.
 
-ghost use Rattle.std.specs.Prelude.{◌≡◌, ◌↔◌, ◌≤◌, ◌<◌, ℕ, Bool, true, List, map, slice_get, Some, None};
+ghost use Rattle.std.specs.Prelude.{◌≡◌, ◌↔◌, ◌≤◌, ◌<◌, ℕ, true, List, map, slice_get, Some, None};
 ghost use Rattle.std.specs.List.{Contains};
 ghost use Rattle.rhd_value.specs.declared.tag.TypeTag.{TypeTag};
 ghost use Rattle.rhd_func.specs.declared.request.CallRequest.{CallRequest};
@@ -8,42 +8,42 @@ ghost use Rattle.rhd_value.specs.Kinds.{tag_of};
 ghost use Rattle.rhd_value.specs.Tree.{Bytes, Tree};
 ghost use Rattle.rhd_module.specs.declared.key.Key.{Key};
 ghost use Rattle.rhd_module.specs.declared.key.Key.TheVariants.{Native};
-ghost use Rattle.rhd_session.specs.declared.pick.Pick.{Pick};
-ghost use Rattle.rhd_session.specs.Engine.{EngineLists, Frame};
-ghost use Rattle.rhd_session.specs.Patterns.{patterns};
-ghost use Rattle.rhd_session.specs.Searched.{found};
+ghost use Rattle.rhd_call.specs.declared.pick.Pick.{Pick};
+ghost use Rattle.rhd_engine.specs.Engine.{EngineLists, Frame};
+ghost use Rattle.rhd_dispatch.specs.Patterns.{patterns};
+ghost use Rattle.rhd_dispatch.specs.Searched.{found};
 ghost use Rattle.rhd_laws.specs.FirstAsks.{IsAnsweredFirst, IsUnanswered};
 ghost use Rattle.rhd_session.specs.Plans.{plan_of};
 ghost use Rattle.rhd_session.specs.Decisions.{decision, refusal};
 ghost use Rattle.rhd_laws.specs.Owners.{shown_pick};
-ghost use Rattle.rhd_session.specs.Runs.{Runs, received_by};
+ghost use Rattle.rhd_session.specs.Runs.{received_by};
 ghost use Rattle.rhd_value.specs.declared.fault.EvalAltResult.{EvalAltResult};
-ghost use Rattle.rhd_session.specs.declared.node.CallNode.{CallNode};
-ghost use Rattle.rhd_session.specs.declared.node.Whose.TheVariants as owners;
-ghost use Rattle.rhd_session.specs.World.{Moment};
+ghost use Rattle.rhd_call.specs.declared.node.CallNode.{CallNode};
+ghost use Rattle.rhd_call.specs.declared.node.Whose.TheVariants as owners;
 ghost use Rattle.rhd_session.specs.Objects.{objects_of};
-ghost use Rattle.rhd_session.specs.Of.{natives_of, world_of};
-ghost use Rattle.rhd_session.specs.Seen.{seen};
-ghost use Rattle.rhd_session.specs.Trees.{InTree, frame_at};
+ghost use Rattle.rhd_laws.specs.Ran.{Ran};
+ghost use Rattle.rhd_call.specs.Seen.{seen};
+ghost use Rattle.rhd_call.specs.Trees.{InTree};
+ghost use Rattle.rhd_session.specs.Trees.{frame_at};
 ghost use Rattle.rhd_laws.specs.Unfound.{fault_number};
 ghost use Rattle.rhd_laws.specs.Causes.{IsOwn};
 ghost use Rattle.rhd_laws.specs.Matches.{TypesMatch, IsMoreExact, IsInFirstModule, NoneDeclares, NoneMatches, IsFirstMatch, HasBuiltin, IsAnsweredBy, all_received};
 
-use rhd_func::{Bodies, Host};
-use rhd_session::Session;
+use rhd_func::{Bodies, Host, Natives};
 
 /// The patterns of some kinds are exactly the types that match them place by place. Of two patterns
 /// of the kinds of some arguments, one goes before the other exactly where it is the more exact.
 pub fn the_patterns_of_kinds_match_them()
     ensures matching { (kinds types : List TypeTag) → Contains (patterns kinds) types ↔ TypesMatch types kinds }
-    ensures order { (args : List Tree) (types others : List TypeTag) (i j : ℕ) → slice_get (patterns (map tag_of args)) i ≡ Some types → slice_get (patterns (map tag_of args)) j ≡ Some others → (i < j) ↔ IsMoreExact (map tag_of args) types others }
+    ensures order { (args : List Tree) (types others : List TypeTag) (i j : ℕ) → slice_get (patterns (map tag_of args)) i ≡ Some types
+        → slice_get (patterns (map tag_of args)) j ≡ Some others → (i < j) ↔ IsMoreExact (map tag_of args) types others }
 {}
 
 /// A key is found in the first module of a frame that declares it, libraries latest first and then
 /// the global modules, and isn't found exactly where none does.
 pub fn a_key_is_found_in_the_first_module()
-    ensures found { (e : EngineLists) (f : Frame) (key : Key) (pick : Pick) → (found e f key ≡ Some pick) ↔ IsInFirstModule e f key pick }
-    ensures missing { (e : EngineLists) (f : Frame) (key : Key) → (found e f key ≡ None) ↔ NoneDeclares e f key }
+    ensures found { (e : EngineLists) (f : Frame) (key : Key) (pick : Pick) → (found e f.lib f.imports key ≡ Some pick) ↔ IsInFirstModule e f key pick }
+    ensures missing { (e : EngineLists) (f : Frame) (key : Key) → (found e f.lib f.imports key ≡ None) ↔ NoneDeclares e f key }
 {}
 
 /// A function answers a call exactly where it is of the first declaration that matches the call, or
@@ -52,16 +52,27 @@ pub fn a_key_is_found_in_the_first_module()
 /// native that is declared under a call's name receives arguments whose kinds match its types.
 pub fn a_pick_matches_its_call()
     ensures answered { (e : EngineLists) (f : Frame) (call : CallRequest) (pick : Pick) → IsAnsweredFirst e f call pick ↔ IsAnsweredBy e f call pick }
-    ensures unanswered { (e : EngineLists) (f : Frame) (call : CallRequest) → IsUnanswered e f call ↔ (NoneMatches e f call × ((pick : Pick) → HasBuiltin e call pick → ⊥)) }
-    ensures shown { (e : EngineLists) (f : Frame) (level : ℕ) (call : CallRequest) (pick : Pick) → (shown_pick (decision e f level call) ≡ Some pick) ↔ ((refusal e level call ≡ None) × IsAnsweredBy e f call pick) }
-    ensures receives { (e : EngineLists) (f : Frame) (call : CallRequest) (name : Bytes) (types : List TypeTag) (pick : Pick) → IsFirstMatch e f call (Native None name types) pick → TypesMatch types (map tag_of (all_received (received_by (plan_of call) pick))) }
+    ensures unanswered { (e : EngineLists) (f : Frame) (call : CallRequest)
+        → IsUnanswered e f call ↔ (NoneMatches e f call × ((pick : Pick) → HasBuiltin e call pick → ⊥)) }
+    ensures shown { (e : EngineLists) (f : Frame) (level : ℕ) (call : CallRequest) (pick : Pick)
+        → (shown_pick (decision e f level call) ≡ Some pick) ↔ ((refusal e f level call ≡ None) × IsAnsweredBy e f call pick) }
+    ensures receives { (e : EngineLists) (f : Frame) (call : CallRequest) (name : Bytes) (types : List TypeTag) (pick : Pick)
+        → IsFirstMatch e f call (Native None name types) pick → TypesMatch types (map tag_of (all_received (received_by e (plan_of call) pick))) }
 {}
 
 /// Each call of a tree that is begun shows a function exactly where nothing refuses it and that is of
 /// the first declaration that matches it in its frame, or else the built-in. Where the host answers a
 /// call, or it isn't found, no declaration matches it and the table has no built-in for it.
-pub fn each_call_of_a_tree_shows_its_first_match<H: Host, B: Bodies>(session: &Session)
-    ensures shown { (f : Frame) (level : ℕ) (call : CallRequest) (root node : CallNode) (before after : Moment H B) (cut : Bool) (inside : InTree node root) (pick : Pick) → Runs (objects_of allows_call allows_resume B.allows_start B.allows_next H.allows_missing (natives_of session.now)) (world_of info session.now) f level call root before after cut → (seen node).begun ≡ true → ((seen node).pick ≡ Some pick) ↔ ((refusal (world_of info session.now).engine (seen node).level (seen node).call ≡ None) × IsAnsweredBy (world_of info session.now).engine (frame_at f inside) (seen node).call pick) }
-    ensures host { (f : Frame) (level : ℕ) (call : CallRequest) (root node : CallNode) (before after : Moment H B) (cut : Bool) (inside : InTree node root) → Runs (objects_of allows_call allows_resume B.allows_start B.allows_next H.allows_missing (natives_of session.now)) (world_of info session.now) f level call root before after cut → (seen node).end.whose ≡ owners.Host → NoneMatches (world_of info session.now).engine (frame_at f inside) (seen node).call × ((pick : Pick) → HasBuiltin (world_of info session.now).engine (seen node).call pick → ⊥) }
-    ensures missing { (f : Frame) (level : ℕ) (call : CallRequest) (root node : CallNode) (before after : Moment H B) (cut : Bool) (inside : InTree node root) (fault : EvalAltResult) → Runs (objects_of allows_call allows_resume B.allows_start B.allows_next H.allows_missing (natives_of session.now)) (world_of info session.now) f level call root before after cut → (seen node).begun ≡ true → fault_number fault ≤ 4 → IsOwn (seen node).end fault → NoneMatches (world_of info session.now).engine (frame_at f inside) (seen node).call × ((pick : Pick) → HasBuiltin (world_of info session.now).engine (seen node).call pick → ⊥) }
+pub fn each_call_of_a_tree_shows_its_first_match<H: Host, B: Bodies>(natives: &Natives)
+    ensures shown { let o = objects_of allows_call allows_resume B.allows_start B.allows_next H.allows_missing natives.now in
+        (r : Ran o) (node : CallNode) (inside : InTree node r.node) (pick : Pick) → (seen node).begun ≡ true → ((seen node).pick ≡ Some pick)
+        ↔ ((refusal r.world.engine (frame_at r.world r.frame inside) (seen node).level (seen node).call ≡ None)
+        × IsAnsweredBy r.world.engine (frame_at r.world r.frame inside) (seen node).call pick) }
+    ensures host { let o = objects_of allows_call allows_resume B.allows_start B.allows_next H.allows_missing natives.now in
+        (r : Ran o) (node : CallNode) (inside : InTree node r.node) → (seen node).end.whose ≡ owners.Host
+        → NoneMatches r.world.engine (frame_at r.world r.frame inside) (seen node).call × ((pick : Pick) → HasBuiltin r.world.engine (seen node).call pick → ⊥) }
+    ensures missing { let o = objects_of allows_call allows_resume B.allows_start B.allows_next H.allows_missing natives.now in
+        (r : Ran o) (node : CallNode) (inside : InTree node r.node) (fault : EvalAltResult) → (seen node).begun ≡ true → fault_number fault ≤ 4
+        → IsOwn (seen node).end fault
+        → NoneMatches r.world.engine (frame_at r.world r.frame inside) (seen node).call × ((pick : Pick) → HasBuiltin r.world.engine (seen node).call pick → ⊥) }
 {}

@@ -6,7 +6,7 @@ pub returns-clause-place : goal.returns-clause-place
 returns-clause-place g c = λ shape n. place_exactly shape n
 
 pub returns-clause-ends : goal.returns-clause-ends
-returns-clause-ends g c = λ f level call node before after cut text pos r begun. race_exactly _ _ text pos (runs_end _ _ r) begun
+returns-clause-ends g c = λ r text pos begun. race_exactly _ _ text pos (runs_end _ _ r.runs) begun
 
 pub returns-clause-shown : goal.returns-clause-shown
-returns-clause-shown g c = λ f level call node before after cut n r begun l first. race_shown _ _ n (runs_end _ _ r) begun l first
+returns-clause-shown g c = λ r n begun l first. race_shown _ _ n (runs_end _ _ r.runs) begun l first

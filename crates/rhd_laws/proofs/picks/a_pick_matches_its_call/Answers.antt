@@ -1,4 +1,4 @@
-use Rattle.rhd_session.specs.Received.{manner_of}
+use Rattle.rhd_session.specs.Received.{convention_of}
 use Rattle.rhd_laws.proofs.FirstAnswered.{picked_exactly}
 use Rattle.rhd_laws.proofs.PickCalls.{first_match}
 use Rattle.rhd_laws.proofs.PickAnswers.{match_first, unanswered_exactly, receives}
@@ -14,4 +14,4 @@ pub returns-clause-shown : goal.returns-clause-shown
 returns-clause-shown c = λ e f level call pick. (let r = picked_exactly e f level call pick in (λ h. ((r.0 h).0, first_match e f call pick (r.0 h).1), λ h. r.1 (h.0, match_first e f call pick h.1)))
 
 pub returns-clause-receives : goal.returns-clause-receives
-returns-clause-receives c = λ e f call name types pick m. receives call name types (manner_of pick.func) m.matches
+returns-clause-receives c = λ e f call name types pick m. receives e call name types (convention_of e.natives pick.func) m.matches

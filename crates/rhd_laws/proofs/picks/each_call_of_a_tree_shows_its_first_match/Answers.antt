@@ -1,4 +1,4 @@
-use Rattle.rhd_session.specs.Seen.{seen}
+use Rattle.rhd_call.specs.Seen.{seen}
 use Rattle.rhd_session.specs.Trees.{frame_at}
 use Rattle.rhd_laws.proofs.TreeFaults.{tree_picked}
 use Rattle.rhd_laws.proofs.Owned.{tree_host, tree_unfound}
@@ -7,14 +7,14 @@ use Rattle.rhd_laws.proofs.PickAnswers.{match_first, unanswered_exactly, not_fou
 use Rattle.rhd_laws.proofs.picks.each_call_of_a_tree_shows_its_first_match.Goals as goal
 
 pub returns-clause-shown : goal.returns-clause-shown
-returns-clause-shown g c = λ f level call root node before after cut inside pick r begun.
-    (let t = tree_picked _ _ inside pick r begun in
-    (λ h. ((t.0 h).0, first_match _ (frame_at f inside) (seen node).call pick (t.0 h).1), λ h. t.1 (h.0, match_first _ (frame_at f inside) (seen node).call pick h.1)))
+returns-clause-shown g c = λ r node inside pick begun.
+    (let t = tree_picked _ _ inside pick r.runs begun in
+    (λ h. ((t.0 h).0, first_match _ (frame_at r.world r.frame inside) (seen node).call pick (t.0 h).1), λ h. t.1 (h.0, match_first _ (frame_at r.world r.frame inside) (seen node).call pick h.1)))
 
 pub returns-clause-host : goal.returns-clause-host
-returns-clause-host g c = λ f level call root node before after cut inside r h.
-    (unanswered_exactly _ (frame_at f inside) (seen node).call).0 ((tree_host _ _ inside r).0 h).2.asked.unanswered
+returns-clause-host g c = λ r node inside h.
+    (unanswered_exactly _ (frame_at r.world r.frame inside) (seen node).call).0 ((tree_host _ _ inside r.runs).0 h).2.asked.unanswered
 
 pub returns-clause-missing : goal.returns-clause-missing
-returns-clause-missing g c = λ f level call root node before after cut inside fault r begun small h.
-    (unanswered_exactly _ (frame_at f inside) (seen node).call).0 (not_found_unanswered ((tree_unfound _ _ inside fault r begun small).0 h).2.all_fail)
+returns-clause-missing g c = λ r node inside fault begun small h.
+    (unanswered_exactly _ (frame_at r.world r.frame inside) (seen node).call).0 (not_found_unanswered ((tree_unfound _ _ inside fault r.runs begun small).0 h).2.all_fail)

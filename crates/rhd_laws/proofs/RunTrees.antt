@@ -1,0 +1,170 @@
+-- Where the trees of a run stand.
+use Rattle.std.proofs.Common.{◌≡◌, ℕ, Bool, List, [], ◌∷◌, length, refl, sym, ap, subst, ◌∙◌}
+use Rattle.std.specs.Prelude.{zero, suc, take, slice_get, Option, None, Some, option_map, Result, Ok, Err}
+use Rattle.std.proofs.Math.Seq.{take-length}
+use Rattle.rhd_func.specs.declared.request.CallRequest.{CallRequest}
+use Rattle.rhd_func.specs.Natives.{info_of}
+use Rattle.rhd_module.specs.declared.fault.DeclFault.{DeclFault}
+use Rattle.rhd_call.specs.declared.command.Command.{Command}
+use Rattle.rhd_call.specs.declared.command.Command.TheVariants.{NewModule, Script, RegisterFn, PushLib, PopLib, Call}
+use Rattle.rhd_call.specs.declared.command.ModuleId.{ModuleId}
+use Rattle.rhd_call.specs.declared.node.CallNode.{CallNode}
+use Rattle.rhd_call.specs.declared.reply.Reply.{Reply}
+use Rattle.rhd_call.specs.declared.reply.Reply.TheVariants.{Done, Made, Refused, Called}
+use Rattle.rhd_call.specs.declared.reply.Stopped.{Stopped}
+use Rattle.rhd_call.specs.Trees.{InTree}
+use Rattle.rhd_engine.specs.Engine.{Frame}
+use Rattle.rhd_session.specs.Answered.{Declares, refused, done, Applied, declared, CallReplied, Replied, Answered, RunGives}
+use Rattle.rhd_session.specs.Commands.{change, Change}
+use Rattle.rhd_session.specs.Runs.{Runs}
+use Rattle.rhd_session.specs.Trees.{frame_at, RunsAt}
+use Rattle.rhd_session.specs.World.{World, Objects, Moment}
+use Rattle.rhd_laws.specs.Ran.{RunOf, IsRunOf}
+use Rattle.rhd_laws.specs.Reached.{IsTreeAt}
+use Rattle.rhd_laws.proofs.TreeLaws.{tree_runs}
+
+-- no declaring command answers a tree
+refused_tree : (fault : DeclFault) (root : CallNode) → Refused fault ≡ Called root → ⊥
+refused_tree fault root h = absurd cc
+
+made_tree : (id : ModuleId) (root : CallNode) → Made id ≡ Called root → ⊥
+made_tree id root h = absurd cc
+
+done_tree : (root : CallNode) → Done ≡ Called root → ⊥
+done_tree root h = absurd cc
+
+same_change : (a b : Change) → Some a ≡ Some b → a ≡ b
+same_change a b h = cc
+
+-- what a change replies
+change_replies : (a c : Change) (reply : Reply) → Some a ≡ Some c → a.reply ≡ reply → c.reply ≡ reply
+change_replies a c reply h is = sym (ap (λ (x : Change). x.reply) (same_change a c h)) ∙ is
+
+mapped_replies : {A : Type 0} (g : A → Change) (reply : Reply) (o : Option A) (c : Change) → ((a : A) → (g a).reply ≡ reply) → option_map g o ≡ Some c → c.reply ≡ reply
+mapped_replies g reply None c is h = absurd cc
+mapped_replies g reply (Some a) c is h = change_replies (g a) c reply h (is a)
+
+change_tree : (w : World) (f : Frame) (command : Command) (c : Change) (root : CallNode) → change w f command ≡ Some c → c.reply ≡ Called root → ⊥
+change_tree w f NewModule c root h is = made_tree _ root (sym (change_replies _ c _ h refl) ∙ is)
+change_tree w f (Script m def) c root h is = done_tree root (sym (mapped_replies _ Done (slice_get w.modules m.0) c (λ a. refl) h) ∙ is)
+change_tree w f (RegisterFn name id) c root h is = done_tree root (sym (mapped_replies _ Done (info_of w.engine.natives id) c (λ a. refl) h) ∙ is)
+change_tree w f (PushLib m) c root h is = done_tree root (sym (mapped_replies _ Done (slice_get w.modules m.0) c (λ a. refl) h) ∙ is)
+change_tree w f PopLib c root h is = done_tree root (sym (change_replies _ c _ h refl) ∙ is)
+change_tree w f (Call request) c root h is = absurd cc
+
+declares_tree : {w w2 : World} {f f2 : Frame} {command : Command} {reply : Reply} (root : CallNode) → Declares w f command reply w2 f2 → reply ≡ Called root → ⊥
+declares_tree root (refused {fault = fault} h) is = refused_tree fault root is
+declares_tree {w} {f = f} {command = command} root (done {c = c} none h) is = change_tree w f command c root h is
+
+applied_tree : {H B : Type 0} {o : Objects H B} {w w2 : World} {f f2 : Frame} {command : Command} {reply : Reply} (root : CallNode) → Applied o w f command reply w2 f2 → reply ≡ Called root → ⊥
+applied_tree root (declared d) is = declares_tree root d is
+
+got : {A : Type 0} (x y : A) → ◌≡◌ {A = Option A} (Some x) (Some y) → x ≡ y
+got x y e = cc
+
+module _ {H B : Type 0} (o : Objects H B) where
+  -- the reply to a command that is a tree
+  record IsTreeOf (w : World) (f : Frame) (before : Moment H B) (command : Command) (root : CallNode) (after : Moment H B) : Type 0 where
+    request : CallRequest
+    asked : command ≡ Call request
+    replied : CallReplied o w f before request (Called root) after
+
+  replied_tree : (w w2 : World) (f f2 : Frame) (before after : Moment H B) (command : Command) (reply : Reply) (root : CallNode) → Replied o w f before command reply w2 f2 after → reply ≡ Called root → IsTreeOf w f before command root after
+  replied_tree w w2 f f2 before after NewModule reply root r is = absurd (applied_tree root r.0 is)
+  replied_tree w w2 f f2 before after (Script m def) reply root r is = absurd (applied_tree root r.0 is)
+  replied_tree w w2 f f2 before after (RegisterFn name id) reply root r is = absurd (applied_tree root r.0 is)
+  replied_tree w w2 f f2 before after (PushLib m) reply root r is = absurd (applied_tree root r.0 is)
+  replied_tree w w2 f f2 before after PopLib reply root r is = absurd (applied_tree root r.0 is)
+  replied_tree w w2 f f2 before after (Call request) reply root r is = record { request = request; asked = refl; replied = subst (λ (x : Reply). CallReplied o w f before request x after) is r.0 }
+
+  -- the tree at a place of the replies
+  record StandsAt (w : World) (f : Frame) (before : Moment H B) (commands : List Command) (replies : List Reply) (n : ℕ) (root : CallNode) : Type 0 where
+    world : World
+    frame : Frame
+    from : Moment H B
+    to : Moment H B
+    request : CallRequest
+    cut : Bool
+    reached : Answered o w f before (take n commands) (take n replies) world frame from
+    asked : slice_get commands n ≡ Some (Call request)
+    runs : Runs o world frame 1 request root from to cut
+
+  -- each tree that is answered is that of a call
+  answered_tree : (w w2 : World) (f f2 : Frame) (before after : Moment H B) (commands : List Command) (replies : List Reply) (n : ℕ) (root : CallNode)
+      → Answered o w f before commands replies w2 f2 after → slice_get replies n ≡ Some (Called root) → StandsAt w f before commands replies n root
+  answered_tree w w2 f f2 before after [] [] n root a h = absurd cc
+  answered_tree w w2 f f2 before after [] (reply ∷ replies) n root a h = absurd a
+  answered_tree w w2 f f2 before after (command ∷ commands) [] n root a h = absurd a
+  answered_tree w w2 f f2 before after (command ∷ commands) (reply ∷ replies) zero root a h =
+      let r = replied_tree w a.0 f a.1 before a.2 command reply root a.3 (got reply (Called root) h) in
+      record { world = w; frame = f; from = before; to = a.2; request = r.request; cut = r.replied.0; reached = (refl, refl, refl); asked = ap Some r.asked; runs = r.replied.1 }
+  answered_tree w w2 f f2 before after (command ∷ commands) (reply ∷ replies) (suc n) root a h =
+      let r = answered_tree a.0 w2 a.1 f2 a.2 after commands replies n root a.4 h in
+      record { world = r.world; frame = r.frame; from = r.from; to = r.to; request = r.request; cut = r.cut; reached = (a.0, a.1, a.2, a.3, r.reached); asked = r.asked; runs = r.runs }
+
+  pub run_tree : (run : RunOf o) (n : ℕ) (root : CallNode) → slice_get run.replies n ≡ Some (Called root) → IsTreeAt o run n root
+  run_tree run n root h =
+      let r = answered_tree run.world run.last_world run.frame run.last_frame run.before run.after run.commands run.replies n root run.answered h in
+      record {
+        ran = record { world = r.world; frame = r.frame; level = 1; call = r.request; node = root; before = r.from; after = r.to; cut = r.cut; runs = r.runs };
+        root_is = refl;
+        level_is = refl;
+        asked = r.asked;
+        reached = r.reached;
+      }
+
+  -- each of its nodes runs there
+  node_runs : {node own root : CallNode} (inside : InTree node root) (w : World) (f : Frame) (level : ℕ) (call : CallRequest) (before after : Moment H B) (cut : Bool)
+      → Runs o w f level call own before after cut → own ≡ root → RunsAt o w (frame_at w f inside) node
+  node_runs inside w f level call before after cut r is = tree_runs o w inside (subst (λ (x : CallNode). Runs o w f level call x before after cut) is r)
+
+  pub run_node : (run : RunOf o) (n : ℕ) (root node : CallNode) (inside : InTree node root) → slice_get run.replies n ≡ Some (Called root)
+      → (tree : IsTreeAt o run n root) × RunsAt o tree.ran.world (frame_at tree.ran.world tree.ran.frame inside) node
+  run_node run n root node inside h =
+      let t = run_tree run n root h in
+      (t, node_runs inside t.ran.world t.ran.frame t.ran.level t.ran.call t.ran.before t.ran.after t.ran.cut t.ran.runs t.root_is)
+
+  -- each call is answered by a tree
+  replied_call : (w : World) (f : Frame) (before after : Moment H B) (request : CallRequest) (reply : Reply) → CallReplied o w f before request reply after → (root : CallNode) × (reply ≡ Called root)
+  replied_call w f before after request (Called root) r = (root, refl)
+  replied_call w f before after request Done r = absurd r
+  replied_call w f before after request (Made id) r = absurd r
+  replied_call w f before after request (Refused fault) r = absurd r
+
+  call_replied : (w w2 : World) (f f2 : Frame) (before after : Moment H B) (command : Command) (reply : Reply) (request : CallRequest) → Replied o w f before command reply w2 f2 after
+      → command ≡ Call request → (root : CallNode) × (reply ≡ Called root)
+  call_replied w w2 f f2 before after command reply request r is =
+      replied_call w f before after request reply (subst (λ (c : Command). Replied o w f before c reply w2 f2 after) is r).0
+
+  answered_call : (w w2 : World) (f f2 : Frame) (before after : Moment H B) (commands : List Command) (replies : List Reply) (n : ℕ) (request : CallRequest)
+      → Answered o w f before commands replies w2 f2 after → slice_get commands n ≡ Some (Call request) → (root : CallNode) × (slice_get replies n ≡ Some (Called root))
+  answered_call w w2 f f2 before after [] [] n request a h = absurd cc
+  answered_call w w2 f f2 before after [] (reply ∷ replies) n request a h = absurd a
+  answered_call w w2 f f2 before after (command ∷ commands) [] n request a h = absurd a
+  answered_call w w2 f f2 before after (command ∷ commands) (reply ∷ replies) zero request a h =
+      let r = call_replied w a.0 f a.1 before a.2 command reply request a.3 (got command (Call request) h) in (r.0, ap Some r.1)
+  answered_call w w2 f f2 before after (command ∷ commands) (reply ∷ replies) (suc n) request a h = answered_call a.0 w2 a.1 f2 a.2 after commands replies n request a.4 h
+
+  answered_many : (w w2 : World) (f f2 : Frame) (before after : Moment H B) (commands : List Command) (replies : List Reply) → Answered o w f before commands replies w2 f2 after → length replies ≡ length commands
+  answered_many w w2 f f2 before after [] [] a = refl
+  answered_many w w2 f f2 before after [] (reply ∷ replies) a = absurd a
+  answered_many w w2 f f2 before after (command ∷ commands) [] a = absurd a
+  answered_many w w2 f f2 before after (command ∷ commands) (reply ∷ replies) a = ap suc (answered_many a.0 w2 a.1 f2 a.2 after commands replies a.4)
+
+  pub run_call : (run : RunOf o) (n : ℕ) (request : CallRequest) → slice_get run.commands n ≡ Some (Call request) → (root : CallNode) × (slice_get run.replies n ≡ Some (Called root))
+  run_call run n request h = answered_call run.world run.last_world run.frame run.last_frame run.before run.after run.commands run.replies n request run.answered h
+
+  pub run_many : (run : RunOf o) → length run.replies ≡ length run.commands
+  run_many run = answered_many run.world run.last_world run.frame run.last_frame run.before run.after run.commands run.replies run.answered
+
+  -- what a run gives
+  pub run_gives : (w w2 : World) (f f2 : Frame) (before after : Moment H B) (commands : List Command) (result : Result (List Reply) Stopped) → RunGives (record { objects = o; world = w; frame = f }) before commands result w2 f2 after
+      → (run : RunOf o) × IsRunOf o w f before commands result run
+  run_gives w w2 f f2 before after commands (Ok replies) h = (
+    record { world = w; frame = f; before = before; commands = commands; replies = replies; last_world = w2; last_frame = f2; after = after; answered = h.0 },
+    record { world_is = refl; frame_is = refl; before_is = refl; first = sym (ap (λ n. take n commands) h.1 ∙ take-length commands); given = refl },
+  )
+  run_gives w w2 f f2 before after commands (Err stopped) h = (
+    record { world = w; frame = f; before = before; commands = take (length stopped.replies) commands; replies = stopped.replies; last_world = w2; last_frame = f2; after = h.mid; answered = h.answered },
+    record { world_is = refl; frame_is = refl; before_is = refl; first = refl; given = refl },
+  )
