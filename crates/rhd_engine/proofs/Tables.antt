@@ -1,6 +1,6 @@
 -- How the table of built-in operators is put into, and that what it has is held.
 use Rattle.std.proofs.Common.{◌≡◌, ℕ, Bool, true, false, cond, List, [], ◌∷◌, refl, sym, ap, ◌∙◌}
-use Rattle.std.specs.Prelude.{Option, Some, None, nat_lt}
+use Rattle.std.specs.Prelude.{Some, nat_lt}
 use Rattle.std.specs.Map.{lookup}
 use Rattle.rhd_value.specs.declared.tag.FnId.{FnId}
 use Rattle.indexmap.specs.IndexMap.{insert_entry}

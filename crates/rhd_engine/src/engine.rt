@@ -7,7 +7,9 @@ use crate::builtins::Builtins;
 use crate::limits::{Limits, Printers};
 use crate::lists::ModuleList;
 use rhd_func::Natives;
-use rhd_module::{DeclFault, Module, SharedModule};
+use rhd_module::{
+    DeclFault, Declaration, Key, Module, SharedModule, native_declaration, native_key,
+};
 use rhd_value::{FnId, OutOfMemory, Text};
 use std::alloc::Global;
 
@@ -31,7 +33,7 @@ pub struct Engine {
 impl Engine {
     ghost use Rattle.rhd_func.specs.Infos.{infos_of};
     ghost use Rattle.rhd_engine.specs.Of.{lists_of};
-    ghost use Rattle.rhd_engine.specs.Registered.{Registered};
+    ghost use Rattle.rhd_engine.specs.Registered.{DeclaredAs, Registered};
     ghost use Rattle.rhd_engine.specs.Start.{start_lists};
 
     /// An engine with an empty global namespace. Its built-ins are held by the natives.
@@ -93,12 +95,33 @@ impl Engine {
         self.printers
     }
 
+    /// How the native of a number is declared under a name. A number that isn't held is refused.
+    fn declared(
+        &self,
+        alloc: Global,
+        name: &Text,
+        id: FnId,
+    ) -> Result<(Key, Declaration), DeclFault>
+        ensures { DeclaredAs name.now id (infos_of info self.now.natives) result }
+    {
+        let Some(native) = self.natives.get(id) else {
+            return Err(DeclFault::UnknownNumber {
+                number: u64::from(id.0),
+                length: self.natives.len() as u64,
+            });
+        };
+        let key = native_key(alloc, name, native)?;
+        Ok((key, native_declaration(name, native, id)))
+    }
+
     /// Registers a native under a name in the global namespace, in the place of an equal declaration's.
     /// A number that isn't held is refused.
     pub fn register_fn(&mut self, alloc: Global, name: &Text, id: FnId) -> Result<(), DeclFault>
         ensures registered { Registered name.now id (lists_of info self.old) result (lists_of info self.new) }
         ensures natives { self.new.natives ≡ self.old.natives }
     {
-        self.globals.register_in_first(alloc, name, &self.natives, id)
+        let (key, declaration) = self.declared(alloc, name, id)?;
+        self.globals.set_in_first(key, declaration)?;
+        Ok(())
     }
 }

@@ -1,13 +1,12 @@
 //! Lists of modules.
 
-ghost use Rattle.std.specs.Prelude.{◌≡◌, ◌++◌, ◌∷◌, [], if◌then◌else◌, is_ok, length, ◌<◌};
-ghost use Rattle.rhd_func.specs.Infos.{infos_of};
-ghost use Rattle.rhd_engine.specs.Registered.{RegisteredIn};
+ghost use Rattle.std.specs.Prelude.{◌≡◌, ◌++◌, ◌∷◌, [], if◌then◌else◌, is_ok, length, ◌<◌, OnOk, OnErr};
+ghost use Rattle.rhd_module.specs.Registered.{with_decl};
+ghost use Rattle.rhd_engine.specs.Registered.{in_first};
 ghost use Rattle.rhd_engine.specs.Lists.{Popped};
 
-use rhd_func::Natives;
-use rhd_module::{DeclFault, SharedModule};
-use rhd_value::{FnId, OutOfMemory, Text};
+use rhd_module::{Declaration, Key, SharedModule};
+use rhd_value::{OutOfMemory, Text};
 use std::alloc::Global;
 use std::marker::Model;
 
@@ -50,29 +49,18 @@ impl ModuleList {
         self.items.pop()
     }
 
-    /// Registers the native of a number under a name in the first module, in the place of an equal
-    /// declaration's. A number that isn't held is refused.
-    pub(crate) fn register_in_first(
+    /// Puts a declaration under a key in the first module: an equal key keeps its place, else it goes
+    /// last.
+    pub(crate) fn set_in_first(
         &mut self,
-        alloc: Global,
-        name: &Text,
-        natives: &Natives,
-        id: FnId,
-    ) -> Result<(), DeclFault>
+        key: Key,
+        declaration: Declaration,
+    ) -> Result<(), OutOfMemory>
         requires { 0 < length self.old }
-        ensures { RegisteredIn name.now id (infos_of info natives.now) self.old result self.new }
+        ensures ok { OnOk result (self.new ≡ in_first (with_decl key declaration) self.old) }
+        ensures err { OnErr result (self.new ≡ self.old) }
     {
-        let Some(native) = natives.get(id) else {
-            return Err(DeclFault::UnknownNumber {
-                number: u64::from(id.0),
-                length: natives.len() as u64,
-            });
-        };
-        let set = self.items[0].set_native_fn(alloc, name, native, id);
-        if set.is_err() {
-            return Err(DeclFault::OutOfMemory);
-        }
-        Ok(())
+        self.items[0].set_fn(key, declaration)
     }
 
     pub fn len(&self) -> usize
