@@ -1,6 +1,6 @@
 #!/usr/bin/env bash
 # Tries the edits of crates that the prover is to refuse: those in must-fail/, and those in
-# must-fail/more/, which the gate doesn't read. They are tried in a copy, in which they all stand in
+# must-fail/more/, which the gate doesn't read since their names end in `.edit.md`. They are tried in a copy, in which they all stand in
 # must-fail/, and which begins with the proofs that are kept on this machine. Where one isn't refused,
 # the exit status is 1.
 #
@@ -16,7 +16,9 @@ status=0
 for crate in "$@"; do
     edits=$copy/crates/$crate/must-fail
     if [ -d "$edits/more" ]; then
-        mv "$edits"/more/*.edit.md "$edits/"
+        for edit in "$edits"/more/*.edit.md; do
+            mv "$edit" "$edits/$(basename "$edit" .md)"
+        done
         rmdir "$edits/more"
     fi
     [ -d "$edits" ] || continue

@@ -134,4 +134,3 @@ found_held n key (p ∷ ps) d all e = found_step n key p ps d (key_eq key p.0) a
 pub there_held : (n : ℕ) (m : ModuleTree) (key : Key) (d : Declaration) → names_held n m ≡ true → own_decl m key ≡ Some d → func_held n d.func ≡ true
 unfolding own_decl
 there_held n m key d all e = found_held n key m.own.eager d all e
-

@@ -1,6 +1,5 @@
 -- A registration in the global namespace.
 use Rattle.std.proofs.Common.{◌≡◌, ◌≤◌, ◌<◌, ℕ, true, false, List, [], ◌∷◌, length, map, get_or, refl, sym, ap, ◌∙◌, inl, inr, arith}
-use Rattle.std.specs.Result.{IsErr, IsErrAnd}
 use Rattle.std.specs.Prelude.{Some, None, Result, Ok, Err, OnOk, OnErr, is_err, slice_get, slice_set, option_map}
 use Rattle.std.proofs.lemmas.Option.{slice_get_cases, slice_get-map}
 use Rattle.rhd_value.specs.Tree.{Bytes}
@@ -13,7 +12,7 @@ use Rattle.rhd_module.specs.declared.key.Key.{Key}
 use Rattle.rhd_module.specs.declared.fault.DeclFault.{DeclFault}
 use Rattle.rhd_module.specs.declared.fault.DeclFault.TheVariants.{UnknownNumber, OutOfMemory}
 use Rattle.rhd_engine.specs.Engine.{EngineLists}
-use Rattle.rhd_engine.specs.Registered.{in_first, DeclaredAs, Registered}
+use Rattle.rhd_engine.specs.Registered.{in_first}
 
 -- a number of which nothing is held is past the end
 pub past_end : {N : Type 0} (items : List N) (i : ℕ) → slice_get items i ≡ None → length items ≤ i
@@ -43,25 +42,6 @@ set_first change (x ∷ ms) m new h is e = ap (λ (y : ModuleTree). y ∷ ms) (e
 pub set_first_same : (ms : List ModuleTree) (m new : ModuleTree) → 0 < length ms → m ≡ get_or ms 0 m → new ≡ m → slice_set ms 0 new ≡ ms
 set_first_same [] m new h is e = absurd (omega arith)
 set_first_same (x ∷ ms) m new h is e = ap (λ (y : ModuleTree). y ∷ ms) (e ∙ is)
-
--- what a refused declaration leaves
-refused_by : (name : Bytes) (id : FnId) (e : EngineLists) (fault : DeclFault) → DeclaredAs name id e.natives (Err fault) → Registered name id e (Err fault) e
-refused_by name id e (UnknownNumber n h) is = (is.0, is.1, is.2, refl)
-refused_by name id e OutOfMemory is = refl
-
-pub refused : (name : Bytes) (id : FnId) (e : EngineLists) (r : Result (Unit {0}) DeclFault) (fault : DeclFault) → IsErr r → IsErrAnd r (λ (f : DeclFault). f ≡ fault) → DeclaredAs name id e.natives (Err fault) → Registered name id e r e
-refused name id e (Ok u) fault failed same is = absurd (let no : false ≡ true = failed in cc)
-refused name id e (Err f) fault failed same is = rw same (refused_by name id e fault is)
-
--- memory that runs out leaves all as it was
-pub starved : (name : Bytes) (id : FnId) (e : EngineLists) (r : Result (Unit {0}) DeclFault) (new : List ModuleTree) → IsErr r → IsErrAnd r (λ (f : DeclFault). f ≡ OutOfMemory) → new ≡ e.globals → Registered name id e r (record e { globals = new })
-starved name id e (Ok u) new failed same left = absurd (let no : false ≡ true = failed in cc)
-starved name id e (Err f) new failed same left = rw same (ap (λ (ms : List ModuleTree). record e { globals = ms }) left)
-
--- what a declared native leaves
-pub declared : (name : Bytes) (id : FnId) (e : EngineLists) (u : Unit {0}) (d : Key × Declaration) (new : List ModuleTree) → DeclaredAs name id e.natives (Ok d) → new ≡ in_first (with_decl d.0 d.1) e.globals → Registered name id e (Ok u) (record e { globals = new })
-declared name id e u d new is done =
-    (is.0, is.1, ap (λ (ms : List ModuleTree). record e { globals = ms }) (done ∙ ap (λ (p : Key × Declaration). in_first (with_decl p.0 p.1) e.globals) is.2))
 
 -- a pair is what its parts are
 pub pair_is : {A B : Type 0} {a b : A} {c d : B} → a ≡ b → c ≡ d → ◌≡◌ {A = A × B} (a, c) (b, d)

@@ -22,4 +22,3 @@ held_step n o b bs id false all ih e = ih (parts (nat_lt b.1.0 n) (builtins_held
 pub table_held : (n : ℕ) (o : Operator) (bs : List (Operator × FnId)) (id : FnId) → builtins_held n bs ≡ true → lookup (operator_eq o) bs ≡ Some id → nat_lt id.0 n ≡ true
 table_held n o [] id all e = absurd cc
 table_held n o (b ∷ bs) id all e = held_step n o b bs id (operator_eq o b.0) all (table_held n o bs id) e
-

@@ -25,9 +25,3 @@ DeclaredAs name id natives (Err OutOfMemory) = Unit {0}
 -- a native under a name in the global namespace of an engine, in the place of an equal declaration's
 abbrev pub with_native : Bytes → FnId → NativeInfo → EngineLists → EngineLists
 with_native name id info e = record e { globals = in_first (with_decl (native_key name info) (native_decl name info id)) e.globals }
-
--- what a registration answers, and the engine that it leaves: where a number is refused, or memory ran out, all is as before
-abbrev pub Registered : Bytes → FnId → EngineLists → Result (Unit {0}) DeclFault → EngineLists → Type 0
-Registered name id old (Ok u) new = (info : NativeInfo) × (info_of old.natives id ≡ Some info) × (new ≡ with_native name id info old)
-Registered name id old (Err (UnknownNumber number held)) new = (number ≡ id.0) × (held ≡ length old.natives) × (held ≤ number) × (new ≡ old)
-Registered name id old (Err OutOfMemory) new = new ≡ old

@@ -20,7 +20,7 @@ pub struct Engine {
     natives: Natives,
     /// The modules whose functions all calls find. The first is the global namespace, into which natives
     /// are registered.
-    globals: ModuleList,
+    pub globals: ModuleList,
     builtins: Builtins,
     limits: Limits,
     printers: Printers,
@@ -33,7 +33,7 @@ pub struct Engine {
 impl Engine {
     ghost use Rattle.rhd_func.specs.Infos.{infos_of};
     ghost use Rattle.rhd_engine.specs.Of.{lists_of};
-    ghost use Rattle.rhd_engine.specs.Registered.{DeclaredAs, Registered};
+    ghost use Rattle.rhd_engine.specs.Registered.{DeclaredAs};
     ghost use Rattle.rhd_engine.specs.Start.{start_lists};
 
     /// An engine with an empty global namespace. Its built-ins are held by the natives.
@@ -96,7 +96,7 @@ impl Engine {
     }
 
     /// How the native of a number is declared under a name. A number that isn't held is refused.
-    fn declared(
+    pub fn declared(
         &self,
         alloc: Global,
         name: &Text,
@@ -112,16 +112,5 @@ impl Engine {
         };
         let key = native_key(alloc, name, native)?;
         Ok((key, native_declaration(name, native, id)))
-    }
-
-    /// Registers a native under a name in the global namespace, in the place of an equal declaration's.
-    /// A number that isn't held is refused.
-    pub fn register_fn(&mut self, alloc: Global, name: &Text, id: FnId) -> Result<(), DeclFault>
-        ensures registered { Registered name.now id (lists_of info self.old) result (lists_of info self.new) }
-        ensures natives { self.new.natives ≡ self.old.natives }
-    {
-        let (key, declaration) = self.declared(alloc, name, id)?;
-        self.globals.set_in_first(key, declaration)?;
-        Ok(())
     }
 }

@@ -51,11 +51,7 @@ impl ModuleList {
 
     /// Puts a declaration under a key in the first module: an equal key keeps its place, else it goes
     /// last.
-    pub(crate) fn set_in_first(
-        &mut self,
-        key: Key,
-        declaration: Declaration,
-    ) -> Result<(), OutOfMemory>
+    pub fn set_in_first(&mut self, key: Key, declaration: Declaration) -> Result<(), OutOfMemory>
         requires { 0 < length self.old }
         ensures ok { OnOk result (self.new ≡ in_first (with_decl key declaration) self.old) }
         ensures err { OnErr result (self.new ≡ self.old) }

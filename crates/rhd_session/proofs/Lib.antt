@@ -1,8 +1,9 @@
-pub mod Registers
-pub mod Stepped
 pub mod Filled
+pub mod Finished
 pub mod Found
-pub mod Unpicked
-pub mod Stack
-pub mod Lists
 pub mod HostEnds
+pub mod Lists
+pub mod Registers
+pub mod Stack
+pub mod Stepped
+pub mod Unpicked

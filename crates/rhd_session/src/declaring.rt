@@ -79,11 +79,13 @@ impl Session {
         ensures begun { calls_begun_of self.new ≡ calls_begun_of self.old }
         ensures count { modules_of self.new ≡ modules_of self.old }
     {
-        match self.engine.register_fn(alloc, name, id) {
-            Ok(()) => Ok(Reply::Done),
-            Err(DeclFault::OutOfMemory) => Err(OutOfMemory),
-            Err(fault) => Ok(Reply::Refused(fault)),
-        }
+        let (key, declaration) = match self.engine.declared(alloc, name, id) {
+            Ok(declared) => declared,
+            Err(DeclFault::OutOfMemory) => return Err(OutOfMemory),
+            Err(fault) => return Ok(Reply::Refused(fault)),
+        };
+        self.engine.globals.set_in_first(key, declaration)?;
+        Ok(Reply::Done)
     }
 
     /// Puts a module last among the libraries.

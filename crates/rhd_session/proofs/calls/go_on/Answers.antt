@@ -5,6 +5,7 @@ use Rattle.rhd_engine.specs.Of.{lists_of}
 use Rattle.rhd_session.specs.Plans.{plan_of}
 use Rattle.rhd_session.specs.World.{moment}
 use Rattle.rhd_func.specs.Funcs.{native_of}
+use Rattle.rhd_func.specs.Infos.{infos_of}
 use Rattle.rhd_session.specs.Entered.{context_if}
 use Rattle.rhd_session.specs.Objects.{objects_of}
 use Rattle.rhd_session.proofs.Stepped.{native_resumed, body_resumed, context_asked}
@@ -20,10 +21,10 @@ pub returns-in-Pure : goal.returns-in-Pure
 unfolding objects_of
 returns-in-Pure g c = λ begun host.
     native_resumed _ _ c.resume-in-Pure.result c.args.func.now c.args.ctx.now c.args.carry c.args.done c.in-Pure.id _ (moment begun host c.args.bodies.now)
-    (ap native_of c.in-Pure.is) (c.context_if-ctx.ensures ∙ ap (λ (b : Bool). context_if b c.args.ctx.now) (c.has_context.ensures ∙ context_asked _ _ c.args.func.now)) (rw c.natives-natives.ensures at c.resume-in-Pure.ensures.step) c.resume-in-Pure.ensures.back
+    (ap native_of c.in-Pure.is) (c.context_if-ctx.ensures ∙ ap (λ (b : Bool). context_if b c.args.ctx.now) (c.has_context.ensures ∙ context_asked (infos_of (λ z. (goal.PluginFunc-dyn g z).info z.1) c.natives-natives.result.now) (lists_of (λ z. (goal.PluginFunc-dyn g z).info z.1) c.args.engine.now).natives c.args.func.now)) (rw c.natives-natives.ensures at c.resume-in-Pure.ensures.step) c.resume-in-Pure.ensures.back
 
 pub returns-in-Method : goal.returns-in-Method
 unfolding objects_of
 returns-in-Method g c = λ begun host.
     native_resumed _ _ c.resume-in-Method.result c.args.func.now c.args.ctx.now c.args.carry c.args.done c.in-Method.id _ (moment begun host c.args.bodies.now)
-    (ap native_of c.in-Method.is) (c.context_if-ctx-in-Method.ensures ∙ ap (λ (b : Bool). context_if b c.args.ctx.now) (c.has_context-in-Method.ensures ∙ context_asked _ _ c.args.func.now)) (rw c.natives-natives.ensures at c.resume-in-Method.ensures.step) c.resume-in-Method.ensures.back
+    (ap native_of c.in-Method.is) (c.context_if-ctx-in-Method.ensures ∙ ap (λ (b : Bool). context_if b c.args.ctx.now) (c.has_context-in-Method.ensures ∙ context_asked (infos_of (λ z. (goal.PluginFunc-dyn g z).info z.1) c.natives-natives.result.now) (lists_of (λ z. (goal.PluginFunc-dyn g z).info z.1) c.args.engine.now).natives c.args.func.now)) (rw c.natives-natives.ensures at c.resume-in-Method.ensures.step) c.resume-in-Method.ensures.back

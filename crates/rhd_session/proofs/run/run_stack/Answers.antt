@@ -1,6 +1,7 @@
-use Rattle.std.proofs.Common.{arith, rules, ◌≡◌, ◌+◌, length, true, false, refl}
+use Rattle.std.proofs.Common.{arith, rules, ◌≡◌, ◌<◌, ◌+◌, ap, length, true, false, refl}
 use Rattle.std.proofs.lemmas.List.{nil_from_length}
 use Rattle.std.proofs.lemmas.Result.{IfOk-weaker}
+use Rattle.rhd_engine.specs.declared.limits.Limits.{Limits}
 use Rattle.rhd_engine.specs.Of.{lists_of}
 use Rattle.rhd_session.specs.World.{moment}
 use Rattle.rhd_session.proofs.Stack.{root_goes, spent, stack_limited, answer_ends, top_held, libraries_held, above_itself}
@@ -20,7 +21,8 @@ returns-then-begun-limits-clause-runs g c = λ modules call before step.
     let going = rw c.in-Asked.is at (c.loop-hand.invariant.going modules call before step) in
     let e : c.len.result ≡ length c.loop-hand.stack.items = search rules in
     let h = rw e at c.in_ok-node-in-Asked.ensures in
-    let b : c.loop-hand.begun ≡ c.args.engine.now.limits.budget = omega (arith, c.loop-hand.invariant.within, c.if-begun-limits.true) in
+    let same : c.limits.result.budget ≡ c.args.engine.now.limits.budget = ap (λ (l : Limits). l.budget) c.limits.ensures in
+    let b : c.loop-hand.begun ≡ c.args.engine.now.limits.budget = omega (arith, same, c.loop-hand.invariant.within, c.if-begun-limits.true) in
     IfOk-weaker c.cut_all.result _ _ (λ node r. (true, r)) (c.cut_all.ensures modules c.args.state.now call before (moment c.loop-hand.begun c.loop-hand.host c.loop-hand.bodies) (spent _ _ c.loop-hand.stack.items c.args.state.now c.loop-hand.state call c.in-Asked.request before (moment c.loop-hand.begun c.loop-hand.host c.loop-hand.bodies) c.in_ok-node-in-Asked.node b h going))
 
 pub overflow_cast-level : goal.overflow_cast-level
@@ -68,10 +70,12 @@ returns-in_err-hand-in-Answered-clause-above g c = c.answer.ensures.above c.args
 
 pub loop-hand-preserved-in-Asked : goal.loop-hand-preserved-in-Asked
 loop-hand-preserved-in-Asked g c =
+    let same : c.limits.result.budget ≡ c.args.engine.now.limits.budget = ap (λ (l : Limits). l.budget) c.limits.ensures in
+    let under : c.loop-hand.begun < c.args.engine.now.limits.budget = omega (arith, same, c.if-begun-limits.false) in
     record {
-      going = λ modules call before step. c.in_ok-hand-in-Asked.ensures.going modules c.args.state.now call before c.loop-hand.begun c.if-begun-limits.false (rw c.in-Asked.is at (c.loop-hand.invariant.going modules call before step));
+      going = λ modules call before step. c.in_ok-hand-in-Asked.ensures.going modules c.args.state.now call before c.loop-hand.begun under (rw c.in-Asked.is at (c.loop-hand.invariant.going modules call before step));
       above = c.in_ok-hand-in-Asked.ensures.above c.args.state.now c.loop-hand.invariant.above;
-      within = omega (arith, c.if-begun-limits.false);
+      within = omega (arith, under);
       rises = omega (arith, c.loop-hand.invariant.rises);
     }
 
