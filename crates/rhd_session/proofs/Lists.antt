@@ -1,5 +1,5 @@
 -- Lists of commands and their replies, one more at a time.
-use Rattle.std.proofs.Common.{◌≡◌, ℕ, ◌+◌, ◌<◌, ◌≤◌, List, [], ◌∷◌, ◌++◌, refl, sym, subst, length, ap, suc, take, get_or, slice_get, Some, ◌∙◌, arith}
+use Rattle.std.proofs.Common.{◌≡◌, true, false, ℕ, ◌+◌, ◌<◌, ◌≤◌, List, [], ◌∷◌, ◌++◌, refl, sym, subst, length, ap, suc, take, get_or, slice_get, Some, ◌∙◌, arith}
 use Rattle.std.proofs.lemmas.List.{take_more, length-take, length-append}
 use Rattle.std.proofs.lemmas.Option.{get_or_from_slice_get}
 use Rattle.std.proofs.Math.Seq.{take-append_seam, get_or-append_seam, take-length}
@@ -11,7 +11,8 @@ use Rattle.rhd_call.specs.declared.command.Command.TheVariants as commands
 use Rattle.rhd_call.specs.declared.reply.Reply.{Reply}
 use Rattle.rhd_engine.specs.Engine.{Frame}
 use Rattle.rhd_session.specs.World.{World, Objects, Moment}
-use Rattle.rhd_session.specs.Answered.{Replied, Answered, Begins}
+use Rattle.rhd_session.specs.Commands.{is_call}
+use Rattle.rhd_session.specs.Answered.{Declares, declared, Replied, Answered, Begins}
 
 -- where no call is begun, none is
 pub begins_none : (command : Command) (n : ℕ) → Begins command n n
@@ -21,6 +22,24 @@ begins_none (commands.RegisterFn name id) n = refl
 begins_none (commands.PushLib m) n = refl
 begins_none commands.PopLib n = refl
 begins_none (commands.Call request) n = omega arith
+
+-- a command that makes no call is answered by what it declares
+pub declares_replied : {H B : Type 0} (o : Objects H B) (w w2 : World) (f f2 : Frame) (before after : Moment H B) (command : Command) (reply : Reply) → is_call command ≡ false → Declares w f command reply w2 f2 → after ≡ before → Replied o w f before command reply w2 f2 after
+declares_replied o w w2 f f2 before after (commands.Call request) reply q d e = absurd (let x : true ≡ false = q in cc)
+declares_replied o w w2 f f2 before after commands.NewModule reply q d e = (declared d, e)
+declares_replied o w w2 f f2 before after (commands.Script id def) reply q d e = (declared d, e)
+declares_replied o w w2 f f2 before after (commands.RegisterFn name id) reply q d e = (declared d, e)
+declares_replied o w w2 f f2 before after (commands.PushLib id) reply q d e = (declared d, e)
+declares_replied o w w2 f f2 before after commands.PopLib reply q d e = (declared d, e)
+
+-- nor does it begin one
+pub declares_begins : (command : Command) (before after : ℕ) → is_call command ≡ false → after ≡ before → Begins command before after
+declares_begins (commands.Call request) before after q e = absurd (let x : true ≡ false = q in cc)
+declares_begins commands.NewModule before after q e = e
+declares_begins (commands.Script id def) before after q e = e
+declares_begins (commands.RegisterFn name id) before after q e = e
+declares_begins (commands.PushLib id) before after q e = e
+declares_begins commands.PopLib before after q e = e
 
 -- the command of a place is the one that stands there
 pub begins_at : (cs : List Command) (i : ℕ) (command other : Command) (before after : ℕ) →

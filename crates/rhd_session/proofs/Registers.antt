@@ -43,11 +43,6 @@ pub known_put : (w : World) (f : Frame) (name : Bytes) (id : FnId) (d : Key × D
 known_put w f name id d new is put =
     known w _ f name id is.0 is.1 (ap (λ (ms : List ModuleTree). record w { engine = record w.engine { globals = ms } }) (put ∙ ap (λ (p : Key × Declaration). in_first (with_decl p.0 p.1) w.engine.globals) is.2))
 
--- a fault that is no want of memory is the answer
-pub fault_refused : (w : World) (f : Frame) (name : Bytes) (id : FnId) (fault : DeclFault) → (fault ≡ OutOfMemory → ⊥) → DeclaredAs name id w.engine.natives (Err fault) → Declares w f (commands.RegisterFn name id) (Refused fault) w f
-fault_refused w f name id (UnknownNumber number held) other r = unknown w f name id number held r.0 r.1 r.2
-fault_refused w f name id OutOfMemory other r = absurd (other refl)
-
 -- Modules and libraries.
 
 -- a number that isn't held, of the only operand

@@ -82,7 +82,9 @@ impl Session {
         let (key, declaration) = match self.engine.declared(alloc, name, id) {
             Ok(declared) => declared,
             Err(DeclFault::OutOfMemory) => return Err(OutOfMemory),
-            Err(fault) => return Ok(Reply::Refused(fault)),
+            Err(DeclFault::UnknownNumber { number, length }) => {
+                return Ok(Reply::Refused(DeclFault::UnknownNumber { number, length }));
+            }
         };
         self.engine.globals.set_in_first(key, declaration)?;
         Ok(Reply::Done)
