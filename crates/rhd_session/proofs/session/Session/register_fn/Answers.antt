@@ -1,7 +1,9 @@
-use Rattle.std.proofs.Common.{length, ◌<◌, ap, List, arith}
+use Rattle.std.proofs.Common.{length, ◌<◌, ap, List, Err, arith}
 use Rattle.rhd_func.specs.Infos.{infos_of}
 use Rattle.rhd_module.specs.Tree.{ModuleTree}
 use Rattle.rhd_module.specs.Registered.{with_decl}
+use Rattle.rhd_module.specs.declared.fault.DeclFault.TheVariants.{UnknownNumber}
+use Rattle.rhd_engine.specs.Registered.{DeclaredAs}
 use Rattle.rhd_engine.specs.Of.{lists_of}
 use Rattle.rhd_engine.proofs.HeldLaws.{on_err, set_held, set_count}
 use Rattle.rhd_session.specs.Of.{world_of, frame_of}
@@ -33,5 +35,5 @@ returns-clause-applied g c = known_put (world_of (λ z. (goal.PluginFunc-dyn g z
 pub returns-in-Err-UnknownNumber-clause-applied : goal.returns-in-Err-UnknownNumber-clause-applied
 unfolding lists_of
 returns-in-Err-UnknownNumber-clause-applied g c =
-    let is = c.in-Err-UnknownNumber.ensures in
+    let is : DeclaredAs c.args.name.now c.args.id (infos_of (λ z. (goal.PluginFunc-dyn g z).info z.1) c.args.self.now.engine.natives) (Err (UnknownNumber c.in-Err-UnknownNumber.number c.in-Err-UnknownNumber.length)) = rw c.in-Err-UnknownNumber.field-0-is at c.in-Err-UnknownNumber.ensures in
     unknown (world_of (λ z. (goal.PluginFunc-dyn g z).info z.1) c.args.self.now) (frame_of c.args.self.now) c.args.name.now c.args.id c.in-Err-UnknownNumber.number c.in-Err-UnknownNumber.length is.0 is.1 is.2
