@@ -246,7 +246,7 @@ module _ {H B : Type 0} (o : Objects H B) (w : World) where
       let same : q.below ≡ f = sym q.back ∙ sym left in
       put_goes stack news base f g call q.waited before q.mid after outcome hand (subst (λ (x : Frame). Waits o w stack base call before x (length stack + 1) q.waited q.mid) same q.waits)
       (step (length stack + 1) q.waited going.waited q.mid going.mid (subst (λ (x : Frame). Open o w x (length stack + 1) q.waited frame.suspended inner going.waited q.mid going.mid) same q.opened)
-          (subst (λ (k : ℕ). Runs o w inner (k + 1) going.waited node going.mid between false) (length_push stack frame) (answer_parts going.holds node refl)))
+      (subst (λ (k : ℕ). Runs o w inner (k + 1) going.waited node going.mid between false) (length_push stack frame) (answer_parts going.holds node refl)))
       p
 
   -- the function of the top is held

@@ -214,7 +214,15 @@ fn answered_step<H: Host, B: Bodies>(
     let done = done(alloc, child)?;
     let carry = suspended.carry.dup(alloc)?;
     let ctx = context(alloc, state, &suspended.node, &suspended.pick)?;
-    go_on::<H, B>(alloc, engine, &suspended.pick.func, &ctx, carry, done, bodies)
+    go_on::<H, B>(
+        alloc,
+        engine,
+        &suspended.pick.func,
+        &ctx,
+        carry,
+        done,
+        bodies,
+    )
 }
 
 /// The first step of a function on the arguments of its call.

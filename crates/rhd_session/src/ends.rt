@@ -172,7 +172,13 @@ pub fn finish(
     ensures { OnOk result (seen node.new ≡ with_end (seen node.old) (ends.done (lists_of info engine.now) (plan_of (seen node.old).call) pick.now back value)) }
 {
     let pos = position_of(&node.call);
-    let first = first_after(alloc, engine.natives(), &pick.func, shape_of(&node.call), back)?;
+    let first = first_after(
+        alloc,
+        engine.natives(),
+        &pick.func,
+        shape_of(&node.call),
+        back,
+    )?;
     match unfit(alloc, engine, pos, pick, &first, &value)? {
         Some(fault) => {
             refuse(node, first, value, fault);
@@ -196,7 +202,13 @@ pub fn hand_on(
 ) -> Result<(), OutOfMemory>
     ensures { OnOk result (seen node.new ≡ with_end (seen node.old) (ends.handed_on (lists_of info engine.now) (plan_of (seen node.old).call) pick.now back fault)) }
 {
-    let first = first_after(alloc, engine.natives(), &pick.func, shape_of(&node.call), back)?;
+    let first = first_after(
+        alloc,
+        engine.natives(),
+        &pick.func,
+        shape_of(&node.call),
+        back,
+    )?;
     answer_with(node, Whose::Called, first, Err(fault));
     Ok(())
 }

@@ -82,7 +82,12 @@ fn receive_first(
 }
 
 /// What a function receives of a call's arguments.
-pub fn receive(alloc: Global, natives: &Natives, func: &RhaiFunc, shape: &CallShape) -> Result<Received, OutOfMemory>
+pub fn receive(
+    alloc: Global,
+    natives: &Natives,
+    func: &RhaiFunc,
+    shape: &CallShape,
+) -> Result<Received, OutOfMemory>
     ensures first { IfOk result (λ r. r.first ≡ (received (convention_of (infos_of info natives.now) func.now) shape.now).first) }
     ensures args { IfOk result (λ r. r.args ≡ (received (convention_of (infos_of info natives.now) func.now) shape.now).args) }
 {

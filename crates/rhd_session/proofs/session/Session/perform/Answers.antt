@@ -6,8 +6,7 @@ use Rattle.rhd_session.proofs.session.Session.perform.Goals as goal
 
 pub returns-in_ok-declare-in_default-clause-replied : goal.returns-in_ok-declare-in_default-clause-replied
 returns-in_ok-declare-in_default-clause-replied g c =
-    let no : is_call c.args.command ≡ false = search rules in
-    (
+    let no : is_call c.args.command ≡ false = search rules in (
       c.in_ok-declare-in_default.field-0,
       search rules,
       declares_replied _ _ _ _ _ _ _ c.args.command _ no c.in_ok-declare-in_default.ensures.applied (ap (λ (n : ℕ). moment n c.args.host.now c.args.bodies.now) c.in_ok-declare-in_default.ensures.begun),
