@@ -54,7 +54,9 @@ pub fn begin<H: Host, B: Bodies>(
     bodies: &mut B,
 ) -> Result<Option<Box<Asking>>, OutOfMemory>
     requires { all_held (length engine.now.natives.items.items) state.now.lib ≡ true }
-    ensures { (modules : List ModuleTree) (begun : ℕ) → is_begun (seen node.old) → begun < engine.now.limits.budget → IfOk result (λ asking. ComesIn (setting_of allows_call allows_resume B.allows_start B.allows_next H.allows_missing info engine.now modules state.now) (seen node.old).level (seen node.old).call (outcome_of node.new asking) (moment begun host.old bodies.old) (moment (begun + 1) host.new bodies.new)) }
+    ensures { (modules : List ModuleTree) (begun : ℕ) → is_begun (seen node.old) → begun < engine.now.limits.budget → IfOk result (λ asking. ComesIn
+        (setting_of allows_call allows_resume B.allows_start B.allows_next H.allows_missing info engine.now modules state.now) (seen node.old).level (seen node.old).call (outcome_of node.new asking)
+        (moment begun host.old bodies.old) (moment (begun + 1) host.new bodies.new)) }
 {
     match refusal(alloc, engine, state, node.level, &node.call)? {
         Some(fault) => {
@@ -76,7 +78,10 @@ fn begin_unrefused<H: Host, B: Bodies>(
     bodies: &mut B,
 ) -> Result<Option<Box<Asking>>, OutOfMemory>
     requires { all_held (length engine.now.natives.items.items) state.now.lib ≡ true }
-    ensures { (modules : List ModuleTree) (begun : ℕ) → is_begun (seen node.old) → begun < engine.now.limits.budget → refusal (lists_of info engine.now) state.now (seen node.old).level (seen node.old).call ≡ None → IfOk result (λ asking. ComesIn (setting_of allows_call allows_resume B.allows_start B.allows_next H.allows_missing info engine.now modules state.now) (seen node.old).level (seen node.old).call (outcome_of node.new asking) (moment begun host.old bodies.old) (moment (begun + 1) host.new bodies.new)) }
+    ensures { (modules : List ModuleTree) (begun : ℕ) → is_begun (seen node.old) → begun < engine.now.limits.budget
+        → refusal (lists_of info engine.now) state.now (seen node.old).level (seen node.old).call ≡ None → IfOk result (λ asking. ComesIn
+        (setting_of allows_call allows_resume B.allows_start B.allows_next H.allows_missing info engine.now modules state.now) (seen node.old).level (seen node.old).call (outcome_of node.new asking)
+        (moment begun host.old bodies.old) (moment (begun + 1) host.new bodies.new)) }
 {
     match pick(alloc, engine, state, &node.call)? {
         Some(pick) => {
@@ -123,7 +128,9 @@ fn unpicked<H: Host>(
     host: &mut H,
 ) -> Result<(), OutOfMemory>
     ensures alone { OnOk result (only_natives (plan_of (seen node.old).call).search ≡ true → (host.new ≡ host.old) × (seen node.new ≡ with_end (seen node.old) (missing_end (lists_of info engine.now) (plan_of (seen node.old).call)))) }
-    ensures asked { OnOk result (only_natives (plan_of (seen node.old).call).search ≡ false → (answer : HostAnswer) × H.allows_missing host.old (plan_of (seen node.old).call).name (all_args (plan_of (seen node.old).call).shape) (is_method_shape (plan_of (seen node.old).call).shape) answer host.new × (seen node.new ≡ with_end (seen node.old) (host_end (lists_of info engine.now) (plan_of (seen node.old).call) answer))) }
+    ensures asked { OnOk result (only_natives (plan_of (seen node.old).call).search ≡ false → (answer : HostAnswer)
+        × H.allows_missing host.old (plan_of (seen node.old).call).name (all_args (plan_of (seen node.old).call).shape) (is_method_shape (plan_of (seen node.old).call).shape) answer host.new
+        × (seen node.new ≡ with_end (seen node.old) (host_end (lists_of info engine.now) (plan_of (seen node.old).call) answer))) }
 {
     if native_only_of(&node.call) {
         let fault = not_found(alloc, engine, &node.call)?;
@@ -175,7 +182,10 @@ fn begin_picked<H: Host, B: Bodies>(
     bodies: &mut B,
 ) -> Result<Option<Box<Asking>>, OutOfMemory>
     requires { func_held (length engine.now.natives.items.items) pick.func ≡ true }
-    ensures { (modules : List ModuleTree) (begun : ℕ) (host : H) → is_begun (seen node.old) → begun < engine.now.limits.budget → decision (lists_of info engine.now) state.now (seen node.old).level (seen node.old).call ≡ runs (plan_of (seen node.old).call) pick → IfOk result (λ asking. ComesIn (setting_of allows_call allows_resume B.allows_start B.allows_next H.allows_missing info engine.now modules state.now) (seen node.old).level (seen node.old).call (outcome_of node.new asking) (moment begun host bodies.old) (moment (begun + 1) host bodies.new)) }
+    ensures { (modules : List ModuleTree) (begun : ℕ) (host : H) → is_begun (seen node.old) → begun < engine.now.limits.budget
+        → decision (lists_of info engine.now) state.now (seen node.old).level (seen node.old).call ≡ runs (plan_of (seen node.old).call) pick → IfOk result (λ asking. ComesIn
+        (setting_of allows_call allows_resume B.allows_start B.allows_next H.allows_missing info engine.now modules state.now) (seen node.old).level (seen node.old).call (outcome_of node.new asking)
+        (moment begun host bodies.old) (moment (begun + 1) host bodies.new)) }
 {
     match first_step::<H, B>(alloc, engine, state, node, &pick, bodies) {
         Ok(step) => settle(alloc, engine, node, pick, step),
@@ -193,7 +203,12 @@ pub fn resume<H: Host, B: Bodies>(
     bodies: &mut B,
 ) -> Result<Outcome, OutOfMemory>
     requires { func_held (length engine.now.natives.items.items) suspended.pick.func ≡ true }
-    ensures { (modules : List ModuleTree) (level begun : ℕ) (host : H) (inner : Frame) (call waited : CallRequest) (before mid : Moment H B) → Open (objects_of allows_call allows_resume B.allows_start B.allows_next H.allows_missing engine.now.natives) (record { engine = lists_of info engine.now; modules = modules }) state.now level call suspended inner waited before mid → Runs (objects_of allows_call allows_resume B.allows_start B.allows_next H.allows_missing engine.now.natives) (record { engine = lists_of info engine.now; modules = modules }) inner (level + 1) waited child mid (moment begun host bodies.old) false → IfOk result (λ outcome. ComesIn (setting_of allows_call allows_resume B.allows_start B.allows_next H.allows_missing info engine.now modules state.now) level call outcome before (moment begun host bodies.new)) }
+    ensures { (modules : List ModuleTree) (level begun : ℕ) (host : H) (inner : Frame) (call waited : CallRequest) (before mid : Moment H B) → Open
+        (objects_of allows_call allows_resume B.allows_start B.allows_next H.allows_missing engine.now.natives)
+        (record { engine = lists_of info engine.now; modules = modules }) state.now level call suspended inner waited before mid → Runs
+        (objects_of allows_call allows_resume B.allows_start B.allows_next H.allows_missing engine.now.natives) (record { engine = lists_of info engine.now; modules = modules }) inner
+        (level + 1) waited child mid (moment begun host bodies.old) false → IfOk result (λ outcome. ComesIn
+        (setting_of allows_call allows_resume B.allows_start B.allows_next H.allows_missing info engine.now modules state.now) level call outcome before (moment begun host bodies.new)) }
 {
     let step = answered_step::<H, B>(alloc, engine, state, &suspended, &child, bodies)?;
     settle_waiting(alloc, engine, suspended, child, step)
@@ -209,7 +224,9 @@ fn answered_step<H: Host, B: Bodies>(
     bodies: &mut B,
 ) -> Result<NativeStep, OutOfMemory>
     requires { func_held (length engine.now.natives.items.items) suspended.now.pick.func ≡ true }
-    ensures { (begun : ℕ) (host : H) → IfOk result (λ step. Resumes (objects_of allows_call allows_resume B.allows_start B.allows_next H.allows_missing engine.now.natives) (lists_of info engine.now).natives (context state.now (seen suspended.now.node).level (plan_of (seen suspended.now.node).call) suspended.now.pick) suspended.now.pick.func suspended.now.carry (done_of child.now) (moment begun host bodies.old) step (moment begun host bodies.new)) }
+    ensures { (begun : ℕ) (host : H) → IfOk result (λ step. Resumes (objects_of allows_call allows_resume B.allows_start B.allows_next H.allows_missing engine.now.natives)
+        (lists_of info engine.now).natives (context state.now (seen suspended.now.node).level (plan_of (seen suspended.now.node).call) suspended.now.pick) suspended.now.pick.func suspended.now.carry
+        (done_of child.now) (moment begun host bodies.old) step (moment begun host bodies.new)) }
 {
     let done = done(alloc, child)?;
     let carry = suspended.carry.dup(alloc)?;
@@ -235,7 +252,9 @@ fn first_step<H: Host, B: Bodies>(
     bodies: &mut B,
 ) -> Result<NativeStep, OutOfMemory>
     requires { func_held (length engine.now.natives.items.items) pick.now.func ≡ true }
-    ensures { (begun : ℕ) (host : H) → IfOk result (λ step. Starts (objects_of allows_call allows_resume B.allows_start B.allows_next H.allows_missing engine.now.natives) (lists_of info engine.now).natives (context state.now (seen node.now).level (plan_of (seen node.now).call) pick.now) pick.now.func (received_by (lists_of info engine.now) (plan_of (seen node.now).call) pick.now) (moment begun host bodies.old) step (moment begun host bodies.new)) }
+    ensures { (begun : ℕ) (host : H) → IfOk result (λ step. Starts (objects_of allows_call allows_resume B.allows_start B.allows_next H.allows_missing engine.now.natives)
+        (lists_of info engine.now).natives (context state.now (seen node.now).level (plan_of (seen node.now).call) pick.now) pick.now.func
+        (received_by (lists_of info engine.now) (plan_of (seen node.now).call) pick.now) (moment begun host bodies.old) step (moment begun host bodies.new)) }
 {
     let received = receive(alloc, engine.natives(), &pick.func, shape_of(&node.call))?;
     start::<H, B>(alloc, engine, state, node, pick, received, bodies)
@@ -252,7 +271,9 @@ fn start<H: Host, B: Bodies>(
     bodies: &mut B,
 ) -> Result<NativeStep, OutOfMemory>
     requires { func_held (length engine.now.natives.items.items) pick.now.func ≡ true }
-    ensures { (begun : ℕ) (host : H) → IfOk result (λ step. Starts (objects_of allows_call allows_resume B.allows_start B.allows_next H.allows_missing engine.now.natives) (lists_of info engine.now).natives (context state.now (seen node.now).level (plan_of (seen node.now).call) pick.now) pick.now.func (record { first = received.first; args = received.args }) (moment begun host bodies.old) step (moment begun host bodies.new)) }
+    ensures { (begun : ℕ) (host : H) → IfOk result (λ step. Starts (objects_of allows_call allows_resume B.allows_start B.allows_next H.allows_missing engine.now.natives)
+        (lists_of info engine.now).natives (context state.now (seen node.now).level (plan_of (seen node.now).call) pick.now) pick.now.func (record { first = received.first; args = received.args })
+        (moment begun host bodies.old) step (moment begun host bodies.new)) }
 {
     match &pick.func {
         RhaiFunc::Script { fn_def, .. } => {
@@ -296,7 +317,8 @@ fn start_native(
     received: Received,
 ) -> Result<NativeStep, OutOfMemory>
     requires { id.0 < length natives.now.items.items }
-    ensures step { IfOk result (StartAllowed (λ b. allows_call (b.vtable, b.value)) natives.now.items.items id (context_if (has_context (infos_of info natives.now) pick.now.func) (context state.now (seen node.now).level (plan_of (seen node.now).call) pick.now)) received.first received.args) }
+    ensures step { IfOk result (StartAllowed (λ b. allows_call (b.vtable, b.value)) natives.now.items.items id
+        (context_if (has_context (infos_of info natives.now) pick.now.func) (context state.now (seen node.now).level (plan_of (seen node.now).call) pick.now)) received.first received.args) }
     ensures back { IfOk result (GivesBack received.first) }
 {
     if pick.func.has_context(natives) {
@@ -336,7 +358,8 @@ fn go_on<H: Host, B: Bodies>(
     bodies: &mut B,
 ) -> Result<NativeStep, OutOfMemory>
     requires { func_held (length engine.now.natives.items.items) func.now ≡ true }
-    ensures { (begun : ℕ) (host : H) → IfOk result (λ step. Resumes (objects_of allows_call allows_resume B.allows_start B.allows_next H.allows_missing engine.now.natives) (lists_of info engine.now).natives ctx.now func.now carry done (moment begun host bodies.old) step (moment begun host bodies.new)) }
+    ensures { (begun : ℕ) (host : H) → IfOk result (λ step. Resumes (objects_of allows_call allows_resume B.allows_start B.allows_next H.allows_missing engine.now.natives)
+        (lists_of info engine.now).natives ctx.now func.now carry done (moment begun host bodies.old) step (moment begun host bodies.new)) }
 {
     let natives = engine.natives();
     match func {

@@ -103,7 +103,8 @@ fn unfit(
     first: &Option<Dynamic>,
     value: &Dynamic,
 ) -> Result<Option<EvalAltResult>, OutOfMemory>
-    ensures { (plan : Plan) (back : Option Tree) → plan.pos ≡ pos → ends.first_at_end (lists_of info engine.now) plan pick.now back ≡ first.now → IfOk result (λ fault. fault ≡ ends.unfit (lists_of info engine.now) plan pick.now back value.now) }
+    ensures { (plan : Plan) (back : Option Tree) → plan.pos ≡ pos → ends.first_at_end (lists_of info engine.now) plan pick.now back ≡ first.now
+        → IfOk result (λ fault. fault ≡ ends.unfit (lists_of info engine.now) plan pick.now back value.now) }
 {
     let limits = engine.limits();
     match too_large(alloc, limits, pos, value)? {

@@ -39,7 +39,9 @@ pub fn fill<H: Host, B: Bodies>(
     requires libraries { all_held (length engine.now.natives.items.items) state.old.lib ≡ true }
     requires within { begun.old ≤ engine.now.limits.budget }
     requires begun { (call : CallRequest) × IsBegunFor call reply.old }
-    ensures replied { (modules : List ModuleTree) (call : CallRequest) → IsBegunFor call reply.old → OnOk result (CallRepliedIn (setting_of allows_call allows_resume B.allows_start B.allows_next H.allows_missing info engine.now modules state.old) (moment begun.old host.old bodies.old) call reply.new (moment begun.new host.new bodies.new)) }
+    ensures replied { (modules : List ModuleTree) (call : CallRequest) → IsBegunFor call reply.old → OnOk result (CallRepliedIn
+        (setting_of allows_call allows_resume B.allows_start B.allows_next H.allows_missing info engine.now modules state.old) (moment begun.old host.old bodies.old) call reply.new
+        (moment begun.new host.new bodies.new)) }
     ensures state { state.new ≡ state.old }
     ensures within { begun.new ≤ engine.now.limits.budget }
     ensures rises { begun.old ≤ begun.new }
@@ -73,8 +75,13 @@ fn fill_on<H: Host, B: Bodies>(
 ) -> Result<(), OutOfMemory>
     requires libraries { all_held (length engine.now.natives.items.items) state.old.lib ≡ true }
     requires within { begun.old ≤ engine.now.limits.budget }
-    requires comes { (modules : List ModuleTree) × (node : CallNode) × (call : CallRequest) × (before : Moment H B) × (reply.old ≡ Called node) × ComesIn (setting_of allows_call allows_resume B.allows_start B.allows_next H.allows_missing info engine.now modules state.old) 1 call (outcome_of node (Some asking)) before (moment begun.old host.old bodies.old) }
-    ensures replied { (modules : List ModuleTree) (node : CallNode) (call : CallRequest) (before : Moment H B) → reply.old ≡ Called node → ComesIn (setting_of allows_call allows_resume B.allows_start B.allows_next H.allows_missing info engine.now modules state.old) 1 call (outcome_of node (Some asking)) before (moment begun.old host.old bodies.old) → OnOk result (CallRepliedIn (setting_of allows_call allows_resume B.allows_start B.allows_next H.allows_missing info engine.now modules state.old) before call reply.new (moment begun.new host.new bodies.new)) }
+    requires comes { (modules : List ModuleTree) × (node : CallNode) × (call : CallRequest) × (before : Moment H B) × (reply.old ≡ Called node) × ComesIn
+        (setting_of allows_call allows_resume B.allows_start B.allows_next H.allows_missing info engine.now modules state.old) 1 call (outcome_of node (Some asking)) before
+        (moment begun.old host.old bodies.old) }
+    ensures replied { (modules : List ModuleTree) (node : CallNode) (call : CallRequest) (before : Moment H B) → reply.old ≡ Called node → ComesIn
+        (setting_of allows_call allows_resume B.allows_start B.allows_next H.allows_missing info engine.now modules state.old) 1 call (outcome_of node (Some asking)) before
+        (moment begun.old host.old bodies.old) → OnOk result (CallRepliedIn
+        (setting_of allows_call allows_resume B.allows_start B.allows_next H.allows_missing info engine.now modules state.old) before call reply.new (moment begun.new host.new bodies.new)) }
     ensures state { state.new ≡ state.old }
     ensures within { begun.new ≤ engine.now.limits.budget }
     ensures rises { begun.old ≤ begun.new }
@@ -101,8 +108,12 @@ fn run_on<H: Host, B: Bodies>(
 ) -> Result<CallNode, OutOfMemory>
     requires libraries { all_held (length engine.now.natives.items.items) state.old.lib ≡ true }
     requires within { begun.old ≤ engine.now.limits.budget }
-    requires comes { (modules : List ModuleTree) × (call : CallRequest) × (before : Moment H B) × ComesIn (setting_of allows_call allows_resume B.allows_start B.allows_next H.allows_missing info engine.now modules state.old) 1 call outcome before (moment begun.old host.old bodies.old) }
-    ensures runs { (modules : List ModuleTree) (call : CallRequest) (before : Moment H B) → ComesIn (setting_of allows_call allows_resume B.allows_start B.allows_next H.allows_missing info engine.now modules state.old) 1 call outcome before (moment begun.old host.old bodies.old) → IfOk result (λ node. (cut : Bool) × RunsIn (setting_of allows_call allows_resume B.allows_start B.allows_next H.allows_missing info engine.now modules state.old) 1 call node before (moment begun.new host.new bodies.new) cut) }
+    requires comes { (modules : List ModuleTree) × (call : CallRequest) × (before : Moment H B)
+        × ComesIn (setting_of allows_call allows_resume B.allows_start B.allows_next H.allows_missing info engine.now modules state.old) 1 call outcome before (moment begun.old host.old bodies.old) }
+    ensures runs { (modules : List ModuleTree) (call : CallRequest) (before : Moment H B)
+        → ComesIn (setting_of allows_call allows_resume B.allows_start B.allows_next H.allows_missing info engine.now modules state.old) 1 call outcome before (moment begun.old host.old bodies.old)
+        → IfOk result (λ node. (cut : Bool)
+        × RunsIn (setting_of allows_call allows_resume B.allows_start B.allows_next H.allows_missing info engine.now modules state.old) 1 call node before (moment begun.new host.new bodies.new) cut) }
     ensures state { state.new ≡ state.old }
     ensures within { begun.new ≤ engine.now.limits.budget }
     ensures rises { begun.old ≤ begun.new }
@@ -126,8 +137,12 @@ fn run_stack<H: Host, B: Bodies>(
 ) -> Result<CallNode, OutOfMemory>
     requires libraries { all_held (length engine.now.natives.items.items) state.old.lib ≡ true }
     requires within { begun.old ≤ engine.now.limits.budget }
-    requires comes { (modules : List ModuleTree) × (call : CallRequest) × (before : Moment H B) × ComesIn (setting_of allows_call allows_resume B.allows_start B.allows_next H.allows_missing info engine.now modules state.old) 1 call outcome before (moment begun.old host.old bodies.old) }
-    ensures runs { (modules : List ModuleTree) (call : CallRequest) (before : Moment H B) → ComesIn (setting_of allows_call allows_resume B.allows_start B.allows_next H.allows_missing info engine.now modules state.old) 1 call outcome before (moment begun.old host.old bodies.old) → IfOk result (λ node. (cut : Bool) × RunsIn (setting_of allows_call allows_resume B.allows_start B.allows_next H.allows_missing info engine.now modules state.old) 1 call node before (moment begun.new host.new bodies.new) cut) }
+    requires comes { (modules : List ModuleTree) × (call : CallRequest) × (before : Moment H B)
+        × ComesIn (setting_of allows_call allows_resume B.allows_start B.allows_next H.allows_missing info engine.now modules state.old) 1 call outcome before (moment begun.old host.old bodies.old) }
+    ensures runs { (modules : List ModuleTree) (call : CallRequest) (before : Moment H B)
+        → ComesIn (setting_of allows_call allows_resume B.allows_start B.allows_next H.allows_missing info engine.now modules state.old) 1 call outcome before (moment begun.old host.old bodies.old)
+        → IfOk result (λ node. (cut : Bool)
+        × RunsIn (setting_of allows_call allows_resume B.allows_start B.allows_next H.allows_missing info engine.now modules state.old) 1 call node before (moment begun.new host.new bodies.new) cut) }
     ensures above { IsAbove state.old state.new }
     ensures within { begun.new ≤ engine.now.limits.budget }
     ensures rises { begun.old ≤ begun.new }
@@ -167,7 +182,11 @@ fn ask<H: Host, B: Bodies>(
 ) -> Result<Hand, OutOfMemory>
     requires libraries { all_held (length engine.now.natives.items.items) state.old.lib ≡ true }
     requires few { length stack.old.items ≤ 1000 }
-    ensures going { (modules : List ModuleTree) (base : Frame) (call : CallRequest) (before : Moment H B) (begun : ℕ) → begun < engine.now.limits.budget → GoingIn (setting_of allows_call allows_resume B.allows_start B.allows_next H.allows_missing info engine.now modules base) stack.old.items call before (Asked request) state.old (moment begun host.old bodies.old) → IfOk result (λ hand. GoingIn (setting_of allows_call allows_resume B.allows_start B.allows_next H.allows_missing info engine.now modules base) stack.new.items call before hand state.new (moment (begun + 1) host.new bodies.new)) }
+    ensures going { (modules : List ModuleTree) (base : Frame) (call : CallRequest) (before : Moment H B) (begun : ℕ) → begun < engine.now.limits.budget → GoingIn
+        (setting_of allows_call allows_resume B.allows_start B.allows_next H.allows_missing info engine.now modules base) stack.old.items call before (Asked request) state.old
+        (moment begun host.old bodies.old) → IfOk result (λ hand. GoingIn
+        (setting_of allows_call allows_resume B.allows_start B.allows_next H.allows_missing info engine.now modules base) stack.new.items call before hand state.new
+        (moment (begun + 1) host.new bodies.new)) }
     ensures grows { IfOk result (λ hand. length stack.new.items + weight hand ≡ length stack.old.items + 1) }
     ensures above { (base : Frame) → IsAbove base state.old → IsAbove base state.new }
 {
@@ -188,7 +207,10 @@ fn answer<H: Host, B: Bodies>(
     bodies: &mut B,
 ) -> Result<Hand, OutOfMemory>
     requires { func_held (length engine.now.natives.items.items) frame.suspended.pick.func ≡ true }
-    ensures going { (modules : List ModuleTree) (base : Frame) (call : CallRequest) (before : Moment H B) (begun : ℕ) (host : H) → GoingIn (setting_of allows_call allows_resume B.allows_start B.allows_next H.allows_missing info engine.now modules base) (stack.old.items ++ frame ∷ []) call before (Answered node) state.old (moment begun host bodies.old) → IfOk result (λ hand. GoingIn (setting_of allows_call allows_resume B.allows_start B.allows_next H.allows_missing info engine.now modules base) stack.new.items call before hand state.new (moment begun host bodies.new)) }
+    ensures going { (modules : List ModuleTree) (base : Frame) (call : CallRequest) (before : Moment H B) (begun : ℕ) (host : H) → GoingIn
+        (setting_of allows_call allows_resume B.allows_start B.allows_next H.allows_missing info engine.now modules base) (stack.old.items ++ frame ∷ []) call before (Answered node) state.old
+        (moment begun host bodies.old) → IfOk result (λ hand. GoingIn
+        (setting_of allows_call allows_resume B.allows_start B.allows_next H.allows_missing info engine.now modules base) stack.new.items call before hand state.new (moment begun host bodies.new)) }
     ensures grows { IfOk result (λ hand. length stack.new.items + weight hand ≡ length stack.old.items + 1) }
     ensures above { (base : Frame) → IsAbove base state.old → IsAbove base state.new }
 {
@@ -204,7 +226,9 @@ fn cut_all<H: Host, B: Bodies>(
     mut stack: Vec<StackFrame>,
     mut node: CallNode,
 ) -> Result<CallNode, OutOfMemory>
-    ensures { (modules : List ModuleTree) (base : Frame) (call : CallRequest) (before after : Moment H B) → CuttingIn (setting_of allows_call allows_resume B.allows_start B.allows_next H.allows_missing info _engine.now modules base) stack.items call before node after → IfOk result (λ root. RunsIn (setting_of allows_call allows_resume B.allows_start B.allows_next H.allows_missing info _engine.now modules base) 1 call root before after true) }
+    ensures { (modules : List ModuleTree) (base : Frame) (call : CallRequest) (before after : Moment H B)
+        → CuttingIn (setting_of allows_call allows_resume B.allows_start B.allows_next H.allows_missing info _engine.now modules base) stack.items call before node after
+        → IfOk result (λ root. RunsIn (setting_of allows_call allows_resume B.allows_start B.allows_next H.allows_missing info _engine.now modules base) 1 call root before after true) }
 {
     while let Some(frame) = stack.pop() {
         node = cut(frame.suspended, node)?;

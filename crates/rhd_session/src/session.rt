@@ -90,7 +90,9 @@ impl Session {
         bodies: &mut B,
     ) -> Result<(), OutOfMemory>
         requires { vec_len replies.old < vec_capacity replies.old }
-        ensures replied { OnOk result ((reply : Reply) × (replies.new.items ≡ replies.old.items ++ reply ∷ []) × CallReplied (objects_of allows_call allows_resume B.allows_start B.allows_next H.allows_missing (natives_of self.old)) (world_of info self.old) (frame_of self.old) (moment_of self.old host.old bodies.old) request reply (moment_of self.new host.new bodies.new)) }
+        ensures replied { OnOk result ((reply : Reply) × (replies.new.items ≡ replies.old.items ++ reply ∷ [])
+            × CallReplied (objects_of allows_call allows_resume B.allows_start B.allows_next H.allows_missing
+            (natives_of self.old)) (world_of info self.old) (frame_of self.old) (moment_of self.old host.old bodies.old) request reply (moment_of self.new host.new bodies.new)) }
         ensures failed { OnErr result (replies.new.items ≡ replies.old.items) }
         ensures world { world_of info self.new ≡ world_of info self.old }
         ensures frame { frame_of self.new ≡ frame_of self.old }
@@ -125,7 +127,9 @@ impl Session {
         bodies: &mut B,
     ) -> Result<(), OutOfMemory>
         requires { length (modules_of self.old) < 2 ^ 32 }
-        ensures replied { OnOk result ((reply : Reply) × (replies.new.items ≡ replies.old.items ++ reply ∷ []) × Replied (objects_of allows_call allows_resume B.allows_start B.allows_next H.allows_missing (natives_of self.old)) (world_of info self.old) (frame_of self.old) (moment_of self.old host.old bodies.old) command reply (world_of info self.new) (frame_of self.new) (moment_of self.new host.new bodies.new)) }
+        ensures replied { OnOk result ((reply : Reply) × (replies.new.items ≡ replies.old.items ++ reply ∷ [])
+            × Replied (objects_of allows_call allows_resume B.allows_start B.allows_next H.allows_missing
+            (natives_of self.old)) (world_of info self.old) (frame_of self.old) (moment_of self.old host.old bodies.old) command reply (world_of info self.new) (frame_of self.new) (moment_of self.new host.new bodies.new)) }
         ensures failed { OnErr result ((replies.new.items ≡ replies.old.items) × (world_of info self.new ≡ world_of info self.old) × (frame_of self.new ≡ frame_of self.old)) }
         ensures natives { natives_of self.new ≡ natives_of self.old }
         ensures begins { Begins command (calls_begun_of self.old) (calls_begun_of self.new) }
@@ -152,7 +156,8 @@ impl Session {
         bodies: &mut B,
     ) -> Result<Replies, Stopped>
         requires { length (modules_of self.old) + length commands.now < 2 ^ 32 }
-        ensures gives { RunGives (session_setting allows_call allows_resume B.allows_start B.allows_next H.allows_missing info self.old) (moment_of self.old host.old bodies.old) commands.now result (world_of info self.new) (frame_of self.new) (moment_of self.new host.new bodies.new) }
+        ensures gives { RunGives (session_setting allows_call allows_resume B.allows_start B.allows_next H.allows_missing info self.old) (moment_of self.old host.old bodies.old) commands.now result
+            (world_of info self.new) (frame_of self.new) (moment_of self.new host.new bodies.new) }
         ensures modules { length (modules_of self.new) ≤ length (modules_of self.old) + length commands.now }
         ensures natives { natives_of self.new ≡ natives_of self.old }
     {
@@ -184,7 +189,8 @@ impl Session {
         bodies: &mut B,
     ) -> Result<Replies, Stopped>
         requires { length (modules_of self.old) + length commands < 2 ^ 32 }
-        ensures gives { RunGives (session_setting allows_call allows_resume B.allows_start B.allows_next H.allows_missing info self.old) (moment_of self.old host.old bodies.old) commands result (world_of info self.new) (frame_of self.new) (moment_of self.new host.new bodies.new) }
+        ensures gives { RunGives (session_setting allows_call allows_resume B.allows_start B.allows_next H.allows_missing info self.old) (moment_of self.old host.old bodies.old) commands result
+            (world_of info self.new) (frame_of self.new) (moment_of self.new host.new bodies.new) }
         ensures modules { length (modules_of self.new) ≤ length (modules_of self.old) + length commands }
         ensures natives { natives_of self.new ≡ natives_of self.old }
     {

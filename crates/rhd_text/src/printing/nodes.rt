@@ -209,7 +209,8 @@ fn push_shown(shown: &Option<Text>, out: &mut Vec<u8>) -> Result<(), OutOfMemory
 /// A call with its answer, without the end of the line.
 #[tactic(auto, unfolding(crate::specs::PrintedReplies::call_line))]
 fn push_call_line(alloc: Global, node: &CallNode, out: &mut Vec<u8>) -> Result<(), OutOfMemory>
-    ensures { OnOk result (out.new.items ≡ out.old.items ++ call_line (out-CallNode node.now).call (out-CallNode node.now).pick (out-CallNode node.now).whose (out-CallNode node.now).answer (out-CallNode node.now).first_after (out-CallNode node.now).printed) }
+    ensures { OnOk result (out.new.items ≡ out.old.items ++ call_line (out-CallNode node.now).call (out-CallNode node.now).pick (out-CallNode node.now).whose (out-CallNode node.now).answer
+        (out-CallNode node.now).first_after (out-CallNode node.now).printed) }
 {
     push_label(&node.call, out)?;
     out.push(b' ')?;
