@@ -58,7 +58,8 @@ impl PluginFunc for Relay {
         done: CallDone,
     ) -> Result<NativeStep, OutOfMemory> {
         let Carry { first, kept: _ } = carry;
-        match done.answer {
+        let CallDone { answer, first: _ } = done;
+        match answer {
             Ok(answer) => Ok(NativeStep::Done { answer, first }),
             Err(fault) => Ok(NativeStep::Failed { fault, first }),
         }
