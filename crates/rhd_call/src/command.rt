@@ -78,6 +78,17 @@ impl Commands {
         }
     }
 
+    /// An equal list.
+    pub fn dup(&self, alloc: Global) -> Result<Commands, OutOfMemory>
+        ensures { IfOk result (λ commands. commands ≡ self.now) }
+    {
+        let mut commands = Commands::new(alloc);
+        for command in &self.items {
+            commands.push(command.dup(alloc)?)?;
+        }
+        Ok(commands)
+    }
+
     /// Puts a command last.
     pub fn push(&mut self, command: Command) -> Result<(), OutOfMemory>
         ensures { self.new ≡ (if is_ok result then self.old ++ command ∷ [] else self.old) }

@@ -5,3 +5,4 @@ pub mod NativeLooks
 pub mod Tables
 pub mod Picks
 pub mod HeldPicks
+pub mod Looks

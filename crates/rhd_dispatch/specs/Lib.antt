@@ -2,3 +2,4 @@ pub mod Searched
 pub mod Patterns
 pub mod Asks
 pub mod Walks
+pub mod Looks

@@ -1,12 +1,14 @@
 //! The questions that a call asks in order: for scripts, for natives, for a built-in operator.
 
-ghost use Rattle.std.specs.Prelude.{◌≡◌, true, IfOk, IfSome, None, length};
+ghost use Rattle.std.specs.Prelude.{◌≡◌, ◌≤◌, ◌+◌, ◌*◌, [], ◌∷◌, true, IfOk, IfSome, None, length};
 ghost use Rattle.rhd_value.specs.Firsts.{first_of};
 ghost use Rattle.rhd_module.specs.declared.key.Key.TheVariants.{Script};
 ghost use Rattle.rhd_engine.specs.Held.{func_held, all_held};
 ghost use Rattle.rhd_engine.specs.Of.{lists_of};
-ghost use Rattle.rhd_dispatch.specs.Asks.{looked, native, native_ask, typed_asks, allowed_asks, params_of, native_found, pick_unqualified};
-ghost use Rattle.rhd_dispatch.specs.Searched.{found};
+ghost use Rattle.rhd_dispatch.specs.Asks.{looked, native, native_ask, typed_asks, allowed_asks, params_of, native_found, asks, pick_unqualified};
+ghost use Rattle.rhd_dispatch.specs.Looks.{most_looks};
+ghost use Rattle.rhd_dispatch.specs.Patterns.{patterns};
+ghost use Rattle.rhd_dispatch.specs.Searched.{found, searched};
 
 use crate::keys::{key_parts, kinds_of, native_key_of, script_key_of};
 use crate::look::NativesOf;
@@ -16,7 +18,7 @@ use crate::search::find;
 use rhd_call::Pick;
 use rhd_engine::{Engine, GlobalRuntimeState};
 use rhd_func::CallShape;
-use rhd_module::Key;
+use rhd_module::{Key, Steps};
 use rhd_names::OpToken;
 use rhd_value::{OutOfMemory, Text, TypeTag, Values};
 use std::alloc::Global;
@@ -29,8 +31,10 @@ fn find_method(
     state: &GlobalRuntimeState,
     name: &Text,
     shape: &CallShape,
+    steps: &mut Steps,
 ) -> Result<Option<Pick>, OutOfMemory>
-    ensures { IfOk result (λ pick. pick ≡ first_of (looked (lists_of info engine.now) state.now.lib state.now.imports) (typed_asks (lists_of info engine.now) name.now shape.now)) }
+    ensures pick { IfOk result (λ pick. pick ≡ first_of (looked (lists_of info engine.now) state.now.lib state.now.imports) (typed_asks (lists_of info engine.now) name.now shape.now)) }
+    ensures steps { steps.new ≤ steps.old + most_looks (lists_of info engine.now) state.now.lib state.now.imports (typed_asks (lists_of info engine.now) name.now shape.now) }
 {
     match shape {
         CallShape::Plain(_) => Ok(None),
@@ -42,7 +46,7 @@ fn find_method(
                 params: args.len() as u64,
                 this_type: engine.display_type(alloc, object)?,
             };
-            find(alloc, engine, state, &key)
+            find(alloc, engine, state, &key, steps)
         }
     }
 }
@@ -54,13 +58,15 @@ fn find_untyped(
     state: &GlobalRuntimeState,
     name: &mut Text,
     shape: &CallShape,
+    steps: &mut Steps,
 ) -> Result<Option<Pick>, OutOfMemory>
     ensures pick { IfOk result (λ pick. pick ≡ found (lists_of info engine.now) state.now.lib state.now.imports (Script None name.old (params_of shape.now))) }
     ensures kept { IfOk result (λ pick. name.new ≡ name.old) }
+    ensures steps { steps.new ≤ steps.old + length (searched (lists_of info engine.now) state.now.lib state.now.imports) }
 {
     let own = mem::replace(name, Text::new(alloc));
     let key = script_key_of(own, shape);
-    let pick = find(alloc, engine, state, &key)?;
+    let pick = find(alloc, engine, state, &key, steps)?;
     let (own, _types) = key_parts(alloc, key);
     *name = own;
     Ok(pick)
@@ -74,21 +80,23 @@ fn find_script(
     name: &mut Text,
     native_only: bool,
     shape: &CallShape,
+    steps: &mut Steps,
 ) -> Result<Option<Pick>, OutOfMemory>
     ensures pick { IfOk result (λ pick. pick ≡ first_of (looked (lists_of info engine.now) state.now.lib state.now.imports) (allowed_asks (lists_of info engine.now) name.old native_only shape.now)) }
     ensures kept { IfOk result (λ pick. name.new ≡ name.old) }
+    ensures steps { steps.new ≤ steps.old + most_looks (lists_of info engine.now) state.now.lib state.now.imports (allowed_asks (lists_of info engine.now) name.old native_only shape.now) }
 {
     if native_only {
         return Ok(None);
     }
-    match find_method(alloc, engine, state, name, shape)? {
+    match find_method(alloc, engine, state, name, shape, steps)? {
         Some(pick) => Ok(Some(pick)),
-        None => find_untyped(alloc, engine, state, name, shape),
+        None => find_untyped(alloc, engine, state, name, shape, steps),
     }
 }
 
 /// The native of the first pattern that is found for these kinds, or else the built-in. Nothing has
-/// exactly these kinds.
+/// exactly these kinds, and they aren't looked up again.
 fn find_pattern(
     alloc: Global,
     engine: &Engine,
@@ -96,9 +104,11 @@ fn find_pattern(
     name: &Text,
     token: Option<OpToken>,
     kinds: &[TypeTag],
+    steps: &mut Steps,
 ) -> Result<Option<Pick>, OutOfMemory>
     requires { native_found (lists_of info engine.now) state.now.lib state.now.imports name.now kinds.now ≡ None }
-    ensures { IfOk result (λ pick. pick ≡ looked (lists_of info engine.now) state.now.lib state.now.imports (native name.now kinds.now token)) }
+    ensures pick { IfOk result (λ pick. pick ≡ looked (lists_of info engine.now) state.now.lib state.now.imports (native name.now kinds.now token)) }
+    ensures steps { steps.new + length (searched (lists_of info engine.now) state.now.lib state.now.imports) ≤ steps.old + length (patterns kinds.now) * length (searched (lists_of info engine.now) state.now.lib state.now.imports) }
 {
     let mut types = Vec::from_slice(alloc, kinds)?;
     let natives = NativesOf {
@@ -106,7 +116,7 @@ fn find_pattern(
         state,
         name,
     };
-    match find_others(alloc, &natives, &mut types, 0)? {
+    match find_others(alloc, &natives, &mut types, 0, steps)? {
         Some(pick) => Ok(Some(pick)),
         None => Ok(find_builtin(engine, token, kinds)),
     }
@@ -120,22 +130,25 @@ fn find_native(
     name: Text,
     token: Option<OpToken>,
     shape: &CallShape,
+    steps: &mut Steps,
 ) -> Result<Option<Pick>, OutOfMemory>
-    ensures { IfOk result (λ pick. pick ≡ looked (lists_of info engine.now) state.now.lib state.now.imports (native_ask name token shape.now)) }
+    ensures pick { IfOk result (λ pick. pick ≡ looked (lists_of info engine.now) state.now.lib state.now.imports (native_ask name token shape.now)) }
+    ensures steps { steps.new ≤ steps.old + most_looks (lists_of info engine.now) state.now.lib state.now.imports (native_ask name token shape.now ∷ []) }
 {
     let types = kinds_of(alloc, shape)?;
     let key = native_key_of(name, types);
-    match find(alloc, engine, state, &key)? {
+    match find(alloc, engine, state, &key, steps)? {
         Some(pick) => Ok(Some(pick)),
         None => {
             let (name, types) = key_parts(alloc, key);
-            find_pattern(alloc, engine, state, &name, token, types.as_slice())
+            find_pattern(alloc, engine, state, &name, token, types.as_slice(), steps)
         }
     }
 }
 
 /// The function that a call by name means: of the scripts, where they are allowed, and then of the
-/// natives and built-ins.
+/// natives and built-ins. It looks up each key of each question once at most in each module, also where
+/// memory runs out.
 pub fn resolve(
     alloc: Global,
     engine: &Engine,
@@ -144,14 +157,16 @@ pub fn resolve(
     token: Option<OpToken>,
     native_only: bool,
     shape: &CallShape,
+    steps: &mut Steps,
 ) -> Result<Option<Pick>, OutOfMemory>
     requires { all_held (length engine.now.natives.items.items) state.now.lib ≡ true }
     ensures pick { IfOk result (λ pick. pick ≡ pick_unqualified (lists_of info engine.now) state.now.lib state.now.imports name.now token native_only shape.now) }
     ensures held { IfOk result (λ pick. IfSome pick (λ p. func_held (length engine.now.natives.items.items) p.func ≡ true)) }
+    ensures steps { steps.new ≤ steps.old + most_looks (lists_of info engine.now) state.now.lib state.now.imports (asks (lists_of info engine.now) name.now token native_only shape.now) }
 {
     let mut own = name.dup(alloc)?;
-    match find_script(alloc, engine, state, &mut own, native_only, shape)? {
+    match find_script(alloc, engine, state, &mut own, native_only, shape, steps)? {
         Some(pick) => Ok(Some(pick)),
-        None => find_native(alloc, engine, state, own, token, shape),
+        None => find_native(alloc, engine, state, own, token, shape, steps),
     }
 }

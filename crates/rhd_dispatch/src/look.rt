@@ -1,6 +1,6 @@
 //! Look-ups of natives by their types.
 
-ghost use Rattle.std.specs.Prelude.{◌≡◌, false, true, List, Option, None, IfOk};
+ghost use Rattle.std.specs.Prelude.{◌≡◌, ◌≤◌, ◌+◌, ℕ, false, true, List, Option, None, IfOk, length};
 ghost use Rattle.std.specs.List.{list_any};
 ghost use Rattle.rhd_value.specs.declared.tag.TypeTag.{TypeTag};
 ghost use Rattle.rhd_module.specs.Matching.{types_match, may_match as may_have};
@@ -11,7 +11,7 @@ use crate::keys::native_key_of;
 use crate::search::find;
 use rhd_call::Pick;
 use rhd_engine::{Engine, GlobalRuntimeState};
-use rhd_module::SharedModule;
+use rhd_module::{SharedModule, Steps};
 use rhd_value::{OutOfMemory, Text, TypeTag, Types};
 use std::alloc::Global;
 
@@ -20,9 +20,18 @@ pub(crate) trait Look {
     /// What there is for a list of types.
     ghost look: { Self → List TypeTag → Option Pick };
 
-    /// What there is for these types.
-    fn find(&self, alloc: Global, types: &[TypeTag]) -> Result<Option<Pick>, OutOfMemory>
-        ensures { IfOk result (λ pick. pick ≡ look self.now types.now) };
+    /// In how many modules it looks.
+    ghost modules: { Self → ℕ };
+
+    /// What there is for these types. Each module is asked once at most.
+    fn find(
+        &self,
+        alloc: Global,
+        types: &[TypeTag],
+        steps: &mut Steps,
+    ) -> Result<Option<Pick>, OutOfMemory>
+        ensures found { IfOk result (λ pick. pick ≡ look self.now types.now) }
+        ensures steps { steps.new ≤ steps.old + modules self.now };
 
     /// False only where there is nothing for any types each of which is its kind, or, behind the first
     /// `place` ones, `Dynamic`.
@@ -54,9 +63,16 @@ fn any_may_match(modules: &[SharedModule], place: usize, name: &Text, kinds: &[T
 impl Look for NativesOf<'_> {
     ghost look = { λ s types. native_in s.state.now.lib s.engine.now.globals s.name.now types };
 
-    fn find(&self, alloc: Global, types: &[TypeTag]) -> Result<Option<Pick>, OutOfMemory> {
+    ghost modules = { λ s. length s.state.now.lib + length s.engine.now.globals };
+
+    fn find(
+        &self,
+        alloc: Global,
+        types: &[TypeTag],
+        steps: &mut Steps,
+    ) -> Result<Option<Pick>, OutOfMemory> {
         let key = native_key_of(self.name.dup(alloc)?, Types::from_slice(alloc, types)?);
-        find(alloc, self.engine, self.state, &key)
+        find(alloc, self.engine, self.state, &key, steps)
     }
 
     fn may_match(&self, place: usize, kinds: &[TypeTag]) -> bool {

@@ -1,10 +1,12 @@
 //! The search for a native by the patterns of its types, over any look-up.
 
-ghost use Rattle.std.specs.Prelude.{◌≡◌, ◌≤◌, ◌-◌, IfOk, None, length, take, drop};
+ghost use Rattle.std.specs.Prelude.{◌≡◌, ◌≤◌, ◌+◌, ◌*◌, ◌-◌, IfOk, None, length, take, drop};
+ghost use Rattle.rhd_dispatch.specs.Patterns.{patterns_to};
 ghost use Rattle.rhd_dispatch.specs.Walks.{first_match};
 
 use crate::look::Look;
 use rhd_call::Pick;
+use rhd_module::Steps;
 use rhd_value::{OutOfMemory, TypeTag};
 use std::alloc::Global;
 
@@ -18,27 +20,29 @@ fn find_from<L: Look>(
     look: &L,
     kinds: &mut Vec<TypeTag>,
     place: usize,
+    steps: &mut Steps,
 ) -> Result<Option<Pick>, OutOfMemory>
     requires { place ≤ length kinds.old.items }
     ensures found { IfOk result (λ pick. pick ≡ first_match (L.look look.now) (take place kinds.old.items) (16 - place) (drop place kinds.old.items)) }
     ensures kept { IfOk result (λ pick. kinds.new.items ≡ kinds.old.items) }
+    ensures steps { steps.new ≤ steps.old + length (patterns_to (16 - place) (drop place kinds.old.items)) * L.modules look.now }
 {
     if !look.may_match(place, kinds) {
         return Ok(None);
     }
     if place >= MOST_CHANGED {
-        return look.find(alloc, kinds);
+        return look.find(alloc, kinds, steps);
     }
     if place >= kinds.len() {
-        return look.find(alloc, kinds);
+        return look.find(alloc, kinds, steps);
     }
     let exact = kinds[place];
-    let kept = find_from(alloc, look, kinds, place + 1)?;
+    let kept = find_from(alloc, look, kinds, place + 1, steps)?;
     if kept.is_some() {
         return Ok(kept);
     }
     kinds[place] = TypeTag::Dynamic;
-    let changed = find_from(alloc, look, kinds, place + 1)?;
+    let changed = find_from(alloc, look, kinds, place + 1, steps)?;
     kinds[place] = exact;
     Ok(changed)
 }
@@ -49,11 +53,13 @@ pub(crate) fn find_others<L: Look>(
     look: &L,
     kinds: &mut Vec<TypeTag>,
     place: usize,
+    steps: &mut Steps,
 ) -> Result<Option<Pick>, OutOfMemory>
     requires within { place ≤ length kinds.old.items }
     requires missed { L.look look.now kinds.old.items ≡ None }
     ensures found { IfOk result (λ pick. pick ≡ first_match (L.look look.now) (take place kinds.old.items) (16 - place) (drop place kinds.old.items)) }
     ensures kept { IfOk result (λ pick. kinds.new.items ≡ kinds.old.items) }
+    ensures steps { steps.new + L.modules look.now ≤ steps.old + length (patterns_to (16 - place) (drop place kinds.old.items)) * L.modules look.now }
 {
     if !look.may_match(place, kinds) {
         return Ok(None);
@@ -65,12 +71,12 @@ pub(crate) fn find_others<L: Look>(
         return Ok(None);
     }
     let kind = kinds[place];
-    let others = find_others(alloc, look, kinds, place + 1)?;
+    let others = find_others(alloc, look, kinds, place + 1, steps)?;
     if others.is_some() {
         return Ok(others);
     }
     kinds[place] = TypeTag::Dynamic;
-    let changed = find_from(alloc, look, kinds, place + 1)?;
+    let changed = find_from(alloc, look, kinds, place + 1, steps)?;
     kinds[place] = kind;
     Ok(changed)
 }

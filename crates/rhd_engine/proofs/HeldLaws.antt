@@ -18,9 +18,11 @@ use Rattle.rhd_module.specs.Keys.{key_eq}
 use Rattle.rhd_module.specs.Tree.{ModuleTree, Pairs}
 use Rattle.rhd_module.specs.Shown.{own_decl}
 use Rattle.rhd_module.specs.Registered.{put, with_decl, native_key, native_decl, pure_by_name}
+use Rattle.rhd_module.specs.declared.fault.DeclFault.{DeclFault}
+use Rattle.rhd_module.specs.declared.fault.DeclFault.TheVariants.{UnknownNumber, OutOfMemory}
 use Rattle.std.proofs.lemmas.List.{length-map}
 use Rattle.rhd_engine.specs.Held.{is_below, func_held, names_held, all_held}
-use Rattle.rhd_engine.specs.Registered.{in_first}
+use Rattle.rhd_engine.specs.Registered.{in_first, native_in_first, RegisteredIn}
 
 abbrev is_held : ℕ → Declaration → Bool
 is_held n d = func_held n d.func
@@ -98,27 +100,22 @@ info_held : {N : Type 0} (view : N → NativeInfo) (items : List N) (name : Byte
 info_held view items name id info some =
     ap (λ (n : ℕ). func_held n (native_decl name info id).func) (sym (length-map items view)) ∙ holds_number (map view items) (native_decl name info id).func id info (native_number name info id) some
 
--- it stays so in each module where a native is declared in the first of them
-pub registered_held : {N : Type 0} (view : N → NativeInfo) (items : List N) (name : Bytes) (id : FnId) (info : NativeInfo) (d : Key × Declaration) (old new : List ModuleTree) → slice_get (map view items) id.0 ≡ Some info → d ≡ (native_key name info, native_decl name info id)
-    → new ≡ in_first (with_decl d.0 d.1) old → all_held (length items) old ≡ true → all_held (length items) new ≡ true
-registered_held view items name id info d old new some is done all =
-    let h : func_held (length items) d.1.func ≡ true = ap (λ (p : Key × Declaration). func_held (length items) p.1.func) is ∙ info_held view items name id info some in
-    ap (all_held (length items)) done ∙ first_held (length items) d.0 d.1 old h all
-
--- nor is anything else held where memory runs out
-pub set_held : {N E : Type 0} (view : N → NativeInfo) (items : List N) (name : Bytes) (id : FnId) (info : NativeInfo) (d : Key × Declaration) (r : Result (Unit {0}) E) (old new : List ModuleTree) → slice_get (map view items) id.0 ≡ Some info → d ≡ (native_key name info, native_decl name info id)
-    → OnOk r (new ≡ in_first (with_decl d.0 d.1) old) → OnErr r (new ≡ old) → all_held (length items) old ≡ true → all_held (length items) new ≡ true
-set_held view items name id info d (Ok u) old new some is ok err all = registered_held view items name id info d old new some is ok all
-set_held view items name id info d (Err e) old new some is ok err all = ap (all_held (length items)) err ∙ all
+-- it stays so in each module where a native is registered in the first of them, or refused
+pub registered_held : {N : Type 0} (view : N → NativeInfo) (items : List N) (name : Bytes) (id : FnId) (r : Result (Unit {0}) DeclFault) (old new : List ModuleTree) → RegisteredIn name id (map view items) old r new → all_held (length items) old ≡ true → all_held (length items) new ≡ true
+registered_held view items name id (Ok u) old new is all =
+    ap (all_held (length items)) is.2 ∙ first_held (length items) (native_key name is.0) (native_decl name is.0 id) old (info_held view items name id is.0 is.1) all
+registered_held view items name id (Err (UnknownNumber n h)) old new is all = ap (all_held (length items)) is.3 ∙ all
+registered_held view items name id (Err OutOfMemory) old new is all = ap (all_held (length items)) is ∙ all
 
 -- and there are as many modules as before
-pub set_count : {E : Type 0} (change : ModuleTree → ModuleTree) (r : Result (Unit {0}) E) (old new : List ModuleTree) → OnOk r (new ≡ in_first change old) → OnErr r (new ≡ old) → length new ≡ length old
-set_count change (Ok u) old new ok err = ap length ok ∙ same old
+pub registered_count : (name : Bytes) (id : FnId) (natives : List NativeInfo) (r : Result (Unit {0}) DeclFault) (old new : List ModuleTree) → RegisteredIn name id natives old r new → length new ≡ length old
+registered_count name id natives (Ok u) old new is = ap length is.2 ∙ same_count old
   where
-    same : (ms : List ModuleTree) → length (in_first change ms) ≡ length ms
-    same [] = refl
-    same (m ∷ ms) = refl
-set_count change (Err e) old new ok err = ap length err
+    same_count : (ms : List ModuleTree) → length (native_in_first name id is.0 ms) ≡ length ms
+    same_count [] = refl
+    same_count (m ∷ ms) = refl
+registered_count name id natives (Err (UnknownNumber n h)) old new is = ap length is.3
+registered_count name id natives (Err OutOfMemory) old new is = ap length is
 
 -- What a key finds in a module.
 

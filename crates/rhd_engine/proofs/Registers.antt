@@ -1,17 +1,9 @@
 -- A registration in the global namespace.
-use Rattle.std.proofs.Common.{◌≡◌, ◌≤◌, ◌<◌, ℕ, true, false, List, [], ◌∷◌, length, map, get_or, refl, sym, ap, ◌∙◌, inl, inr, arith}
+use Rattle.std.proofs.Common.{◌≡◌, ◌≤◌, ◌<◌, ℕ, true, false, List, [], ◌∷◌, length, map, get_or, sym, ap, ◌∙◌, inl, inr, arith}
 use Rattle.std.specs.Prelude.{Some, None, Result, Ok, Err, OnOk, OnErr, is_err, slice_get, slice_set, option_map}
 use Rattle.std.proofs.lemmas.Option.{slice_get_cases, slice_get-map}
-use Rattle.rhd_value.specs.Tree.{Bytes}
-use Rattle.rhd_value.specs.declared.tag.FnId.{FnId}
 use Rattle.rhd_func.specs.Natives.{NativeInfo}
 use Rattle.rhd_module.specs.Tree.{ModuleTree}
-use Rattle.rhd_module.specs.Registered.{with_decl}
-use Rattle.rhd_module.specs.declared.declaration.Declaration.{Declaration}
-use Rattle.rhd_module.specs.declared.key.Key.{Key}
-use Rattle.rhd_module.specs.declared.fault.DeclFault.{DeclFault}
-use Rattle.rhd_module.specs.declared.fault.DeclFault.TheVariants.{UnknownNumber, OutOfMemory}
-use Rattle.rhd_engine.specs.Engine.{EngineLists}
 use Rattle.rhd_engine.specs.Registered.{in_first}
 
 -- a number of which nothing is held is past the end
@@ -42,7 +34,3 @@ set_first change (x ∷ ms) m new h is e = ap (λ (y : ModuleTree). y ∷ ms) (e
 pub set_first_same : (ms : List ModuleTree) (m new : ModuleTree) → 0 < length ms → m ≡ get_or ms 0 m → new ≡ m → slice_set ms 0 new ≡ ms
 set_first_same [] m new h is e = absurd (omega arith)
 set_first_same (x ∷ ms) m new h is e = ap (λ (y : ModuleTree). y ∷ ms) (e ∙ is)
-
--- a pair is what its parts are
-pub pair_is : {A B : Type 0} {a b : A} {c d : B} → a ≡ b → c ≡ d → ◌≡◌ {A = A × B} (a, c) (b, d)
-pair_is p q = cc

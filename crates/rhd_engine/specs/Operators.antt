@@ -1,5 +1,5 @@
 -- Operators between two kinds, and the table of their functions.
-use Rattle.std.specs.Prelude.{◌≡◌, ℕ, Bool, ◌&&◌, List, [], ◌∷◌, ◌++◌, if◌then◌else◌, true}
+use Rattle.std.specs.Prelude.{◌≡◌, ℕ, Bool, ◌&&◌, List, ◌++◌, true}
 use Rattle.std.specs.Bool.{Decides}
 use Rattle.std.specs.Cmp.{IsEquivalence, decided}
 use Rattle.std.specs.Hash as fed
@@ -8,6 +8,7 @@ use Rattle.std.proofs.lemmas.Bool.Decides.{Decides-and, Decides-like}
 use Rattle.rhd_value.specs.Same.{tag_argument, tag_eq, tag_eq-Decides}
 use Rattle.rhd_value.specs.declared.tag.FnId.{FnId}
 use Rattle.rhd_names.specs.Tokens.{token_text, token_eq, token_eq-Decides}
+use Rattle.rhd_module.specs.Registered.{put_in}
 use Rattle.rhd_engine.specs.declared.builtins.Operator.{Operator}
 
 abbrev pub operator_eq : Operator → Operator → Bool
@@ -33,5 +34,4 @@ operator_alike a b e = ap operator_input ((operator_eq-Decides a b).0 e)
 
 -- an equal operator keeps its place and gets the new function; else the pair goes last
 abbrev pub put_builtin : Operator → FnId → List (Operator × FnId) → List (Operator × FnId)
-put_builtin o id [] = (o, id) ∷ []
-put_builtin o id (b ∷ bs) = if operator_eq o b.0 then (b.0, id) ∷ bs else b ∷ put_builtin o id bs
+put_builtin o id bs = put_in operator_eq o id bs

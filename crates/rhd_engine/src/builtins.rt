@@ -1,6 +1,6 @@
 //! The table of built-in operators.
 
-ghost use Rattle.std.specs.Prelude.{◌≡◌, [], OnOk, OnErr, length};
+ghost use Rattle.std.specs.Prelude.{◌≡◌, [], OnOk, OnErr, IfOk, length};
 ghost use Rattle.std.specs.Cmp.{partial_equiv_from_equiv};
 ghost use Rattle.std.specs.Map.{lookup};
 ghost use Rattle.rhd_value.specs.Same.{tag_argument};
@@ -119,6 +119,15 @@ impl Builtins {
             right,
         };
         self.table.get(&operator).copied()
+    }
+
+    /// An equal table.
+    #[tactic(auto, using(crate::proofs::Tables::copy_is))]
+    pub fn dup(&self, _alloc: Global) -> Result<Builtins, OutOfMemory>
+        ensures { IfOk result (λ copy. copy ≡ self.now) }
+    {
+        let table = self.table.clone()?;
+        Ok(Builtins { table })
     }
 
     /// Whether each function is a native that is held.

@@ -1,23 +1,21 @@
 //! An engine: a table of natives, and what is registered for all calls.
 
-ghost use Rattle.std.specs.Prelude.{◌≡◌, ◌≤◌, ◌<◌, true, [], ◌∷◌, IfOk, length};
+ghost use Rattle.std.specs.Prelude.{◌≡◌, ◌≤◌, ◌<◌, true, IfOk, length};
 ghost use Rattle.rhd_engine.specs.Held.{all_held, builtins_held};
 
 use crate::builtins::Builtins;
 use crate::limits::{Limits, Printers};
 use crate::lists::ModuleList;
 use rhd_func::Natives;
-use rhd_module::{
-    DeclFault, Declaration, Key, Module, SharedModule, native_declaration, native_key,
-};
-use rhd_value::{FnId, OutOfMemory, Text};
+use rhd_module::{Module, SharedModule};
+use rhd_value::OutOfMemory;
 use std::alloc::Global;
 
-/// What is registered for all calls. Its natives are fixed when it is made, and each number that it
-/// names is held by them.
+/// What is registered for all calls. Each number that it names is held by its natives.
 #[derive(Drop)]
 pub struct Engine {
-    natives: Natives,
+    /// The natives that it was made with, whose numbers its declarations name.
+    pub natives: Natives,
     /// The modules whose functions all calls find. The first is the global namespace, into which natives
     /// are registered.
     pub globals: ModuleList,
@@ -33,7 +31,6 @@ pub struct Engine {
 impl Engine {
     ghost use Rattle.rhd_func.specs.Infos.{infos_of};
     ghost use Rattle.rhd_engine.specs.Of.{lists_of};
-    ghost use Rattle.rhd_engine.specs.Registered.{DeclaredAs};
     ghost use Rattle.rhd_engine.specs.Start.{start_lists};
 
     /// An engine with an empty global namespace. Its built-ins are held by the natives.
@@ -93,24 +90,5 @@ impl Engine {
         ensures { result ≡ self.now.printers }
     {
         self.printers
-    }
-
-    /// How the native of a number is declared under a name. A number that isn't held is refused.
-    pub fn declared(
-        &self,
-        alloc: Global,
-        name: &Text,
-        id: FnId,
-    ) -> Result<(Key, Declaration), DeclFault>
-        ensures { DeclaredAs name.now id (infos_of info self.now.natives) result }
-    {
-        let Some(native) = self.natives.get(id) else {
-            return Err(DeclFault::UnknownNumber {
-                number: u64::from(id.0),
-                length: self.natives.len() as u64,
-            });
-        };
-        let key = native_key(alloc, name, native)?;
-        Ok((key, native_declaration(name, native, id)))
     }
 }

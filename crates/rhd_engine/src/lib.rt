@@ -5,6 +5,7 @@
 mod builtins;
 mod display;
 mod engine;
+mod law;
 mod limits;
 mod lists;
 mod missing;
@@ -12,6 +13,7 @@ mod state;
 
 pub use builtins::{Builtins, Operator};
 pub use engine::Engine;
+pub use law::a_builtin_leaves_the_others;
 pub use limits::{Limits, Printers};
 pub use lists::{ImportList, ModuleList};
 pub use state::GlobalRuntimeState;

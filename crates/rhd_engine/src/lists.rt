@@ -1,12 +1,13 @@
 //! Lists of modules.
 
-ghost use Rattle.std.specs.Prelude.{◌≡◌, ◌++◌, ◌∷◌, [], if◌then◌else◌, is_ok, length, ◌<◌, OnOk, OnErr};
-ghost use Rattle.rhd_module.specs.Registered.{with_decl};
-ghost use Rattle.rhd_engine.specs.Registered.{in_first};
+ghost use Rattle.std.specs.Prelude.{◌≡◌, ◌++◌, ◌∷◌, [], if◌then◌else◌, is_ok, IfOk, length, ◌<◌};
+ghost use Rattle.rhd_func.specs.Infos.{infos_of};
+ghost use Rattle.rhd_engine.specs.Registered.{RegisteredIn};
 ghost use Rattle.rhd_engine.specs.Lists.{Popped};
 
-use rhd_module::{Declaration, Key, SharedModule};
-use rhd_value::{OutOfMemory, Text};
+use rhd_func::Natives;
+use rhd_module::{DeclFault, SharedModule};
+use rhd_value::{FnId, OutOfMemory, Text};
 use std::alloc::Global;
 use std::marker::Model;
 
@@ -34,6 +35,17 @@ impl ModuleList {
         }
     }
 
+    /// An equal list, of the same modules.
+    pub fn dup(&self, alloc: Global) -> Result<ModuleList, OutOfMemory>
+        ensures { IfOk result (λ modules. modules ≡ self.now) }
+    {
+        let mut modules = ModuleList::new(alloc);
+        for module in &self.items {
+            modules.push(module.dup(alloc)?)?;
+        }
+        Ok(modules)
+    }
+
     /// Puts a module last.
     pub fn push(&mut self, added: SharedModule) -> Result<(), OutOfMemory>
         ensures { self.new ≡ (if is_ok result then self.old ++ added ∷ [] else self.old) }
@@ -49,14 +61,29 @@ impl ModuleList {
         self.items.pop()
     }
 
-    /// Puts a declaration under a key in the first module: an equal key keeps its place, else it goes
-    /// last.
-    pub fn set_in_first(&mut self, key: Key, declaration: Declaration) -> Result<(), OutOfMemory>
+    /// Registers the native of a number under a name in the first module, in the place of an equal
+    /// declaration's. A number that isn't held is refused.
+    pub fn register_in_first(
+        &mut self,
+        alloc: Global,
+        name: &Text,
+        natives: &Natives,
+        id: FnId,
+    ) -> Result<(), DeclFault>
         requires { 0 < length self.old }
-        ensures ok { OnOk result (self.new ≡ in_first (with_decl key declaration) self.old) }
-        ensures err { OnErr result (self.new ≡ self.old) }
+        ensures { RegisteredIn name.now id (infos_of info natives.now) self.old result self.new }
     {
-        self.items[0].set_fn(key, declaration)
+        let Some(native) = natives.get(id) else {
+            return Err(DeclFault::UnknownNumber {
+                number: u64::from(id.0),
+                length: natives.len() as u64,
+            });
+        };
+        let set = self.items[0].set_native_fn(alloc, name, native, id);
+        if set.is_err() {
+            return Err(DeclFault::OutOfMemory);
+        }
+        Ok(())
     }
 
     pub fn len(&self) -> usize
@@ -95,6 +122,17 @@ impl ImportList {
         ImportList {
             items: Vec::new(alloc),
         }
+    }
+
+    /// An equal list, of the same modules.
+    pub fn dup(&self, alloc: Global) -> Result<ImportList, OutOfMemory>
+        ensures { IfOk result (λ imports. imports ≡ self.now) }
+    {
+        let mut items = Vec::new(alloc);
+        for (name, module) in &self.items {
+            items.push((name.dup(alloc)?, module.dup(alloc)?))?;
+        }
+        Ok(ImportList { items })
     }
 
     pub fn len(&self) -> usize

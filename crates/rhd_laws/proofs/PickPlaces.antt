@@ -1,17 +1,17 @@
 -- A key is found in the first module of a frame that declares it.
-use Rattle.std.proofs.Common.{◌≡◌, ◌≢◌, ℕ, ◌+◌, ◌<◌, Bool, true, false, cond, List, [], ◌∷◌, ◌++◌, refl, sym, ap, ◌∙◌, ◌⊎◌, inl, inr, arith}
+use Rattle.std.proofs.Common.{◌≡◌, ℕ, ◌+◌, ◌<◌, Bool, true, false, List, [], ◌∷◌, ◌++◌, refl, sym, ap, ◌∙◌, ◌⊎◌, inl, inr, arith}
 use Rattle.std.specs.Prelude.{zero, suc, slice_get, reverse, Option, Some, None, option_map}
 use Rattle.std.specs.List.{enumerate_from}
-use Rattle.std.specs.Map.{lookup}
 use Rattle.std.specs.Option.{option_or}
 use Rattle.std.proofs.lemmas.List.{reverse-append, reverse-reverse}
 use Rattle.rhd_value.specs.Firsts.{first_of}
 use Rattle.rhd_module.specs.declared.key.Key.{Key}
 use Rattle.rhd_module.specs.declared.declaration.Declaration.{Declaration}
-use Rattle.rhd_module.specs.FirstDeclarations.{NoneWith, IsFirstWith}
+use Rattle.rhd_module.specs.FirstDeclarations.{IsFirstWith}
+use Rattle.rhd_module.proofs.FirstFound.{found_first, first_found}
 use Rattle.rhd_module.specs.Keys.{key_eq, key_eq-Decides}
 use Rattle.rhd_module.specs.Shown.{own_decl}
-use Rattle.rhd_module.specs.Tree.{ModuleTree, Pairs}
+use Rattle.rhd_module.specs.Tree.{ModuleTree}
 use Rattle.rhd_call.specs.declared.pick.Layer.{Layer}
 use Rattle.rhd_call.specs.declared.pick.Layer.TheVariants.{Library, Global}
 use Rattle.rhd_call.specs.declared.pick.Pick.{Pick}
@@ -22,44 +22,13 @@ use Rattle.rhd_laws.proofs.PatternOrder.{or_cases, or_parts, or_nones, or_none, 
 
 -- A module's first declaration under a key.
 
-is_false : (b : Bool) → (b ≡ true → ⊥) → b ≡ false
-is_false true h = absurd (h refl)
-is_false false h = refl
-
-not_both : (b : Bool) → b ≡ false → b ≡ true → ⊥
-not_both b f t = cc
-
-is_other : (key k : Key) → key_eq key k ≡ false → k ≢ key
-is_other key k e = λ same. not_both (key_eq key k) e ((key_eq-Decides key k).1 (sym same))
-
-other_key : (key k : Key) → k ≢ key → key_eq key k ≡ false
-other_key key k other = is_false (key_eq key k) (λ e. other (sym ((key_eq-Decides key k).0 e)))
-
-found_step : (key : Key) (d : Declaration) (p : Key × Declaration) (ps : Pairs) (same : Bool) → key_eq key p.0 ≡ same → (lookup (key_eq key) ps ≡ Some d → IsFirstWith key d ps)
-    → cond same (Some p.1) (lookup (key_eq key) ps) ≡ Some d → IsFirstWith key d (p ∷ ps)
-found_step key d p ps true s ih e =
-    let k : p.0 ≡ key = sym ((key_eq-Decides key p.0).0 s) in
-    let v : p.1 ≡ d = cc in
-    record { front = []; others = ps; stands = λ i. (k i, v i) ∷ ps; before = tt }
-found_step key d p ps false s ih e =
-    let r = ih e in
-    record { front = p ∷ r.front; others = r.others; stands = ap (λ (qs : Pairs). p ∷ qs) r.stands; before = (is_other key p.0 s, r.before) }
-
-found_with : (key : Key) (d : Declaration) (ps : Pairs) → lookup (key_eq key) ps ≡ Some d → IsFirstWith key d ps
-found_with key d [] e = absurd cc
-found_with key d (p ∷ ps) e = found_step key d p ps (key_eq key p.0) refl (found_with key d ps) e
-
-behind : (key : Key) (d : Declaration) (front others : Pairs) → NoneWith key front → lookup (key_eq key) (front ++ (key, d) ∷ others) ≡ Some d
-behind key d [] others before = rw ((key_eq-Decides key key).1 refl) refl
-behind key d (p ∷ front) others before = rw (other_key key p.0 before.0) (behind key d front others before.1)
-
 pub own_first : (m : ModuleTree) (key : Key) (d : Declaration) → own_decl m key ≡ Some d → IsFirstWith key d m.own.eager
 unfolding own_decl
-own_first m key d h = found_with key d m.own.eager h
+own_first m key d h = found_first key_eq key_eq-Decides key d m.own.eager h
 
 pub first_own : (m : ModuleTree) (key : Key) (d : Declaration) → IsFirstWith key d m.own.eager → own_decl m key ≡ Some d
 unfolding own_decl
-first_own m key d r = ap (lookup (key_eq key)) r.stands ∙ behind key d r.front r.others r.before
+first_own m key d r = first_found key_eq key_eq-Decides key d m.own.eager r
 
 -- The first and the last of a list with numbers.
 

@@ -49,7 +49,8 @@ kinds_in call = map tag_of (all_args (plan_of call).shape)
 
 -- A declaration under this key matches a call: a script, where these are allowed, by name and number of parameters, or also by the type of the call's object; a native by name and types.
 pub data MatchesCall (e : EngineLists) (call : CallRequest) (key : Key) : Type 0 where
-  by_type : (object : Tree) (args : List Tree) → only_natives (plan_of call).search ≡ false → (plan_of call).shape ≡ Method object args → key ≡ Typed None (plan_of call).name (length args) (display e object) → MatchesCall e call key
+  by_type : (object : Tree) (args : List Tree) → only_natives (plan_of call).search ≡ false → (plan_of call).shape ≡ Method object args
+      → key ≡ Typed None (plan_of call).name (length args) (display e object) → MatchesCall e call key
   by_number : only_natives (plan_of call).search ≡ false → key ≡ Script None (plan_of call).name (params_of (plan_of call).shape) → MatchesCall e call key
   by_kinds : (types : List TypeTag) → key ≡ Native None (plan_of call).name types → TypesMatch types (kinds_in call) → MatchesCall e call key
 

@@ -6,3 +6,4 @@ pub mod FirstDeclarations
 pub mod Matching
 pub mod NativeIndex
 pub mod Scripts
+pub mod Steps

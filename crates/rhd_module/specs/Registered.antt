@@ -19,10 +19,13 @@ use Rattle.rhd_module.specs.declared.declaration.Declaration.{Declaration}
 use Rattle.rhd_module.specs.Keys.{key_eq}
 use Rattle.rhd_module.specs.Tree.{ModuleTree, Pairs}
 
--- an equal key keeps its place and gets the new declaration; else the pair goes last
+-- an equal key keeps its place and gets the new value; else the pair goes last
+abbrev pub put_in : {K V : Type 0} → (K → K → Bool) → K → V → List (K × V) → List (K × V)
+put_in eq k v [] = (k, v) ∷ []
+put_in eq k v (p ∷ ps) = if eq k p.0 then (p.0, v) ∷ ps else p ∷ put_in eq k v ps
+
 abbrev pub put : Key → Declaration → Pairs → Pairs
-put k d [] = (k, d) ∷ []
-put k d (p ∷ ps) = if key_eq k p.0 then (p.0, d) ∷ ps else p ∷ put k d ps
+put k d ps = put_in key_eq k d ps
 
 -- the module with a declaration put in
 abbrev pub with_decl : Key → Declaration → ModuleTree → ModuleTree

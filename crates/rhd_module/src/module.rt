@@ -4,6 +4,7 @@ ghost use Rattle.std.specs.Prelude.{◌≡◌, ℕ, List, ◌++◌, is_none, OnO
 ghost use Rattle.std.specs.Map.{lookup};
 ghost use Rattle.std.specs.Option.{option_copied, option_map};
 ghost use Rattle.rhd_module.specs.Tree.{empty_module};
+ghost use Rattle.rhd_module.specs.Steps.{raised};
 ghost use Rattle.rhd_module.specs.Shown.{own_decl};
 ghost use Rattle.rhd_module.specs.Registered.{put, with_decl, native_key, native_decl, script_key, script_decl};
 ghost use Rattle.rhd_module.specs.Keys.{key_eq};
@@ -14,6 +15,7 @@ use crate::declaration::Declaration;
 use crate::key::Key;
 use crate::native_index::NativeIndex;
 use crate::registration::{native_declaration, native_key, script_declaration, script_key};
+use crate::steps::Steps;
 use indexmap::IndexMap;
 use rhd_func::{PluginFunc, RhaiFunc, SharedDef};
 use rhd_value::{FnId, OutOfMemory, Text, TypeTag};
@@ -106,11 +108,13 @@ impl Module {
         }
     }
 
-    /// The function that is declared under a key.
+    /// The function that is declared under a key. It is one look-up more.
     #[tactic(auto, unfolding(crate::specs::Shown::own_decl))]
-    pub fn get_fn(&self, key: &Key) -> Option<&RhaiFunc>
-        ensures { option_copied result ≡ option_map (λ d. d.func) (own_decl self.now key.now) }
+    pub fn get_fn(&self, key: &Key, steps: &mut Steps) -> Option<&RhaiFunc>
+        ensures found { option_copied result ≡ option_map (λ d. d.func) (own_decl self.now key.now) }
+        ensures steps { steps.new ≡ raised steps.old 1 }
     {
+        steps.raise();
         if !self.scripts && key.is_script() {
             return None;
         }

@@ -1,13 +1,11 @@
 //! Modules with several owners.
 
 ghost use Rattle.std.specs.Prelude.{◌≡◌, OnOk, OnErr, IfOk};
-ghost use Rattle.rhd_module.specs.Registered.{with_decl, script_key, script_decl};
+ghost use Rattle.rhd_module.specs.Registered.{with_decl, native_key, native_decl, script_key, script_decl};
 
-use crate::declaration::Declaration;
-use crate::key::Key;
 use crate::module::Module;
-use rhd_func::SharedDef;
-use rhd_value::OutOfMemory;
+use rhd_func::{PluginFunc, SharedDef};
+use rhd_value::{FnId, OutOfMemory, Text};
 use std::alloc::Global;
 use std::marker::Model;
 use std::rc::Rc;
@@ -51,14 +49,19 @@ impl SharedModule {
         })
     }
 
-    /// Puts a declaration under a key in this owner's module, which is copied first where there are other
-    /// owners. An equal key keeps its place, else it goes last.
-    pub fn set_fn(&mut self, key: Key, declaration: Declaration) -> Result<(), OutOfMemory>
-        ensures ok { OnOk result (self.new ≡ with_decl key declaration self.old) }
+    /// Declares a native in this owner's module, which is copied first where there are other owners.
+    pub fn set_native_fn(
+        &mut self,
+        alloc: Global,
+        name: &Text,
+        native: &Box<dyn PluginFunc>,
+        id: FnId,
+    ) -> Result<(), OutOfMemory>
+        ensures ok { OnOk result (self.new ≡ with_decl (native_key name.now (info native.now)) (native_decl name.now (info native.now) id) self.old) }
         ensures err { OnErr result (self.new ≡ self.old) }
     {
         let module = Rc::make_mut(&mut self.module)?;
-        module.set_fn(key, declaration)
+        module.set_native_fn(alloc, name, native, id)
     }
 
     /// Declares a script in this owner's module, which is copied first where there are other owners.

@@ -10,8 +10,6 @@ use Rattle.rhd_module.specs.declared.fault.DeclFault.{DeclFault}
 use Rattle.rhd_module.specs.declared.fault.DeclFault.TheVariants.{UnknownNumber, OutOfMemory}
 use Rattle.rhd_func.specs.declared.func.ScriptFuncDef.{ScriptFuncDef}
 use Rattle.rhd_module.specs.Tree.{ModuleTree, empty_module}
-use Rattle.rhd_module.specs.declared.declaration.Declaration.{Declaration}
-use Rattle.rhd_module.specs.declared.key.Key.{Key}
 use Rattle.rhd_module.specs.Registered.{with_decl, script_key, script_decl}
 use Rattle.rhd_value.specs.Firsts.{first_of}
 use Rattle.rhd_call.specs.declared.command.Command.{Command}
@@ -21,7 +19,7 @@ use Rattle.rhd_call.specs.declared.reply.Reply.{Reply}
 use Rattle.rhd_call.specs.declared.reply.Reply.TheVariants.{Done, Made, Refused}
 use Rattle.rhd_engine.specs.Engine.{EngineLists, Frame}
 use Rattle.rhd_session.specs.World.{World}
-use Rattle.rhd_engine.specs.Registered.{in_first, with_native, DeclaredAs}
+use Rattle.rhd_engine.specs.Registered.{with_native}
 use Rattle.rhd_session.specs.Commands.{cause, change, Change, operands, pop_operand, unknown_of, registered, changed, with_libs, but_last}
 use Rattle.rhd_session.specs.Answered.{Declares, refused, done}
 
@@ -37,11 +35,6 @@ known w w2 f name id info some made =
     let none : cause w f (commands.RegisterFn name id) ≡ None = rw (lt-ltb id.0 (length w.engine.natives) (slice_get_within w.engine.natives id.0 info some)) refl in
     let new : change w f (commands.RegisterFn name id) ≡ Some (registered w f name id info) = ap (option_map (registered w f name id)) some in
     subst (λ (w3 : World). Declares w f (commands.RegisterFn name id) Done w3 f) (sym made) (done none new)
-
--- what is declared so is put in the global namespace
-pub known_put : (w : World) (f : Frame) (name : Bytes) (id : FnId) (d : Key × Declaration) (new : List ModuleTree) → DeclaredAs name id w.engine.natives (Ok d) → new ≡ in_first (with_decl d.0 d.1) w.engine.globals → Declares w f (commands.RegisterFn name id) Done (record w { engine = record w.engine { globals = new } }) f
-known_put w f name id d new is put =
-    known w _ f name id is.0 is.1 (ap (λ (ms : List ModuleTree). record w { engine = record w.engine { globals = ms } }) (put ∙ ap (λ (p : Key × Declaration). in_first (with_decl p.0 p.1) w.engine.globals) is.2))
 
 -- Modules and libraries.
 

@@ -3,12 +3,16 @@ use Rattle.std.specs.Prelude.{◌≡◌, ℕ, false, List, [], ◌∷◌, ◌++�
 use Rattle.rhd_value.specs.Tree.{Tree}
 use Rattle.rhd_func.specs.declared.request.CallRequest.{CallRequest}
 use Rattle.rhd_func.specs.declared.request.Carry.{Carry}
+use Rattle.rhd_func.specs.declared.request.HostAnswer.{HostAnswer}
 use Rattle.rhd_call.specs.declared.pick.Pick.{Pick}
 use Rattle.rhd_call.specs.declared.node.CallNode.{CallNode}
 use Rattle.rhd_call.specs.declared.reply.Reply.{Reply}
 use Rattle.rhd_call.specs.declared.reply.Reply.TheVariants.{Called}
 use Rattle.rhd_call.specs.End.{End}
 use Rattle.rhd_call.specs.Seen.{Seen, seen, begun_node, cut_end}
+use Rattle.rhd_engine.specs.Engine.{EngineLists}
+use Rattle.rhd_session.specs.Plans.{plan_of}
+use Rattle.rhd_session.specs.Ends.{missing_end, host_end}
 
 -- a call that is begun and not yet ended: its node shows what it shows where the budget is spent within the call
 abbrev pub begun_call : CallRequest → ℕ → Seen
@@ -25,6 +29,14 @@ unbegun_as s first = record s { begun = false; end = record s.end { first_after 
 -- the same call, ended
 abbrev pub with_end : Seen → End → Seen
 with_end s end = record s { end = end }
+
+-- the same call, ended where no function is found and the host isn't asked
+abbrev pub ended_unfound : EngineLists → Seen → Seen
+ended_unfound e s = with_end s (missing_end e (plan_of s.call))
+
+-- the same call, ended by what the host answers
+abbrev pub ended_by_host : EngineLists → Seen → HostAnswer → Seen
+ended_by_host e s answer = with_end s (host_end e (plan_of s.call) answer)
 
 -- the same call, which shows its pick
 abbrev pub picking : Seen → Pick → Seen

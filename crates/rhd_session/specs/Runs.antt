@@ -56,7 +56,8 @@ mutual
         seen node ≡ begun_node call level (Some pick) carries children end →
         Runs o w f level call node before after false
     -- the budget is spent within the child of its latest request
-    cut_short : {f : Frame} {level : ℕ} {call waited : CallRequest} {node child : CallNode} {before started mid after : Moment H B} {plan : Plan} {pick : Pick} {first : NativeStep} {carries : List Carry} {carry : Carry} {children : List CallNode} →
+    cut_short : {f : Frame} {level : ℕ} {call waited : CallRequest} {node child : CallNode} {before started mid after : Moment H B}
+        {plan : Plan} {pick : Pick} {first : NativeStep} {carries : List Carry} {carry : Carry} {children : List CallNode} →
         before.begun < w.engine.limits.budget →
         decision w.engine f level call ≡ runs plan pick →
         Starts o w.engine.natives (context f level plan pick) pick.func (received_by w.engine plan pick) (one_begun before) first started →
@@ -69,7 +70,8 @@ mutual
   pub data Steps {H B : Type 0} (o : Objects H B) (w : World) : Frame → ℕ → Plan → Pick → NativeStep → List Carry → List CallNode → NativeStep → Moment H B → Moment H B → Type 0 where
     none_yet : {f : Frame} {level : ℕ} {plan : Plan} {pick : Pick} {step : NativeStep} {before : Moment H B} →
         Steps o w f level plan pick step [] [] step before before
-    one_more : {f : Frame} {level : ℕ} {plan : Plan} {pick : Pick} {first next : NativeStep} {waited : CallRequest} {carry : Carry} {child : CallNode} {carries more_carries : List Carry} {children more_children : List CallNode} {before mid answered after : Moment H B} →
+    one_more : {f : Frame} {level : ℕ} {plan : Plan} {pick : Pick} {first next : NativeStep} {waited : CallRequest} {carry : Carry} {child : CallNode}
+        {carries more_carries : List Carry} {children more_children : List CallNode} {before mid answered after : Moment H B} →
         Steps o w f level plan pick first carries children (Ask waited carry) before mid →
         Runs o w (entered w f level pick) (level + 1) waited child mid answered false →
         Resumes o w.engine.natives (context f level plan pick) pick.func carry (done_of child) answered next after →

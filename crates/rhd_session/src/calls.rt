@@ -16,9 +16,8 @@ ghost use Rattle.rhd_engine.specs.Of.{lists_of};
 ghost use Rattle.rhd_session.specs.World.{Moment, moment};
 ghost use Rattle.rhd_session.specs.Objects.{objects_of};
 ghost use Rattle.rhd_session.specs.Plans.{only_natives, plan_of};
-ghost use Rattle.rhd_session.specs.Ends.{missing_end, host_end};
 ghost use Rattle.rhd_session.specs.Decisions.{refusal, decision, runs, pick_of, is_on_constant, constant_end};
-ghost use Rattle.rhd_session.specs.Filling.{is_begun, with_end, picking};
+ghost use Rattle.rhd_session.specs.Filling.{is_begun, with_end, ended_unfound, ended_by_host, picking};
 ghost use Rattle.rhd_session.specs.Entered.{context, context_if};
 ghost use Rattle.rhd_session.specs.Setting.{setting_of, RunsIn};
 ghost use Rattle.rhd_session.specs.Steps.{Starts, Resumes};
@@ -40,6 +39,7 @@ use rhd_func::{
     Bodies, CallDone, CallRequest, Carry, Host, HostAnswer, NativeCallContext, NativeStep, Natives,
     RhaiFunc, ScriptFuncDef,
 };
+use rhd_module::Steps;
 use rhd_value::{EvalAltResult, FnId, OutOfMemory};
 use std::alloc::Global;
 
@@ -116,7 +116,19 @@ fn pick(
             native_only,
             shape,
             ..
-        } => resolve(alloc, engine, state, name, *token, *native_only, shape),
+        } => {
+            let mut steps = Steps::new();
+            resolve(
+                alloc,
+                engine,
+                state,
+                name,
+                *token,
+                *native_only,
+                shape,
+                &mut steps,
+            )
+        }
     }
 }
 
@@ -127,10 +139,10 @@ fn unpicked<H: Host>(
     node: &mut CallNode,
     host: &mut H,
 ) -> Result<(), OutOfMemory>
-    ensures alone { OnOk result (only_natives (plan_of (seen node.old).call).search ≡ true → (host.new ≡ host.old) × (seen node.new ≡ with_end (seen node.old) (missing_end (lists_of info engine.now) (plan_of (seen node.old).call)))) }
+    ensures alone { OnOk result (only_natives (plan_of (seen node.old).call).search ≡ true → (host.new ≡ host.old) × (seen node.new ≡ ended_unfound (lists_of info engine.now) (seen node.old))) }
     ensures asked { OnOk result (only_natives (plan_of (seen node.old).call).search ≡ false → (answer : HostAnswer)
         × H.allows_missing host.old (plan_of (seen node.old).call).name (all_args (plan_of (seen node.old).call).shape) (is_method_shape (plan_of (seen node.old).call).shape) answer host.new
-        × (seen node.new ≡ with_end (seen node.old) (host_end (lists_of info engine.now) (plan_of (seen node.old).call) answer))) }
+        × (seen node.new ≡ ended_by_host (lists_of info engine.now) (seen node.old) answer)) }
 {
     if native_only_of(&node.call) {
         let fault = not_found(alloc, engine, &node.call)?;

@@ -79,15 +79,18 @@ impl Session {
         ensures begun { calls_begun_of self.new ≡ calls_begun_of self.old }
         ensures count { modules_of self.new ≡ modules_of self.old }
     {
-        let (key, declaration) = match self.engine.declared(alloc, name, id) {
-            Ok(declared) => declared,
-            Err(DeclFault::OutOfMemory) => return Err(OutOfMemory),
+        let natives = &self.engine.natives;
+        match self
+            .engine
+            .globals
+            .register_in_first(alloc, name, natives, id)
+        {
+            Ok(()) => Ok(Reply::Done),
+            Err(DeclFault::OutOfMemory) => Err(OutOfMemory),
             Err(DeclFault::UnknownNumber { number, length }) => {
-                return Ok(Reply::Refused(DeclFault::UnknownNumber { number, length }));
+                Ok(Reply::Refused(DeclFault::UnknownNumber { number, length }))
             }
-        };
-        self.engine.globals.set_in_first(key, declaration)?;
-        Ok(Reply::Done)
+        }
     }
 
     /// Puts a module last among the libraries.

@@ -8,7 +8,7 @@ ghost use Rattle.rhd_call.specs.End as ending;
 ghost use Rattle.rhd_call.specs.Seen.{seen};
 ghost use Rattle.rhd_engine.specs.Of.{lists_of};
 ghost use Rattle.rhd_session.specs.Ends as ends;
-ghost use Rattle.rhd_session.specs.Filling.{with_end};
+ghost use Rattle.rhd_session.specs.Filling.{with_end, ended_by_host};
 ghost use Rattle.rhd_session.specs.Plans.{Plan, plan_of};
 
 use crate::filling::{answer_with, fail, print, refuse};
@@ -232,7 +232,7 @@ pub fn end_by_host(
     node: &mut CallNode,
     answer: HostAnswer,
 ) -> Result<(), OutOfMemory>
-    ensures { OnOk result (seen node.new ≡ with_end (seen node.old) (ends.host_end (lists_of info engine.now) (plan_of (seen node.old).call) answer)) }
+    ensures { OnOk result (seen node.new ≡ ended_by_host (lists_of info engine.now) (seen node.old) answer) }
 {
     match answer {
         HostAnswer::Nothing => {

@@ -127,7 +127,7 @@ head_utf8 types.Normal = small_utf8 (codes "fn(") refl
 head_utf8 (types.Script n) = small_utf8 (codes "fn*(") refl
 head_utf8 (types.Native id) = small_utf8 (codes "fn#(") refl
 
-type_utf8 : (p : FnPtrType) → IsType p → IsUtf8 (print.pointer_number p)
+type_utf8 : (p : FnPtrType) → IsType p → IsUtf8 (print.spelled_type p)
 type_utf8 types.Normal t = IsUtf8-nil
 type_utf8 (types.Script n) t = IsUtf8-append (32 ∷ []) (decimal n) (byte_utf8 32 (omega arith)) (decimal_utf8 n t)
 type_utf8 (types.Native id) t = IsUtf8-append (32 ∷ []) (decimal id.0) (byte_utf8 32 (omega arith)) (decimal_utf8 id.0 (omega (arith, t)))
@@ -152,9 +152,9 @@ custom_utf8 n z number payload =
 pointer_utf8 : (f : Bytes) (ts : Items) (p : FnPtrType) → is_utf8 f ≡ true → IsType p → IsUtf8 (spaced_items ts) → IsUtf8 (spelled_kind (pointer f ts p))
 pointer_utf8 f ts p name t curry =
     let a = IsUtf8-append (pointer_head p) (quoted f) (head_utf8 p) (text_utf8 f name) in
-    let b = IsUtf8-append (pointer_head p ++ quoted f) (print.pointer_number p) a (type_utf8 p t) in
-    let c = IsUtf8-append ((pointer_head p ++ quoted f) ++ print.pointer_number p) (spaced_items ts) b curry in
-    IsUtf8-append (((pointer_head p ++ quoted f) ++ print.pointer_number p) ++ spaced_items ts) (41 ∷ []) c (byte_utf8 41 (omega arith))
+    let b = IsUtf8-append (pointer_head p ++ quoted f) (print.spelled_type p) a (type_utf8 p t) in
+    let c = IsUtf8-append ((pointer_head p ++ quoted f) ++ print.spelled_type p) (spaced_items ts) b curry in
+    IsUtf8-append (((pointer_head p ++ quoted f) ++ print.spelled_type p) ++ spaced_items ts) (41 ∷ []) c (byte_utf8 41 (omega arith))
 
 entry_utf8 : (n v : List ℕ) → is_utf8 n ≡ true → IsUtf8 v → IsUtf8 ((quoted n ++ 32 ∷ []) ++ v)
 entry_utf8 n v name u = IsUtf8-append (quoted n ++ 32 ∷ []) v (IsUtf8-append (quoted n) (32 ∷ []) (text_utf8 n name) (byte_utf8 32 (omega arith))) u

@@ -56,7 +56,7 @@ members_end : (es : Members) (rest : List ℕ) → may_end rest ≡ true → may
 members_end no_members rest ends = ends
 members_end (member n k m es) rest ends = refl
 
-type_ends : (p : FnPtrType) (rest : List ℕ) → may_end rest ≡ true → may_end (print.pointer_number p ++ rest) ≡ true
+type_ends : (p : FnPtrType) (rest : List ℕ) → may_end rest ≡ true → may_end (print.spelled_type p ++ rest) ≡ true
 type_ends types.Normal rest ends = ends
 type_ends (types.Script n) rest ends = refl
 type_ends (types.Native id) rest ends = refl
@@ -84,7 +84,7 @@ head_again types.Normal rest = (40 ∷ rest, (refl, omega arith, refl, refl), re
 head_again (types.Script n) rest = (40 ∷ rest, (refl, omega arith, refl, refl), refl)
 head_again (types.Native id) rest = (40 ∷ rest, (refl, omega arith, refl, refl), refl)
 
-type_again : (p : FnPtrType) (rest : List ℕ) → IsType p → may_end rest ≡ true → pointer_number p (print.pointer_number p ++ rest) rest
+type_again : (p : FnPtrType) (rest : List ℕ) → IsType p → may_end rest ≡ true → pointer_number p (print.spelled_type p ++ rest) rest
 type_again types.Normal rest t ends = refl
 type_again (types.Script n) rest t ends = number_again 64 n (32 ∷ (decimal n ++ rest)) rest t t ends (space (decimal n ++ rest))
 type_again (types.Native id) rest t ends = number_again 32 id.0 (32 ∷ (decimal id.0 ++ rest)) rest t (omega (arith, t)) ends (space (decimal id.0 ++ rest))
@@ -108,7 +108,7 @@ object_again element es rest p w =
 pointer_again : (element : Tree → Span) (f : Bytes) (ts : Items) (p : FnPtrType) (rest : List ℕ) → IsProper (pointer f ts p) → each element (list_of ts) (spaced_items ts ++ 41 ∷ rest) (41 ∷ rest) → kind element (pointer f ts p) (spelled_kind (pointer f ts p) ++ rest) rest
 pointer_again element f ts p rest proper w =
     let items = spaced_items ts in
-    let n = print.pointer_number p in
+    let n = print.spelled_type p in
     let last = items ++ 41 ∷ rest in
     let e : ((((pointer_head p ++ quoted f) ++ n) ++ items) ++ 41 ∷ []) ++ rest ≡ pointer_head p ++ (quoted f ++ (n ++ (items ++ 41 ∷ rest))) = simp append_assoc in
     let h = head_again p (quoted f ++ (n ++ last)) in

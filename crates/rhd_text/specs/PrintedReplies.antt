@@ -4,7 +4,8 @@ use Rattle.std.specs.List.{flat_map}
 use Rattle.std.specs.Fmt.{decimal}
 use Rattle.rhd_value.specs.Tree.{Bytes, Tree}
 use Rattle.rhd_value.specs.declared.fault.EvalAltResult.{EvalAltResult}
-use Rattle.rhd_value.specs.declared.fault.EvalAltResult.TheVariants.{ErrorFunctionNotFound, ErrorDotExpr, ErrorIndexingType, ErrorParsing, ErrorNonPureMethodCallOnConstant, ErrorDataRace, ErrorMismatchOutputType, ErrorMismatchDataType, ErrorTooManyOperations, ErrorStackOverflow, ErrorDataTooLarge, ErrorRuntime}
+use Rattle.rhd_value.specs.declared.fault.EvalAltResult.TheVariants.{ErrorFunctionNotFound, ErrorDotExpr, ErrorIndexingType, ErrorParsing, ErrorNonPureMethodCallOnConstant, ErrorDataRace}
+use Rattle.rhd_value.specs.declared.fault.EvalAltResult.TheVariants.{ErrorMismatchOutputType, ErrorMismatchDataType, ErrorTooManyOperations, ErrorStackOverflow, ErrorDataTooLarge, ErrorRuntime}
 use Rattle.rhd_value.specs.declared.fault.ParseErrorType.{ParseErrorType}
 use Rattle.rhd_value.specs.declared.fault.ParseErrorType.TheVariants.{Reserved, MalformedIndexExpr}
 use Rattle.rhd_func.specs.declared.func.RhaiFunc.{RhaiFunc}

@@ -21,10 +21,10 @@ pointer_head (Script n) = codes "fn*("
 pointer_head (Native id) = codes "fn#("
 
 -- the number of parameters or of the native, after a space
-abbrev pub pointer_number : FnPtrType → List ℕ
-pointer_number Normal = []
-pointer_number (Script n) = codes " " ++ decimal n
-pointer_number (Native id) = codes " " ++ decimal id.0
+abbrev pub spelled_type : FnPtrType → List ℕ
+spelled_type Normal = []
+spelled_type (Script n) = codes " " ++ decimal n
+spelled_type (Native id) = codes " " ++ decimal id.0
 
 abbrev mutual
   -- a value without its marks
@@ -36,7 +36,7 @@ abbrev mutual
   spelled_kind (text s) = quoted s
   spelled_kind (array ts) = codes "[" ++ spelled_items ts ++ codes "]"
   spelled_kind (object es) = codes "{" ++ spelled_members es ++ codes "}"
-  spelled_kind (pointer name ts typ) = pointer_head typ ++ quoted name ++ pointer_number typ ++ spaced_items ts ++ codes ")"
+  spelled_kind (pointer name ts typ) = pointer_head typ ++ quoted name ++ spelled_type typ ++ spaced_items ts ++ codes ")"
   spelled_kind (custom n z) = codes "custom(" ++ decimal n ++ codes " " ++ signed_decimal z ++ codes ")"
 
   -- values with a space between two

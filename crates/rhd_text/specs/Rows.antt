@@ -227,7 +227,8 @@ form (keywords.Call w) = called w
 abbrev pub all_keywords : List Keyword
 all_keywords =
     keywords.Call words.Call ∷ keywords.Call words.Ref ∷ keywords.Call words.Method ∷ keywords.Call words.CallNative ∷ keywords.Call words.RefNative ∷ keywords.Call words.MethodNative
-    ∷ keywords.Register ∷ keywords.Script ∷ keywords.Module ∷ keywords.Lib ∷ keywords.PopLib ∷ keywords.Body ∷ keywords.Ret ∷ keywords.Fail ∷ keywords.Host ∷ keywords.Builtin ∷ keywords.Limits ∷ keywords.Printer ∷ []
+    ∷ keywords.Register ∷ keywords.Script ∷ keywords.Module ∷ keywords.Lib ∷ keywords.PopLib
+    ∷ keywords.Body ∷ keywords.Ret ∷ keywords.Fail ∷ keywords.Host ∷ keywords.Builtin ∷ keywords.Limits ∷ keywords.Printer ∷ []
 
 -- THE LINES OF A SESSION TEXT, and those that stand after `do`
 abbrev pub line_forms : Table Keyword Part

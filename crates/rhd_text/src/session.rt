@@ -1,6 +1,6 @@
 //! What a text says.
 
-ghost use Rattle.std.specs.Prelude.{◌≡◌, Some};
+ghost use Rattle.std.specs.Prelude.{◌≡◌, IfOk, Some};
 ghost use Rattle.rhd_func.specs.Infos.{infos_of};
 ghost use Rattle.rhd_text.specs.Session.{empty_text, takes_headers, is_held, with_limits, with_printer, with_builtin, with_host, with_body, with_call, with_end, with_command, added, with_part};
 ghost use Rattle.rhd_text.specs.Answers.{StepGives};
@@ -13,7 +13,7 @@ use rhd_call::{Command, Commands};
 use rhd_engine::{Builtins, Limits, Printers};
 use rhd_func::Natives;
 use rhd_names::OpToken;
-use rhd_value::{Dynamic, Entries, FnId, Text, TypeTag};
+use rhd_value::{Dynamic, Entries, FnId, OutOfMemory, Text, TypeTag};
 use std::alloc::Global;
 
 /// Whether the native of a number is held.
@@ -54,6 +54,20 @@ impl SessionText {
             bodies: BodyPlans::new(alloc),
             commands: Commands::new(alloc),
         }
+    }
+
+    /// An equal text.
+    pub fn dup(&self, alloc: Global) -> Result<SessionText, OutOfMemory>
+        ensures { IfOk result (λ text. text ≡ self.now) }
+    {
+        Ok(SessionText {
+            limits: self.limits,
+            printers: self.printers,
+            builtins: self.builtins.dup(alloc)?,
+            hosts: self.hosts.dup(alloc)?,
+            bodies: self.bodies.dup(alloc)?,
+            commands: self.commands.dup(alloc)?,
+        })
     }
 
     /// Whether headers may still stand: no command has come.

@@ -1,5 +1,6 @@
 -- How a run ends.
-use Rattle.std.specs.Prelude.{◌⊎◌, ◌≡◌, ℕ, List, [], ◌∷◌, length, take, unwrap_or, codes}
+use Rattle.std.specs.Prelude.{◌⊎◌, ◌≡◌, ℕ, List, [], ◌∷◌, length, map, take, unwrap_or, codes, string_bytes}
+use Rattle.std.specs.declared.string.String.{String}
 use Rattle.std.specs.declared.option.Option.{Option}
 use Rattle.std.specs.Io.KnownBytes.{Appends}
 use Rattle.std.specs.Str.Lines.{lines}
@@ -25,6 +26,10 @@ most_bytes = 16777216
 -- the one list of words that runs a text
 abbrev pub run_words : List (List ℕ)
 run_words = codes "run" ∷ []
+
+-- these words are that list
+abbrev pub AskForRun : {A : Type 0} → List (String A) → Type 0
+AskForRun words = map (λ w. string_bytes w) words ≡ run_words
 
 -- all bytes of the source were read, and this line is the first that is no line of a session text
 pub record WasBad (natives : List NativeInfo) (old new : Option (List ℕ)) (line : ℕ) : Type 0 where

@@ -1,5 +1,6 @@
 -- The natives of the kit, by number: what each says of itself, and what each does.
-use Rattle.std.specs.Prelude.{ℕ, ◌^◌, ◌-◌, take, min, ℤ, pos, ◌-ℤ◌, int_le, int_lt, ◌==◌, ◌||◌, ◌&&◌, Bool, true, false, not, List, [], ◌∷◌, length, slice_get, Option, None, Some, is_some, unwrap_or, Result, Ok, Err, if◌then◌else◌, codes}
+use Rattle.std.specs.Prelude.{ℕ, ◌^◌, ◌-◌, take, min, ℤ, pos, ◌-ℤ◌, int_le, int_lt, ◌==◌, ◌||◌, ◌&&◌, Bool, true, false, not}
+use Rattle.std.specs.Prelude.{List, [], ◌∷◌, length, slice_get, Option, None, Some, is_some, unwrap_or, Result, Ok, Err, if◌then◌else◌, codes}
 use Rattle.std.specs.Int.{int_wrapping_add, w64}
 use Rattle.std.specs.List.{find, zip}
 use Rattle.std.specs.Option.{option_map, option_map_or}

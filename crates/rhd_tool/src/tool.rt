@@ -1,6 +1,6 @@
 //! The program's one call.
 
-ghost use Rattle.std.specs.Prelude.{ℕ, Some, ◌^◌, ◌≡◌, ◌≢◌, ◌↔◌, ◌⊎◌, ◌<◌, ◌≤◌, true, List, [], IfOk, IfErr, map, length, take, string_bytes, IsTrue};
+ghost use Rattle.std.specs.Prelude.{ℕ, Some, ◌^◌, ◌≡◌, ◌↔◌, ◌⊎◌, ◌<◌, ◌≤◌, true, List, [], IfOk, IfErr, length, take, IsTrue};
 ghost use Rattle.std.specs.Io.KnownBytes.{Appends};
 ghost use Rattle.std.specs.Str.Lines.{lines};
 ghost use Rattle.rhd_func.specs.Infos.{infos_of};
@@ -11,7 +11,7 @@ ghost use Rattle.rhd_text.specs.PrintedReplies.{all_printed};
 ghost use Rattle.rhd_tool.specs.Causes.{Rose};
 ghost use Rattle.rhd_tool.specs.Handed.{handed_of};
 ghost use Rattle.rhd_tool.specs.Streams.{CameMore, WrotePart, WroteLess};
-ghost use Rattle.rhd_tool.specs.Ends.{run_words, most_bytes, limits_of, IsAnswered, AskedAfterAll, Ran, RanPart, WasBad, WasDone, WasCut, WasStarved};
+ghost use Rattle.rhd_tool.specs.Ends.{AskForRun, most_bytes, limits_of, IsAnswered, AskedAfterAll, Ran, RanPart, WasBad, WasDone, WasCut, WasStarved};
 
 use crate::plan_bodies::PlanBodies;
 use crate::reading::{ReadEnd, read_whole};
@@ -173,7 +173,7 @@ fn run_bytes<K: Sink>(alloc: Global, natives: Natives, bytes: &[u8], sink: &mut 
 }
 
 fn is_run(words: &[String]) -> bool
-    ensures { IsTrue result ↔ (map (λ w. string_bytes w) words.now ≡ run_words) }
+    ensures { IsTrue result ↔ AskForRun words.now }
 {
     match words {
         [word] => word.as_str() == "run",
@@ -199,7 +199,7 @@ pub fn run_tool<S: Source, K: Sink>(
     // new session, and all replies were written, printed.
     ensures done { result.status ≡ 0 → WasDone (handed_of allows_call allows_resume info natives) (S.left source.old) (S.left source.new) (K.written sink.old) (K.written sink.new) result.replies }
     // 1: exactly where the words are not `run`.
-    ensures words { (result.status ≡ 1) ↔ (map (λ w. string_bytes w) words.now ≢ run_words) }
+    ensures words { (result.status ≡ 1) ↔ (¬ (AskForRun words.now)) }
     // 2: the bytes are no session text, and this line is the first bad one.
     ensures bad { result.status ≡ 2 → WasBad (infos_of info natives) (S.left source.old) (S.left source.new) result.line }
     // 3: only where the source failed.
@@ -226,14 +226,14 @@ pub fn run_tool<S: Source, K: Sink>(
     ensures short { result.status ≡ 4 → WroteLess (K.written sink.old) (K.written sink.new) (all_printed result.replies) }
     // A session text of at most that many bytes ends with 0, unless the source or the sink failed or
     // memory ran out.
-    ensures complete { (bytes : List ℕ) (text : SessionText) → map (λ w. string_bytes w) words.now ≡ run_words → S.left source.old ≡ Some bytes → length bytes ≤ most_bytes → IsSession (infos_of info natives) (lines bytes) text
+    ensures complete { (bytes : List ℕ) (text : SessionText) → AskForRun words.now → S.left source.old ≡ Some bytes → length bytes ≤ most_bytes → IsSession (infos_of info natives) (lines bytes) text
         → ¬ (Rose (S.faults source.old) (S.faults source.new)) → ¬ (Rose (K.faults sink.old) (K.faults sink.new)) → (result.status ≡ 0) ⊎ (result.status ≡ 5) }
     // One that isn't a session text ends with 2 and its first bad line, unless the source failed or memory
     // ran out.
-    ensures refused { (bytes : List ℕ) (n : ℕ) → map (λ w. string_bytes w) words.now ≡ run_words → S.left source.old ≡ Some bytes → length bytes ≤ most_bytes → IsFirstBad (infos_of info natives) n (lines bytes)
+    ensures refused { (bytes : List ℕ) (n : ℕ) → AskForRun words.now → S.left source.old ≡ Some bytes → length bytes ≤ most_bytes → IsFirstBad (infos_of info natives) n (lines bytes)
         → ¬ (Rose (S.faults source.old) (S.faults source.new)) → (result.status ≡ 2) × (result.line ≡ n) ⊎ (result.status ≡ 5) }
     // One of more bytes ends with 6, unless the source failed or memory ran out.
-    ensures large { (bytes : List ℕ) → map (λ w. string_bytes w) words.now ≡ run_words → S.left source.old ≡ Some bytes → most_bytes < length bytes
+    ensures large { (bytes : List ℕ) → AskForRun words.now → S.left source.old ≡ Some bytes → most_bytes < length bytes
         → ¬ (Rose (S.faults source.old) (S.faults source.new)) → (result.status ≡ 6) ⊎ (result.status ≡ 5) }
 {
     if !is_run(words) {

@@ -43,7 +43,9 @@ tag_eq a b = (tag_number a == tag_number b) && (tag_argument a == tag_argument b
 
 -- the type with this number
 abbrev tag_from : ℕ → ℕ → TypeTag
-tag_from n a = cond (n == 0) tag.Unit (cond (n == 1) tag.Bool (cond (n == 2) tag.Int (cond (n == 3) tag.Char (cond (n == 4) tag.Text (cond (n == 5) tag.Array (cond (n == 6) tag.Map (cond (n == 7) tag.FnPtr (cond (n == 8) (tag.Custom a) (cond (n == 9) tag.Dynamic (cond (n == 10) tag.Str tag.StdString))))))))))
+tag_from n a = cond (n == 0) tag.Unit (cond (n == 1) tag.Bool (cond (n == 2) tag.Int (cond (n == 3) tag.Char
+    (cond (n == 4) tag.Text (cond (n == 5) tag.Array (cond (n == 6) tag.Map (cond (n == 7) tag.FnPtr
+    (cond (n == 8) (tag.Custom a) (cond (n == 9) tag.Dynamic (cond (n == 10) tag.Str tag.StdString))))))))))
 
 tag_back : (t : TypeTag) → tag_from (tag_number t) (tag_argument t) ≡ t
 tag_back tag.Unit = refl

@@ -4,7 +4,7 @@ ghost use Rattle.std.specs.Prelude.{◌≡◌, ◌++◌, ◌∷◌, [], OnOk, if
 ghost use Rattle.rhd_value.specs.Tree.{custom, pointer, items_of, members_of};
 ghost use Rattle.rhd_value.specs.Views.{kind_view};
 ghost use Rattle.rhd_text.specs.PrintedTexts.{quoted};
-ghost use Rattle.rhd_text.specs.PrintedValues.{mark_signs, pointer_head, pointer_number, spelled, spelled_kind, spelled_items, spaced_items, spelled_members};
+ghost use Rattle.rhd_text.specs.PrintedValues.{mark_signs, pointer_head, spelled_type, spelled, spelled_kind, spelled_items, spaced_items, spelled_members};
 
 use super::quotes::{push_char, push_int, push_number, push_quoted};
 use rhd_value::{Dynamic, Entries, FnPtr, FnPtrType, Marks, OutOfMemory, Text, Value};
@@ -49,7 +49,7 @@ fn push_pointer_head(typ: FnPtrType, out: &mut Vec<u8>) -> Result<(), OutOfMemor
 }
 
 fn push_pointer_number(typ: FnPtrType, out: &mut Vec<u8>) -> Result<(), OutOfMemory>
-    ensures { OnOk result (out.new.items ≡ out.old.items ++ pointer_number typ) }
+    ensures { OnOk result (out.new.items ≡ out.old.items ++ spelled_type typ) }
 {
     match typ {
         FnPtrType::Normal => Ok(()),

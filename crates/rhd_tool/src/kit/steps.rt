@@ -4,7 +4,8 @@ ghost use Rattle.std.specs.Prelude.{◌≡◌, ◌-◌, IfOk, length, pos, take}
 ghost use Rattle.std.specs.Option.{option_copied, option_map};
 ghost use Rattle.rhd_value.specs.Tree.{unit};
 ghost use Rattle.rhd_value.specs.Kinds.{plain};
-ghost use Rattle.rhd_tool.specs.Kit.{arguments, answers, bytes_in, sum_of, changed_to, elements, last_of, without_last, payload_in, position_of, call_of, asks_once, with_left, asks_with_left, asks_often, kit_does, passes_on, is_name_with_left, goes_on, kit_next, int_at, text_at};
+ghost use Rattle.rhd_tool.specs.Kit.{arguments, answers, bytes_in, sum_of, changed_to, elements, last_of, without_last, payload_in};
+ghost use Rattle.rhd_tool.specs.Kit.{position_of, call_of, asks_once, with_left, asks_with_left, asks_often, kit_does, passes_on, is_name_with_left, goes_on, kit_next, int_at, text_at};
 ghost use Rattle.rhd_tool.specs.Values.{argument_at, own_fault, values_in};
 
 use crate::kit::given::Given;

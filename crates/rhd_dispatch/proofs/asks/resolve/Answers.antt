@@ -20,4 +20,4 @@ returns-in-None-clause-held g c =
     IfOk-weaker c.find_native.result _ _
     (λ last is. pick_is_held (length c.args.engine.now.natives.items.items) e c.args.state.now.lib c.args.state.now.imports c.args.name.now c.args.token c.args.native_only c.args.shape.now last c.args.engine.now.globals_held c.requires c.args.engine.now.builtins_held
     (native_is_pick e c.args.state.now.lib c.args.state.now.imports c.args.name.now c.in_ok-own.own c.find_script.new.name c.args.token c.args.native_only c.args.shape.now c.in_ok-pick.field-0 last c.in_ok-own.ensures c.in_ok-pick.ensures.kept c.in_ok-pick.ensures.pick c.in-None.is is))
-    c.find_native.ensures
+    c.find_native.ensures.pick

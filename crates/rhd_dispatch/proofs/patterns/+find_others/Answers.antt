@@ -1,5 +1,6 @@
 use Rattle.std.proofs.Common.{◌≤◌, ◌<◌, ◌-◌, length, ap, sym, ◌∙◌, arith}
 use Rattle.rhd_module.specs.Matching.{types_match}
+use Rattle.rhd_dispatch.proofs.Looks.{leaf_missed, first_less, both_less}
 use Rattle.rhd_dispatch.proofs.PatternWalk.{walk_prunes, walk_missed_last, walk_missed_over, walk_found, walk_changed, back_changed}
 use Rattle.rhd_dispatch.proofs.patterns.+find_others.Goals as goal
 
@@ -34,3 +35,36 @@ pub returns-clause-kept : goal.returns-clause-kept
 returns-clause-kept g m c =
     let within : c.args.place < length c.args.kinds.now.items = omega (arith, c.len.ensures) in
     back_changed c.args.kinds.now.items _ _ c.args.place c.index-kind.result.now within c.index-kind.ensures c.in_ok-others.ensures.kept c.in_ok-changed.ensures.kept
+
+pub returns-then-not-may_match-clause-steps : goal.returns-then-not-may_match-clause-steps
+returns-then-not-may_match-clause-steps g m c = leaf_missed c.args.kinds.now.items c.args.place (g.L.Look.modules c.args.look.now) _
+
+pub returns-then-place-ge-MOST_CHANGED-clause-steps : goal.returns-then-place-ge-MOST_CHANGED-clause-steps
+returns-then-place-ge-MOST_CHANGED-clause-steps g m c = leaf_missed c.args.kinds.now.items c.args.place (g.L.Look.modules c.args.look.now) _
+
+pub returns-then-place-len-clause-steps : goal.returns-then-place-len-clause-steps
+returns-then-place-len-clause-steps g m c = leaf_missed c.args.kinds.now.items c.args.place (g.L.Look.modules c.args.look.now) _
+
+pub returns-in_err-others-clause-steps : goal.returns-in_err-others-clause-steps
+returns-in_err-others-clause-steps g m c =
+    let small : c.args.place < 16 = omega arith in
+    let within : c.args.place < length c.args.kinds.now.items = omega (arith, c.len.ensures) in
+    first_less c.args.kinds.now.items c.args.place (g.L.Look.modules c.args.look.now) _ _ small within c.in_err-others.ensures.steps
+
+pub returns-then-is_some-clause-steps : goal.returns-then-is_some-clause-steps
+returns-then-is_some-clause-steps g m c =
+    let small : c.args.place < 16 = omega arith in
+    let within : c.args.place < length c.args.kinds.now.items = omega (arith, c.len.ensures) in
+    first_less c.args.kinds.now.items c.args.place (g.L.Look.modules c.args.look.now) _ _ small within c.in_ok-others.ensures.steps
+
+pub returns-in_err-changed-clause-steps : goal.returns-in_err-changed-clause-steps
+returns-in_err-changed-clause-steps g m c =
+    let small : c.args.place < 16 = omega arith in
+    let within : c.args.place < length c.args.kinds.now.items = omega (arith, c.len.ensures) in
+    both_less c.args.kinds.now.items _ c.args.place (g.L.Look.modules c.args.look.now) _ _ _ small within c.in_ok-others.ensures.kept c.in_ok-others.ensures.steps c.in_err-changed.ensures.steps
+
+pub returns-clause-steps : goal.returns-clause-steps
+returns-clause-steps g m c =
+    let small : c.args.place < 16 = omega arith in
+    let within : c.args.place < length c.args.kinds.now.items = omega (arith, c.len.ensures) in
+    both_less c.args.kinds.now.items _ c.args.place (g.L.Look.modules c.args.look.now) _ _ _ small within c.in_ok-others.ensures.kept c.in_ok-others.ensures.steps c.in_ok-changed.ensures.steps

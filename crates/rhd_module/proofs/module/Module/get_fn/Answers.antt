@@ -10,9 +10,9 @@ use Rattle.rhd_module.proofs.Scripts.{none_found}
 use Rattle.rhd_module.proofs.module.Module.get_fn.Goals as goal
 
 -- a script's key finds nothing where none was declared
-pub returns-then-is_script : goal.returns-then-is_script
+pub returns-then-is_script-clause-found : goal.returns-then-is_script-clause-found
 unfolding own_decl
-returns-then-is_script c =
+returns-then-is_script-clause-found c =
     let key = c.args.key.now in
     let script : is_script_key key ≡ true = search rules in
     let none_noted : c.self.inside.scripts ≡ false = search rules in

@@ -1,0 +1,190 @@
+-- How many look-ups a search makes.
+use Rattle.std.proofs.Common.{◌≡◌, ◌≤◌, ◌<◌, ℕ, ◌+◌, ◌-◌, ◌*◌, Bool, true, false, List, [], ◌∷◌, ◌++◌, length, map, drop, get_or, set, sym, ap, ◌∙◌, arith}
+use Rattle.std.specs.Prelude.{zero, suc, reverse, Option}
+use Rattle.std.specs.List.{enumerate_from}
+use Rattle.std.proofs.lemmas.List.{length-append, length-map, length-reverse, drop-set-lt}
+use Rattle.std.proofs.lemmas.List.FromFn.{length-enumerate_from}
+use Rattle.std.proofs.Math.Seq.{drop-cons}
+use native.Mathlib.Nat.{add-mul, one-mul}
+use Rattle.rhd_value.specs.Tree.{Bytes}
+use Rattle.rhd_value.specs.declared.tag.TypeTag.{TypeTag}
+use Rattle.rhd_value.specs.declared.tag.TypeTag.TheVariants.{Dynamic}
+use Rattle.rhd_names.specs.declared.token.OpToken.{OpToken}
+use Rattle.rhd_func.specs.declared.request.CallShape.{CallShape}
+use Rattle.rhd_module.specs.Steps.{raised}
+use Rattle.rhd_module.specs.Tree.{ModuleTree}
+use Rattle.rhd_call.specs.declared.pick.Layer.{Layer}
+use Rattle.rhd_engine.specs.Engine.{EngineLists, Imports}
+use Rattle.rhd_dispatch.specs.Asks.{Asked, typed_asks, script, params_of, allowed_asks, native_ask, asks}
+use Rattle.rhd_dispatch.specs.Looks.{most_looks}
+use Rattle.rhd_dispatch.specs.Patterns.{patterns_to, patterns}
+use Rattle.rhd_dispatch.specs.Searched.{own_place, searched, libraries, global_modules}
+
+-- one module asked
+pub raised_once : (old new : ℕ) → new ≡ raised old 1 → new ≤ old + 1
+unfolding raised
+raised_once old new is = omega (arith, is)
+
+-- there are as many places as modules
+places_of : (e : EngineLists) (layer : ℕ → Layer) (ms : List (ℕ × ModuleTree)) → length (map (own_place e layer) ms) ≡ length ms
+places_of e layer ms = length-map ms (own_place e layer)
+
+pub places_count : (e : EngineLists) (libs : List ModuleTree) (imports : Imports) → length (searched e libs imports) ≡ length libs + length e.globals
+places_count e libs imports =
+    let l : length (libraries e libs) ≡ length libs = length-map (reverse (enumerate_from 0 libs)) _ ∙ length-reverse (enumerate_from 0 libs) ∙ length-enumerate_from 0 libs in
+    let g : length (global_modules e) ≡ length e.globals = length-map (enumerate_from 0 e.globals) _ ∙ length-enumerate_from 0 e.globals in
+    length-append (libraries e libs) (global_modules e) ∙ (λ i. l i + g i)
+
+-- Patterns: there is one, and one place more makes twice as many.
+
+pub some_pattern : (n : ℕ) (ts : List TypeTag) → 1 ≤ length (patterns_to n ts)
+unfolding patterns_to
+some_pattern n [] = omega arith
+some_pattern zero (t ∷ ts) = omega arith
+some_pattern (suc n) (t ∷ ts) =
+    let ps = patterns_to n ts in
+    omega (arith, length-append (map (λ p. t ∷ p) ps) (map (λ p. Dynamic ∷ p) ps), length-map ps (λ p. t ∷ p), length-map ps (λ p. Dynamic ∷ p), some_pattern n ts)
+
+twice_step : (n : ℕ) (t : TypeTag) (ts : List TypeTag) → length (patterns_to (suc n) (t ∷ ts)) ≡ length (patterns_to n ts) + length (patterns_to n ts)
+unfolding patterns_to
+twice_step n t ts =
+    let ps = patterns_to n ts in
+    length-append (map (λ p. t ∷ p) ps) (map (λ p. Dynamic ∷ p) ps) ∙ (λ i. length-map ps (λ p. t ∷ p) i + length-map ps (λ p. Dynamic ∷ p) i)
+
+pub twice : (kinds : List TypeTag) (place : ℕ) → place < 16 → place < length kinds →
+    length (patterns_to (16 - place) (drop place kinds)) ≡ length (patterns_to (16 - (place + 1)) (drop (place + 1) kinds)) + length (patterns_to (16 - (place + 1)) (drop (place + 1) kinds))
+twice kinds place small within =
+    let a : 16 - place ≡ suc (16 - (place + 1)) = omega arith in
+    let s : suc place ≡ place + 1 = omega arith in
+    let t = get_or kinds place Dynamic in
+    let d : drop place kinds ≡ t ∷ drop (place + 1) kinds = drop-cons kinds place Dynamic within ∙ (λ i. t ∷ drop (s i) kinds) in
+    (λ i. length (patterns_to (a i) (d i))) ∙ twice_step (16 - (place + 1)) t (drop (place + 1) kinds)
+
+-- Numbers.
+
+times_twice : (all half m : ℕ) → all ≡ half + half → all * m ≡ half * m + half * m
+times_twice all half m is = ap (λ (n : ℕ). n * m) is ∙ add-mul half half m
+
+pub at_least_once : (n m : ℕ) → 1 ≤ n → m ≤ n * m
+at_least_once n m some =
+    let is : n ≡ 1 + (n - 1) = omega arith in
+    let e : n * m ≡ 1 * m + (n - 1) * m = ap (λ (k : ℕ). k * m) is ∙ add-mul 1 (n - 1) m in
+    omega (arith, e, one-mul m)
+
+sum_first : (x a s first : ℕ) → x ≡ a + a → first ≤ s + a → first ≤ s + x
+sum_first x a s first twice one = omega arith
+
+sum_both : (x a b s first second : ℕ) → x ≡ a + a → b ≡ a → first ≤ s + a → second ≤ first + b → second ≤ s + x
+sum_both x a b s first second twice same one two = omega arith
+
+sum_first_less : (x a m s first : ℕ) → x ≡ a + a → first + m ≤ s + a → first + m ≤ s + x
+sum_first_less x a m s first twice one = omega arith
+
+sum_both_less : (x a b m s first second : ℕ) → x ≡ a + a → b ≡ a → first + m ≤ s + a → second ≤ first + b → second + m ≤ s + x
+sum_both_less x a b m s first second twice same one two = omega arith
+
+-- The walk.
+
+-- how many patterns are left after a place
+abbrev pub after_place : List TypeTag → ℕ → ℕ
+after_place kinds place = length (patterns_to (16 - (place + 1)) (drop (place + 1) kinds))
+
+abbrev pub from_place : List TypeTag → ℕ → ℕ
+from_place kinds place = length (patterns_to (16 - place) (drop place kinds))
+
+same_after : (kinds same : List TypeTag) (place m : ℕ) → place < length kinds → same ≡ kinds → after_place (set same place Dynamic) place * m ≡ after_place kinds place * m
+same_after kinds same place m within is =
+    let r : drop (place + 1) (set same place Dynamic) ≡ drop (place + 1) kinds = ap (λ (ks : List TypeTag). drop (place + 1) (set ks place Dynamic)) is ∙ drop-set-lt (place + 1) kinds place Dynamic (omega arith) in
+    ap (λ (ts : List TypeTag). length (patterns_to (16 - (place + 1)) ts) * m) r
+
+pub leaf_looks : (kinds : List TypeTag) (place m s new : ℕ) → new ≤ s + m → new ≤ s + from_place kinds place * m
+leaf_looks kinds place m s new h =
+    let l : m ≤ from_place kinds place * m = at_least_once (from_place kinds place) m (some_pattern (16 - place) (drop place kinds)) in
+    omega (arith, l, h)
+
+pub leaf_missed : (kinds : List TypeTag) (place m s : ℕ) → s + m ≤ s + from_place kinds place * m
+leaf_missed kinds place m s =
+    let l : m ≤ from_place kinds place * m = at_least_once (from_place kinds place) m (some_pattern (16 - place) (drop place kinds)) in
+    omega (arith, l)
+
+pub first_looks : (kinds : List TypeTag) (place m s first : ℕ) → place < 16 → place < length kinds → first ≤ s + after_place kinds place * m → first ≤ s + from_place kinds place * m
+first_looks kinds place m s first small within one =
+    sum_first (from_place kinds place * m) (after_place kinds place * m) s first (times_twice (from_place kinds place) (after_place kinds place) m (twice kinds place small within)) one
+
+pub both_looks : (kinds same : List TypeTag) (place m s first second : ℕ) → place < 16 → place < length kinds → same ≡ kinds → first ≤ s + after_place kinds place * m → second ≤ first + after_place (set same place Dynamic) place * m
+    → second ≤ s + from_place kinds place * m
+both_looks kinds same place m s first second small within is one two =
+    sum_both (from_place kinds place * m) (after_place kinds place * m) (after_place (set same place Dynamic) place * m) s first second
+    (times_twice (from_place kinds place) (after_place kinds place) m (twice kinds place small within)) (same_after kinds same place m within is) one two
+
+pub first_less : (kinds : List TypeTag) (place m s first : ℕ) → place < 16 → place < length kinds → first + m ≤ s + after_place kinds place * m → first + m ≤ s + from_place kinds place * m
+first_less kinds place m s first small within one =
+    sum_first_less (from_place kinds place * m) (after_place kinds place * m) m s first (times_twice (from_place kinds place) (after_place kinds place) m (twice kinds place small within)) one
+
+pub both_less : (kinds same : List TypeTag) (place m s first second : ℕ) → place < 16 → place < length kinds → same ≡ kinds → first + m ≤ s + after_place kinds place * m → second ≤ first + after_place (set same place Dynamic) place * m
+    → second + m ≤ s + from_place kinds place * m
+both_less kinds same place m s first second small within is one two =
+    sum_both_less (from_place kinds place * m) (after_place kinds place * m) (after_place (set same place Dynamic) place * m) m s first second
+    (times_twice (from_place kinds place) (after_place kinds place) m (twice kinds place small within)) (same_after kinds same place m within is) one two
+
+-- The questions of a call.
+
+looks_append : (e : EngineLists) (libs : List ModuleTree) (imports : Imports) (front back : List Asked) → most_looks e libs imports (front ++ back) ≡ most_looks e libs imports front + most_looks e libs imports back
+looks_append e libs imports [] back = omega arith
+looks_append e libs imports (a ∷ front) back = omega (arith, looks_append e libs imports front back)
+
+-- a script's question, alone
+pub script_looks : (e : EngineLists) (libs : List ModuleTree) (imports : Imports) (name : Bytes) (native_only : Bool) (shape : CallShape) (s first second : ℕ) → native_only ≡ false
+    → first ≤ s + most_looks e libs imports (typed_asks e name shape) → second ≤ first + length (searched e libs imports) → second ≤ s + most_looks e libs imports (allowed_asks e name native_only shape)
+script_looks e libs imports name true shape s first second is one two = absurd cc
+script_looks e libs imports name false shape s first second is one two =
+    omega (arith, looks_append e libs imports (typed_asks e name shape) (script name (params_of shape) ∷ []), one-mul (length (searched e libs imports)), one, two)
+
+pub typed_looks : (e : EngineLists) (libs : List ModuleTree) (imports : Imports) (name : Bytes) (native_only : Bool) (shape : CallShape) (s first : ℕ) → native_only ≡ false
+    → first ≤ s + most_looks e libs imports (typed_asks e name shape) → first ≤ s + most_looks e libs imports (allowed_asks e name native_only shape)
+typed_looks e libs imports name true shape s first is one = absurd cc
+typed_looks e libs imports name false shape s first is one =
+    omega (arith, looks_append e libs imports (typed_asks e name shape) (script name (params_of shape) ∷ []), one)
+
+-- all questions of a call
+pub all_looks : (e : EngineLists) (libs : List ModuleTree) (imports : Imports) (name same later : Bytes) (token : Option OpToken) (native_only : Bool) (shape : CallShape) (s first second : ℕ) → same ≡ name → later ≡ same
+    → first ≤ s + most_looks e libs imports (allowed_asks e same native_only shape) → second ≤ first + most_looks e libs imports (native_ask later token shape ∷ []) → second ≤ s + most_looks e libs imports (asks e name token native_only shape)
+all_looks e libs imports name same later token native_only shape s first second n k one two =
+    let a : most_looks e libs imports (allowed_asks e same native_only shape) ≡ most_looks e libs imports (allowed_asks e name native_only shape) = ap (λ (t : Bytes). most_looks e libs imports (allowed_asks e t native_only shape)) n in
+    let b : most_looks e libs imports (native_ask later token shape ∷ []) ≡ most_looks e libs imports (native_ask name token shape ∷ []) = ap (λ (t : Bytes). most_looks e libs imports (native_ask t token shape ∷ [])) (k ∙ n) in
+    omega (arith, looks_append e libs imports (allowed_asks e name native_only shape) (native_ask name token shape ∷ []), a, b, one, two)
+
+pub script_alone : (e : EngineLists) (libs : List ModuleTree) (imports : Imports) (name same : Bytes) (token : Option OpToken) (native_only : Bool) (shape : CallShape) (s first : ℕ) → same ≡ name
+    → first ≤ s + most_looks e libs imports (allowed_asks e same native_only shape) → first ≤ s + most_looks e libs imports (asks e name token native_only shape)
+script_alone e libs imports name same token native_only shape s first n one =
+    let a : most_looks e libs imports (allowed_asks e same native_only shape) ≡ most_looks e libs imports (allowed_asks e name native_only shape) = ap (λ (t : Bytes). most_looks e libs imports (allowed_asks e t native_only shape)) n in
+    omega (arith, looks_append e libs imports (allowed_asks e name native_only shape) (native_ask name token shape ∷ []), a, one)
+
+-- the places counted as modules
+pub both_lists : (e : EngineLists) (libs lists globals : List ModuleTree) (imports : Imports) (s first second : ℕ) → lists ≡ libs → globals ≡ e.globals → first ≤ s + length lists → second ≤ first + length globals → second ≤ s + length (searched e libs imports)
+both_lists e libs lists globals imports s first second l g one two =
+    omega (arith, places_count e libs imports, ap length l, ap length g, one, two)
+
+pub first_list : (e : EngineLists) (libs lists : List ModuleTree) (imports : Imports) (s first : ℕ) → lists ≡ libs → first ≤ s + length lists → first ≤ s + length (searched e libs imports)
+first_list e libs lists imports s first l one = omega (arith, places_count e libs imports, ap length l, one)
+
+pub as_modules : (e : EngineLists) (libs : List ModuleTree) (imports : Imports) (s new : ℕ) → new ≤ s + length (searched e libs imports) → new ≤ s + (length libs + length e.globals)
+as_modules e libs imports s new h = omega (arith, places_count e libs imports, h)
+
+-- the patterns after the exact one
+pub other_patterns : (e : EngineLists) (libs : List ModuleTree) (imports : Imports) (types kinds : List TypeTag) (s new : ℕ) → types ≡ kinds → new + (length libs + length e.globals) ≤ s + length (patterns types) * (length libs + length e.globals)
+    → new + length (searched e libs imports) ≤ s + length (patterns kinds) * length (searched e libs imports)
+other_patterns e libs imports types kinds s new k h =
+    let p : length (patterns types) * (length libs + length e.globals) ≡ length (patterns kinds) * length (searched e libs imports) = λ i. length (patterns (k i)) * sym (places_count e libs imports) i in
+    omega (arith, p, places_count e libs imports, h)
+
+pub no_pattern : (kinds : List TypeTag) (s m : ℕ) → s + m ≤ s + length (patterns kinds) * m
+no_pattern kinds s m =
+    let l : m ≤ length (patterns kinds) * m = at_least_once (length (patterns kinds)) m (some_pattern 16 kinds) in
+    omega (arith, l)
+
+-- the exact pattern alone
+pub exact_looks : (kinds : List TypeTag) (s m new : ℕ) → new ≤ s + m → new ≤ s + (length (patterns kinds) * m + 0)
+exact_looks kinds s m new h =
+    let l : m ≤ length (patterns kinds) * m = at_least_once (length (patterns kinds)) m (some_pattern 16 kinds) in
+    omega (arith, l, h)
