@@ -45,7 +45,7 @@ some_pattern (suc n) (t ∷ ts) =
     let ps = patterns_to n ts in
     omega (arith, length-append (map (λ p. t ∷ p) ps) (map (λ p. Dynamic ∷ p) ps), length-map ps (λ p. t ∷ p), length-map ps (λ p. Dynamic ∷ p), some_pattern n ts)
 
-twice_step : (n : ℕ) (t : TypeTag) (ts : List TypeTag) → length (patterns_to (suc n) (t ∷ ts)) ≡ length (patterns_to n ts) + length (patterns_to n ts)
+pub twice_step : (n : ℕ) (t : TypeTag) (ts : List TypeTag) → length (patterns_to (suc n) (t ∷ ts)) ≡ length (patterns_to n ts) + length (patterns_to n ts)
 unfolding patterns_to
 twice_step n t ts =
     let ps = patterns_to n ts in

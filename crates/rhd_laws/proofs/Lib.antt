@@ -19,3 +19,4 @@ pub mod PatternPlaces
 pub mod PickPlaces
 pub mod PickCalls
 pub mod PickAnswers
+pub mod PatternCount

@@ -1,6 +1,6 @@
 //! Laws of what answers a call.
 
-ghost use Rattle.std.specs.Prelude.{◌≡◌, ◌↔◌, ◌≤◌, ◌<◌, ℕ, true, List, map, slice_get, Some, None};
+ghost use Rattle.std.specs.Prelude.{◌≡◌, ◌↔◌, ◌≤◌, ◌<◌, ◌^◌, ℕ, true, List, length, map, min, slice_get, Some, None};
 ghost use Rattle.std.specs.List.{Contains};
 ghost use Rattle.rhd_value.specs.declared.tag.TypeTag.{TypeTag};
 ghost use Rattle.rhd_func.specs.declared.request.CallRequest.{CallRequest};
@@ -32,11 +32,13 @@ ghost use Rattle.rhd_laws.specs.Matches.{TypesMatch, IsMoreExact, IsInFirstModul
 use rhd_func::{Bodies, Host, Natives};
 
 /// The patterns of some kinds are exactly the types that match them place by place. Of two patterns
-/// of the kinds of some arguments, one goes before the other exactly where it is the more exact.
+/// of the kinds of some arguments, one goes before the other exactly where it is the more exact. Each
+/// of the first sixteen kinds makes twice as many.
 pub fn the_patterns_of_kinds_match_them()
     ensures matching { (kinds types : List TypeTag) → Contains (patterns kinds) types ↔ TypesMatch types kinds }
     ensures order { (args : List Tree) (types others : List TypeTag) (i j : ℕ) → slice_get (patterns (map tag_of args)) i ≡ Some types
         → slice_get (patterns (map tag_of args)) j ≡ Some others → (i < j) ↔ IsMoreExact (map tag_of args) types others }
+    ensures count { (kinds : List TypeTag) → length (patterns kinds) ≡ 2 ^ min 16 (length kinds) }
 {}
 
 /// A key is found in the first module of a frame that declares it, libraries latest first and then

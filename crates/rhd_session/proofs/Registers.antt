@@ -24,10 +24,15 @@ use Rattle.rhd_session.specs.Commands.{cause, change, Change, operands, pop_oper
 use Rattle.rhd_session.specs.Answered.{Declares, refused, done}
 
 -- a number that isn't held is refused
-pub unknown : (w : World) (f : Frame) (name : Bytes) (id : FnId) (number held : ℕ) → number ≡ id.0 → held ≡ length w.engine.natives → held ≤ number → Declares w f (commands.RegisterFn name id) (Refused (UnknownNumber number held)) w f
+unknown : (w : World) (f : Frame) (name : Bytes) (id : FnId) (number held : ℕ) → number ≡ id.0 → held ≡ length w.engine.natives → held ≤ number → Declares w f (commands.RegisterFn name id) (Refused (UnknownNumber number held)) w f
 unknown w f name id number held n h past =
     let found : cause w f (commands.RegisterFn name id) ≡ Some (UnknownNumber id.0 (length w.engine.natives)) = rw (le-ltb id.0 (length w.engine.natives) (omega (arith, n, h, past))) refl in
     refused (found ∙ (λ i. Some (UnknownNumber (sym n i) (sym h i))))
+
+-- the same where the world is one that is equal
+pub unknown_left : (w w2 : World) (f : Frame) (name : Bytes) (id : FnId) (number held : ℕ) → number ≡ id.0 → held ≡ length w.engine.natives → held ≤ number → w2 ≡ w → Declares w f (commands.RegisterFn name id) (Refused (UnknownNumber number held)) w2 f
+unknown_left w w2 f name id number held n h past same =
+    subst (λ (x : World). Declares w f (commands.RegisterFn name id) (Refused (UnknownNumber number held)) x f) (sym same) (unknown w f name id number held n h past)
 
 -- a number that is held is registered
 pub known : (w w2 : World) (f : Frame) (name : Bytes) (id : FnId) (info : NativeInfo) → info_of w.engine.natives id ≡ Some info → w2 ≡ record w { engine = with_native name id info w.engine } → Declares w f (commands.RegisterFn name id) Done w2 f

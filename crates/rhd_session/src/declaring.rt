@@ -79,12 +79,9 @@ impl Session {
         ensures begun { calls_begun_of self.new ≡ calls_begun_of self.old }
         ensures count { modules_of self.new ≡ modules_of self.old }
     {
-        let natives = &self.engine.natives;
-        match self
-            .engine
-            .globals
-            .register_in_first(alloc, name, natives, id)
-        {
+        let engine = &mut self.engine;
+        let natives = &engine.natives;
+        match engine.globals.register_in_first(alloc, name, natives, id) {
             Ok(()) => Ok(Reply::Done),
             Err(DeclFault::OutOfMemory) => Err(OutOfMemory),
             Err(DeclFault::UnknownNumber { number, length }) => {

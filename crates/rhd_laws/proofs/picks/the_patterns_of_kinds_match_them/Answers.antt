@@ -1,4 +1,5 @@
 use Rattle.rhd_laws.proofs.PatternOrder.{pattern_matches, matching_pattern, types_match, match_to}
+use Rattle.rhd_laws.proofs.PatternCount.{count_to}
 use Rattle.rhd_laws.proofs.PatternPlaces.{exact_first}
 use Rattle.rhd_laws.proofs.picks.the_patterns_of_kinds_match_them.Goals as goal
 
@@ -7,3 +8,6 @@ returns-clause-matching c = λ kinds types. (λ h. types_match types kinds (patt
 
 pub returns-clause-order : goal.returns-clause-order
 returns-clause-order c = λ args types others i j a b. exact_first args types others i j a b
+
+pub returns-clause-count : goal.returns-clause-count
+returns-clause-count c = λ kinds. count_to 16 kinds
