@@ -1,5 +1,5 @@
 -- The end of a call whose function answered a value of sizes that are allowed.
-use Rattle.std.proofs.Common.{◌≡◌, Bool, List, refl, sym, ap, ◌∙◌}
+use Rattle.std.proofs.Common.{◌≡◌, Bool, List, refl, ap, ◌∙◌}
 use Rattle.std.specs.Prelude.{Option, Some, None}
 use Rattle.rhd_value.specs.Tree.{Tree}
 use Rattle.rhd_value.specs.declared.fault.EvalAltResult.{EvalAltResult}

@@ -1,13 +1,12 @@
 -- A registration is answered by its first cause of a refusal, or is done.
 use Rattle.std.proofs.Common.{◌≡◌, ◌≤◌, ◌<◌, ℕ, List, [], ◌∷◌, ◌++◌, length, refl, sym, ap, subst, ◌∙◌, get_or, arith}
-use Rattle.std.specs.Prelude.{zero, suc, Option, Some, None, Ok, Err, slice_get, slice_set, option_map}
+use Rattle.std.specs.Prelude.{zero, suc, Some, None, slice_get, slice_set, option_map}
 use Rattle.std.proofs.lemmas.Bool.{lt-ltb, le-ltb}
 use Rattle.std.proofs.lemmas.Option.{slice_get_within}
 use Rattle.rhd_value.specs.Tree.{Bytes}
 use Rattle.rhd_value.specs.declared.tag.FnId.{FnId}
 use Rattle.rhd_func.specs.Natives.{NativeInfo, info_of}
-use Rattle.rhd_module.specs.declared.fault.DeclFault.{DeclFault}
-use Rattle.rhd_module.specs.declared.fault.DeclFault.TheVariants.{UnknownNumber, OutOfMemory}
+use Rattle.rhd_module.specs.declared.fault.DeclFault.TheVariants.{UnknownNumber}
 use Rattle.rhd_func.specs.declared.func.ScriptFuncDef.{ScriptFuncDef}
 use Rattle.rhd_module.specs.Tree.{ModuleTree, empty_module}
 use Rattle.rhd_module.specs.Registered.{with_decl, script_key, script_decl}
@@ -17,7 +16,7 @@ use Rattle.rhd_call.specs.declared.command.ModuleId.{ModuleId}
 use Rattle.rhd_call.specs.declared.command.Command.TheVariants as commands
 use Rattle.rhd_call.specs.declared.reply.Reply.{Reply}
 use Rattle.rhd_call.specs.declared.reply.Reply.TheVariants.{Done, Made, Refused}
-use Rattle.rhd_engine.specs.Engine.{EngineLists, Frame}
+use Rattle.rhd_engine.specs.Engine.{Frame}
 use Rattle.rhd_session.specs.World.{World}
 use Rattle.rhd_engine.specs.Registered.{with_native}
 use Rattle.rhd_session.specs.Commands.{cause, change, Change, operands, pop_operand, unknown_of, registered, changed, with_libs, but_last}

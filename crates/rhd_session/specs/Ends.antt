@@ -1,5 +1,5 @@
 -- How a call ends: its answer, and what the checks of the answer make of it.
-use Rattle.std.specs.Prelude.{Bool, not, nat_lt, [], ◌∷◌, if◌then◌else◌, Option, None, Some, option_and_then, Result, Ok, Err, codes}
+use Rattle.std.specs.Prelude.{Bool, not, nat_lt, [], ◌∷◌, if◌then◌else◌, Option, None, Some, option_and_then, Ok, Err, codes}
 use Rattle.rhd_value.specs.Tree.{Tree}
 use Rattle.rhd_value.specs.Kinds.{tag_of, type_name}
 use Rattle.rhd_value.specs.Sums.{sizes_of}

@@ -209,6 +209,15 @@ impl PlanBodies {
         PlanBodies { plans }
     }
 
+    /// Equal bodies.
+    pub fn dup(&self, alloc: Global) -> Result<PlanBodies, OutOfMemory>
+        ensures { IfOk result (λ bodies. bodies ≡ self.now) }
+    {
+        Ok(PlanBodies {
+            plans: self.plans.dup(alloc)?,
+        })
+    }
+
     /// The body of a definition; none where the text has none of its number.
     fn plan(&self, def: &ScriptFuncDef) -> Option<&BodyPlan>
         ensures { option_copied result ≡ slice_get self.now def.now.body.0 }

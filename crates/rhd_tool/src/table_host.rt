@@ -1,6 +1,6 @@
 //! The host of a session text, which answers calls that no function answers.
 
-ghost use Rattle.std.specs.Prelude.{◌≡◌};
+ghost use Rattle.std.specs.Prelude.{◌≡◌, IfOk};
 
 use rhd_func::{Host, HostAnswer};
 use rhd_value::{Entries, OutOfMemory, Text, Values};
@@ -32,6 +32,15 @@ impl TableHost {
         ensures { result ≡ answers }
     {
         TableHost { answers }
+    }
+
+    /// An equal host.
+    pub fn dup(&self, alloc: Global) -> Result<TableHost, OutOfMemory>
+        ensures { IfOk result (λ host. host ≡ self.now) }
+    {
+        Ok(TableHost {
+            answers: self.answers.dup(alloc)?,
+        })
     }
 }
 

@@ -1,9 +1,3 @@
-use Rattle.std.proofs.Common.{refl, sym, ap, ◌∙◌, ◌≡◌, Bool}
-use Rattle.std.proofs.lemmas.Result.{IfOk-weaker}
-use Rattle.rhd_call.specs.Seen.{seen}
-use Rattle.rhd_engine.specs.Of.{lists_of}
-use Rattle.rhd_session.specs.Plans.{plan_of}
-use Rattle.rhd_session.specs.World.{moment}
 use Rattle.rhd_session.proofs.Stepped.{resumed_of, resumes_in}
 use Rattle.rhd_session.proofs.calls.answered_step.Goals as goal
 

@@ -1,9 +1,6 @@
-use Rattle.std.proofs.Common.{refl, sym, ap, ◌∙◌, ◌≡◌, Bool}
-use Rattle.std.proofs.lemmas.Result.{IfOk-weaker}
+use Rattle.std.proofs.Common.{◌∙◌}
 use Rattle.rhd_call.specs.Seen.{seen}
 use Rattle.rhd_engine.specs.Of.{lists_of}
-use Rattle.rhd_session.specs.Plans.{plan_of}
-use Rattle.rhd_session.specs.World.{moment}
 use Rattle.rhd_session.specs.Runs.{ended}
 use Rattle.rhd_session.specs.Waits.{it_is_answered}
 use Rattle.rhd_session.proofs.Found.{decided_by_fault, not_refused}

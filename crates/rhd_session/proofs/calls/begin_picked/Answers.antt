@@ -1,9 +1,7 @@
-use Rattle.std.proofs.Common.{refl, sym, ap, ◌∙◌, ◌≡◌, Bool}
+use Rattle.std.proofs.Common.{refl}
 use Rattle.std.proofs.lemmas.Result.{IfOk-weaker}
 use Rattle.rhd_call.specs.Seen.{seen}
 use Rattle.rhd_engine.specs.Of.{lists_of}
-use Rattle.rhd_session.specs.Plans.{plan_of}
-use Rattle.rhd_session.specs.World.{moment}
 use Rattle.std.proofs.Common.{◌+◌, []}
 use Rattle.rhd_session.specs.Runs.{none_yet}
 use Rattle.rhd_session.specs.Waits.{in_progress}

@@ -1,9 +1,7 @@
-use Rattle.std.proofs.Common.{refl, sym, ap, ◌∙◌, ◌≡◌, Bool}
-use Rattle.std.proofs.lemmas.Result.{IfOk-weaker}
+use Rattle.std.proofs.Common.{refl, ◌∙◌}
 use Rattle.rhd_call.specs.Seen.{seen}
 use Rattle.rhd_engine.specs.Of.{lists_of}
 use Rattle.rhd_session.specs.Plans.{plan_of}
-use Rattle.rhd_session.specs.World.{moment}
 use Rattle.rhd_func.specs.Infos.{infos_of}
 use Rattle.rhd_session.specs.Entered.{context}
 use Rattle.rhd_session.specs.Received.{received, convention_of}

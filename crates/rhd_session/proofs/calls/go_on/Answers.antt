@@ -1,8 +1,5 @@
-use Rattle.std.proofs.Common.{refl, sym, ap, ◌∙◌, ◌≡◌, Bool}
-use Rattle.std.proofs.lemmas.Result.{IfOk-weaker}
-use Rattle.rhd_call.specs.Seen.{seen}
+use Rattle.std.proofs.Common.{ap, ◌∙◌, Bool}
 use Rattle.rhd_engine.specs.Of.{lists_of}
-use Rattle.rhd_session.specs.Plans.{plan_of}
 use Rattle.rhd_session.specs.World.{moment}
 use Rattle.rhd_func.specs.Funcs.{native_of}
 use Rattle.rhd_func.specs.Infos.{infos_of}

@@ -1,11 +1,10 @@
-use Rattle.std.proofs.Common.{refl, sym, ap, ◌∙◌, ◌≡◌, Bool}
-use Rattle.std.proofs.lemmas.Result.{IfOk-weaker}
+use Rattle.std.proofs.Common.{refl, ap}
 use Rattle.rhd_call.specs.Seen.{seen}
 use Rattle.rhd_engine.specs.Of.{lists_of}
 use Rattle.rhd_session.specs.Plans.{plan_of}
 use Rattle.rhd_session.specs.World.{moment}
 use Rattle.rhd_func.specs.Funcs.{native_of}
-use Rattle.rhd_session.specs.Entered.{context, context_if}
+use Rattle.rhd_session.specs.Entered.{context}
 use Rattle.rhd_session.specs.Objects.{objects_of}
 use Rattle.rhd_session.proofs.Stepped.{native_started, body_started}
 use Rattle.rhd_session.proofs.calls.start.Goals as goal

@@ -1,5 +1,5 @@
 use Rattle.std.proofs.Common.{refl}
-use Rattle.rhd_session.proofs.Stack.{puts_frame, puts_node, above_at}
+use Rattle.rhd_session.proofs.Stack.{puts_frame, puts_node}
 use Rattle.rhd_session.proofs.machine.put.Goals as goal
 
 pub returns-in_ok-push-in-Waiting-clause-put : goal.returns-in_ok-push-in-Waiting-clause-put

@@ -1,6 +1,3 @@
-use Rattle.std.proofs.Common.{ap, ◌∙◌}
-use Rattle.rhd_engine.specs.Engine.{Frame}
-use Rattle.rhd_session.specs.Waits.{outer_of, given_back}
 use Rattle.std.proofs.lemmas.Result.{IfOk-weaker}
 use Rattle.rhd_session.specs.World.{moment}
 use Rattle.rhd_session.proofs.Stack.{answered_goes, back_above}

@@ -4,7 +4,6 @@ use Rattle.rhd_engine.specs.declared.limits.Limits.{Limits}
 use Rattle.rhd_engine.specs.Of.{lists_of}
 use Rattle.rhd_session.specs.World.{moment}
 use Rattle.rhd_session.specs.Waits.{outcome_of}
-use Rattle.std.specs.Prelude.{Some}
 use Rattle.rhd_session.proofs.Filled.{begun_at}
 use Rattle.rhd_session.proofs.Stack.{begins_as, root_ends, root_spent}
 use Rattle.rhd_session.proofs.run.fill.Goals as goal

@@ -1,4 +1,4 @@
-use Rattle.std.proofs.Common.{arith, rules, ◌≡◌, ◌<◌, ◌+◌, ap, length, true, false, refl}
+use Rattle.std.proofs.Common.{arith, rules, ◌≡◌, ◌<◌, ap, length, true, false}
 use Rattle.std.proofs.lemmas.List.{nil_from_length}
 use Rattle.std.proofs.lemmas.Result.{IfOk-weaker}
 use Rattle.rhd_engine.specs.declared.limits.Limits.{Limits}

@@ -1,5 +1,4 @@
 use Rattle.std.proofs.Common.{◌≡◌, length, refl, rules}
-use Rattle.rhd_session.specs.Of.{world_of}
 use Rattle.rhd_engine.proofs.HeldLaws.{on_err}
 use Rattle.rhd_session.proofs.Registers.{made_done}
 use Rattle.rhd_session.proofs.session.Session.new_module.Goals as goal

@@ -1,4 +1,4 @@
-use Rattle.std.proofs.Common.{rules, ◌≡◌, ◌++◌, ◌∷◌, [], ap, ◌∙◌, false, ℕ}
+use Rattle.std.proofs.Common.{rules, ◌≡◌, ap, false, ℕ}
 use Rattle.rhd_session.specs.Commands.{is_call}
 use Rattle.rhd_session.specs.World.{moment}
 use Rattle.rhd_session.proofs.Lists.{declares_replied, declares_begins}

@@ -1,6 +1,5 @@
 use Rattle.std.proofs.Common.{sym, ap, ◌∙◌, List}
 use Rattle.rhd_module.specs.Tree.{ModuleTree}
-use Rattle.rhd_engine.specs.Engine.{Frame}
 use Rattle.rhd_session.proofs.Registers.{same_reply, pop_done, pop_refused}
 use Rattle.rhd_session.proofs.session.Session.pop_lib.Goals as goal
 

@@ -1,5 +1,4 @@
 use Rattle.std.proofs.Common.{◌≡◌, ◌≤◌, ◌<◌, length, refl, rules, arith}
-use Rattle.rhd_session.specs.Of.{world_of}
 use Rattle.rhd_session.proofs.Registers.{same_reply, refused_alone, push_done, at_place}
 use Rattle.rhd_session.proofs.session.Session.push_lib.Goals as goal
 

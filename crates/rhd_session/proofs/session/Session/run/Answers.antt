@@ -1,4 +1,4 @@
-use Rattle.std.proofs.Common.{arith, ◌≡◌, ◌≤◌, refl, sym, ap, length, take, ◌∙◌}
+use Rattle.std.proofs.Common.{arith, ◌≡◌, ◌≤◌, refl, sym, length, ◌∙◌}
 use Rattle.rhd_engine.specs.Of.{lists_of}
 use Rattle.rhd_session.specs.Of.{moment_of}
 use Rattle.rhd_session.proofs.Filled.{on_ok_of, on_err_of}

@@ -1,4 +1,4 @@
-use Rattle.std.proofs.Common.{arith, ◌≤◌, ◌∷◌, [], sym, ap, length, ◌∙◌}
+use Rattle.std.proofs.Common.{arith, ◌≤◌, ◌∷◌, [], sym, length, ◌∙◌}
 use Rattle.std.proofs.lemmas.List.{length-append}
 use Rattle.std.proofs.IntoIterSteps.{All-taken}
 use Rattle.rhd_engine.specs.Of.{lists_of}
