@@ -34,10 +34,6 @@ pub of_map : {A B C : Type 0} (f : B → Option C) (g : A → B) (xs : List A) �
 of_map f g [] = refl
 of_map f g (x ∷ xs) = ap (option_or (f (g x))) (of_map f g xs)
 
--- of one, what it has
-pub of_one : {A B : Type 0} (f : A → Option B) (x : A) → first_of f (x ∷ []) ≡ f x
-of_one f x = or_none (f x)
-
 -- where none has it, none of the reversed list has it
 pub none_reverse : {A B : Type 0} (f : A → Option B) (xs : List A) → first_of f xs ≡ None → first_of f (reverse xs) ≡ None
 none_reverse f [] h = refl

@@ -1,33 +1,23 @@
 -- How many look-ups a search makes.
-use Rattle.std.proofs.Common.{◌≡◌, ◌≤◌, ◌<◌, ℕ, ◌+◌, ◌-◌, ◌*◌, Bool, true, false, List, [], ◌∷◌, ◌++◌, length, map, drop, get_or, set, sym, ap, ◌∙◌, arith}
-use Rattle.std.specs.Prelude.{zero, suc, reverse, Option}
+use Rattle.std.proofs.Common.{◌≡◌, ◌≤◌, ◌<◌, ℕ, ◌+◌, ◌-◌, ◌*◌, List, [], ◌∷◌, length, map, drop, get_or, set, sym, ap, ◌∙◌, arith}
+use Rattle.std.specs.Prelude.{zero, suc, reverse}
 use Rattle.std.specs.List.{enumerate_from}
 use Rattle.std.proofs.lemmas.List.{length-append, length-map, length-reverse, drop-set-lt}
 use Rattle.std.proofs.lemmas.List.FromFn.{length-enumerate_from}
 use Rattle.std.proofs.Math.Seq.{drop-cons}
 use native.Mathlib.Nat.{add-mul, one-mul}
-use Rattle.rhd_value.specs.Tree.{Bytes}
 use Rattle.rhd_value.specs.declared.tag.TypeTag.{TypeTag}
 use Rattle.rhd_value.specs.declared.tag.TypeTag.TheVariants.{Dynamic}
-use Rattle.rhd_names.specs.declared.token.OpToken.{OpToken}
-use Rattle.rhd_func.specs.declared.request.CallShape.{CallShape}
 use Rattle.rhd_module.specs.Steps.{raised}
 use Rattle.rhd_module.specs.Tree.{ModuleTree}
-use Rattle.rhd_call.specs.declared.pick.Layer.{Layer}
 use Rattle.rhd_engine.specs.Engine.{EngineLists, Imports}
-use Rattle.rhd_dispatch.specs.Asks.{Asked, typed_asks, script, params_of, allowed_asks, native_ask, asks}
-use Rattle.rhd_dispatch.specs.Looks.{most_looks}
 use Rattle.rhd_dispatch.specs.Patterns.{patterns_to, patterns}
-use Rattle.rhd_dispatch.specs.Searched.{own_place, searched, libraries, global_modules}
+use Rattle.rhd_dispatch.specs.Searched.{searched, libraries, global_modules}
 
 -- one module asked
 pub raised_once : (old new : ℕ) → new ≡ raised old 1 → new ≤ old + 1
 unfolding raised
 raised_once old new is = omega (arith, is)
-
--- there are as many places as modules
-places_of : (e : EngineLists) (layer : ℕ → Layer) (ms : List (ℕ × ModuleTree)) → length (map (own_place e layer) ms) ≡ length ms
-places_of e layer ms = length-map ms (own_place e layer)
 
 pub places_count : (e : EngineLists) (libs : List ModuleTree) (imports : Imports) → length (searched e libs imports) ≡ length libs + length e.globals
 places_count e libs imports =
@@ -128,37 +118,6 @@ both_less kinds same place m s first second small within is one two =
     (times_twice (from_place kinds place) (after_place kinds place) m (twice kinds place small within)) (same_after kinds same place m within is) one two
 
 -- The questions of a call.
-
-looks_append : (e : EngineLists) (libs : List ModuleTree) (imports : Imports) (front back : List Asked) → most_looks e libs imports (front ++ back) ≡ most_looks e libs imports front + most_looks e libs imports back
-looks_append e libs imports [] back = omega arith
-looks_append e libs imports (a ∷ front) back = omega (arith, looks_append e libs imports front back)
-
--- a script's question, alone
-pub script_looks : (e : EngineLists) (libs : List ModuleTree) (imports : Imports) (name : Bytes) (native_only : Bool) (shape : CallShape) (s first second : ℕ) → native_only ≡ false
-    → first ≤ s + most_looks e libs imports (typed_asks e name shape) → second ≤ first + length (searched e libs imports) → second ≤ s + most_looks e libs imports (allowed_asks e name native_only shape)
-script_looks e libs imports name true shape s first second is one two = absurd cc
-script_looks e libs imports name false shape s first second is one two =
-    omega (arith, looks_append e libs imports (typed_asks e name shape) (script name (params_of shape) ∷ []), one-mul (length (searched e libs imports)), one, two)
-
-pub typed_looks : (e : EngineLists) (libs : List ModuleTree) (imports : Imports) (name : Bytes) (native_only : Bool) (shape : CallShape) (s first : ℕ) → native_only ≡ false
-    → first ≤ s + most_looks e libs imports (typed_asks e name shape) → first ≤ s + most_looks e libs imports (allowed_asks e name native_only shape)
-typed_looks e libs imports name true shape s first is one = absurd cc
-typed_looks e libs imports name false shape s first is one =
-    omega (arith, looks_append e libs imports (typed_asks e name shape) (script name (params_of shape) ∷ []), one)
-
--- all questions of a call
-pub all_looks : (e : EngineLists) (libs : List ModuleTree) (imports : Imports) (name same later : Bytes) (token : Option OpToken) (native_only : Bool) (shape : CallShape) (s first second : ℕ) → same ≡ name → later ≡ same
-    → first ≤ s + most_looks e libs imports (allowed_asks e same native_only shape) → second ≤ first + most_looks e libs imports (native_ask later token shape ∷ []) → second ≤ s + most_looks e libs imports (asks e name token native_only shape)
-all_looks e libs imports name same later token native_only shape s first second n k one two =
-    let a : most_looks e libs imports (allowed_asks e same native_only shape) ≡ most_looks e libs imports (allowed_asks e name native_only shape) = ap (λ (t : Bytes). most_looks e libs imports (allowed_asks e t native_only shape)) n in
-    let b : most_looks e libs imports (native_ask later token shape ∷ []) ≡ most_looks e libs imports (native_ask name token shape ∷ []) = ap (λ (t : Bytes). most_looks e libs imports (native_ask t token shape ∷ [])) (k ∙ n) in
-    omega (arith, looks_append e libs imports (allowed_asks e name native_only shape) (native_ask name token shape ∷ []), a, b, one, two)
-
-pub script_alone : (e : EngineLists) (libs : List ModuleTree) (imports : Imports) (name same : Bytes) (token : Option OpToken) (native_only : Bool) (shape : CallShape) (s first : ℕ) → same ≡ name
-    → first ≤ s + most_looks e libs imports (allowed_asks e same native_only shape) → first ≤ s + most_looks e libs imports (asks e name token native_only shape)
-script_alone e libs imports name same token native_only shape s first n one =
-    let a : most_looks e libs imports (allowed_asks e same native_only shape) ≡ most_looks e libs imports (allowed_asks e name native_only shape) = ap (λ (t : Bytes). most_looks e libs imports (allowed_asks e t native_only shape)) n in
-    omega (arith, looks_append e libs imports (allowed_asks e name native_only shape) (native_ask name token shape ∷ []), a, one)
 
 -- the places counted as modules
 pub both_lists : (e : EngineLists) (libs lists globals : List ModuleTree) (imports : Imports) (s first second : ℕ) → lists ≡ libs → globals ≡ e.globals → first ≤ s + length lists → second ≤ first + length globals → second ≤ s + length (searched e libs imports)

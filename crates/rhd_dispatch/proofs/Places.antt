@@ -1,11 +1,10 @@
 -- The libraries and the global modules as they are searched, one more at a time.
-use Rattle.std.proofs.Common.{◌≡◌, ◌<◌, ◌≤◌, ℕ, ◌+◌, get_or, take, drop, List, [], ◌∷◌, ◌++◌, length, map, refl, sym, ap, ◌∙◌, arith}
-use Rattle.std.specs.Prelude.{zero, suc, Option, None, Some, reverse, option_map}
+use Rattle.std.proofs.Common.{◌≡◌, ◌<◌, ℕ, ◌+◌, get_or, take, drop, List, [], ◌∷◌, ◌++◌, length, map, refl, sym, ap, ◌∙◌, arith}
+use Rattle.std.specs.Prelude.{suc, Option, None, Some, reverse, option_map}
 use Rattle.std.specs.List.{enumerate_from}
 use Rattle.std.specs.Map.{lookup}
 use Rattle.std.specs.Option.{option_or}
 use Rattle.std.proofs.lemmas.List.{reverse-append, take_more, length-take}
-use Rattle.std.proofs.Math.Seq.{drop-cons}
 use Rattle.rhd_value.specs.Firsts.{first_of}
 use Rattle.rhd_func.specs.declared.func.RhaiFunc.{RhaiFunc}
 use Rattle.rhd_module.specs.declared.key.Key.{Key}
@@ -77,38 +76,6 @@ library_passed key libs i number m shown found n h is same has before none =
 -- what the global modules from a number on have
 abbrev pub globals_from : Key → ℕ → List ModuleTree → Option Pick
 globals_from key n globals = first_of (pick_at key) (map (place_of Global) (enumerate_from n (drop n globals)))
-
--- one global module more
-global_turn : (key : Key) (globals : List ModuleTree) (i : ℕ) (m : ModuleTree) → i < length globals → m ≡ get_or globals i m
-    → globals_from key i globals ≡ option_or (pick_at key (place_of Global (i, m))) (globals_from key (i + 1) globals)
-global_turn key globals i m h is =
-    let s : suc i ≡ i + 1 = omega arith in
-    let d : drop i globals ≡ m ∷ drop (i + 1) globals = drop-cons globals i m h ∙ (λ j. sym is j ∷ drop (s j) globals) in
-    ap (λ (ms : List ModuleTree). first_of (pick_at key) (map (place_of Global) (enumerate_from i ms))) d
-
-passed : (key : Key) (globals : List ModuleTree) (i : ℕ) (m shown : ModuleTree) (found : Option Pick) → i < length globals → m ≡ get_or globals i m → shown ≡ m → found ≡ pick_at key (place_of Global (i, shown))
-    → globals_from key i globals ≡ first_of (pick_at key) (global_places globals) → option_or found (globals_from key (i + 1) globals) ≡ first_of (pick_at key) (global_places globals)
-passed key globals i m shown found h is same has before =
-    ap (λ (o : Option Pick). option_or o (globals_from key (i + 1) globals)) (has ∙ ap (λ (x : ModuleTree). pick_at key (place_of Global (i, x))) same) ∙ sym (global_turn key globals i m h is) ∙ before
-
-pub global_found : (key : Key) (globals : List ModuleTree) (i : ℕ) (m shown : ModuleTree) (found : Option Pick) (pick : Pick) → i < length globals → m ≡ get_or globals i m → shown ≡ m → found ≡ pick_at key (place_of Global (i, shown))
-    → globals_from key i globals ≡ first_of (pick_at key) (global_places globals) → found ≡ Some pick → ◌≡◌ {A = Option Pick} (Some pick) (first_of (pick_at key) (global_places globals))
-global_found key globals i m shown found pick h is same has before some =
-    sym (ap (λ (o : Option Pick). option_or o (globals_from key (i + 1) globals)) some) ∙ passed key globals i m shown found h is same has before
-
-pub global_passed : (key : Key) (globals : List ModuleTree) (i : ℕ) (m shown : ModuleTree) (found : Option Pick) → i < length globals → m ≡ get_or globals i m → shown ≡ m → found ≡ pick_at key (place_of Global (i, shown))
-    → globals_from key i globals ≡ first_of (pick_at key) (global_places globals) → found ≡ None → globals_from key (i + 1) globals ≡ first_of (pick_at key) (global_places globals)
-global_passed key globals i m shown found h is same has before none =
-    sym (ap (λ (o : Option Pick). option_or o (globals_from key (i + 1) globals)) none) ∙ passed key globals i m shown found h is same has before
-
-dropped : (n : ℕ) (globals : List ModuleTree) → length globals ≤ n → drop n globals ≡ []
-dropped zero [] h = refl
-dropped zero (m ∷ ms) h = absurd (omega arith)
-dropped (suc n) [] h = refl
-dropped (suc n) (m ∷ ms) h = dropped n ms (omega arith)
-
-pub global_ended : (key : Key) (globals : List ModuleTree) (n : ℕ) → length globals ≤ n → globals_from key n globals ≡ first_of (pick_at key) (global_places globals) → ◌≡◌ {A = Option Pick} None (first_of (pick_at key) (global_places globals))
-global_ended key globals n h before = sym (ap (λ (ms : List ModuleTree). first_of (pick_at key) (map (place_of Global) (enumerate_from n ms))) (dropped n globals h)) ∙ before
 
 -- The libraries, and then the global modules.
 

@@ -1,5 +1,5 @@
 -- What natives say of themselves, and the built-in of two kinds.
-use Rattle.std.proofs.Common.{◌≡◌, Bool, false, List, [], ◌∷◌, length, map, get_or, refl, sym, ap, ◌∙◌, arith}
+use Rattle.std.proofs.Common.{◌≡◌, Bool, false, List, [], ◌∷◌, length, map, get_or, sym, ap, ◌∙◌, arith}
 use Rattle.std.proofs.lemmas.Option.{slice_get-map}
 use Rattle.std.specs.Option.{option_map_or}
 use Rattle.std.specs.Prelude.{Option, Some, None, slice_get, option_map}
@@ -10,7 +10,6 @@ use Rattle.rhd_names.specs.declared.token.OpToken.{OpToken}
 use Rattle.rhd_func.specs.Infos.{infos_of}
 use Rattle.rhd_func.specs.Natives.{NativeInfo, says}
 use Rattle.rhd_func.specs.declared.natives.Natives.{Natives}
-use Rattle.rhd_call.specs.declared.pick.Pick.{Pick}
 use Rattle.rhd_engine.specs.Engine.{EngineLists}
 use Rattle.rhd_engine.specs.declared.builtins.Operator.{Operator}
 use Rattle.rhd_engine.specs.Operators.{operator_eq}
@@ -35,10 +34,3 @@ builtin_two e token (x ∷ []) d c id bs n same is = absurd (omega arith)
 builtin_two e token (x ∷ y ∷ []) d c id bs n same is =
     ap (option_map (builtin_pick e token)) (is ∙ ap (lookup (operator_eq (record { token = token; left = x; right = y }))) same)
 builtin_two e token (x ∷ y ∷ z ∷ more) d c id bs n same is = absurd (omega arith)
-
-pub builtin_other : (e : EngineLists) (token : Option OpToken) (kinds : List TypeTag) → (length kinds ≡ 2 → ⊥) → ◌≡◌ {A = Option Pick} None (builtin e token kinds)
-builtin_other e None kinds n = refl
-builtin_other e (Some token) [] n = refl
-builtin_other e (Some token) (x ∷ []) n = refl
-builtin_other e (Some token) (x ∷ y ∷ []) n = absurd (n refl)
-builtin_other e (Some token) (x ∷ y ∷ z ∷ more) n = refl

@@ -1,11 +1,10 @@
 -- The natives that modules name stay held, and what a module has is held.
-use Rattle.std.proofs.Common.{◌≡◌, ◌<◌, ℕ, Bool, true, false, cond, ◌&&◌, List, [], ◌∷◌, ◌++◌, length, map, refl, sym, ap, ◌∙◌}
+use Rattle.std.proofs.Common.{◌≡◌, ℕ, Bool, true, false, cond, ◌&&◌, List, [], ◌∷◌, length, map, refl, sym, ap, ◌∙◌}
 use Rattle.std.specs.Prelude.{zero, suc, Some, Result, Ok, Err, OnOk, OnErr, slice_get, slice_set, if◌then◌else◌}
 use Rattle.std.specs.List.{list_all}
 use Rattle.std.specs.Map.{lookup}
 use Rattle.std.proofs.lemmas.Option.{slice_get_within}
-use Rattle.std.proofs.lemmas.Bool.{ltb-true, lt-ltb}
-use Rattle.std.proofs.lemmas.List.Folds.{list_all-append}
+use Rattle.std.proofs.lemmas.Bool.{lt-ltb}
 use Rattle.rhd_value.specs.declared.tag.FnId.{FnId}
 use Rattle.rhd_func.specs.declared.func.RhaiFunc.{RhaiFunc}
 use Rattle.rhd_func.specs.Funcs.{native_of}
@@ -16,7 +15,6 @@ use Rattle.rhd_module.specs.declared.key.Key.{Key}
 use Rattle.rhd_module.specs.declared.declaration.Declaration.{Declaration}
 use Rattle.rhd_module.specs.Keys.{key_eq}
 use Rattle.rhd_module.specs.Tree.{ModuleTree, Pairs}
-use Rattle.rhd_module.specs.Shown.{own_decl}
 use Rattle.rhd_module.specs.Registered.{put, with_decl, native_key, native_decl, pure_by_name}
 use Rattle.rhd_module.specs.declared.fault.DeclFault.{DeclFault}
 use Rattle.rhd_module.specs.declared.fault.DeclFault.TheVariants.{UnknownNumber, OutOfMemory}
@@ -62,17 +60,11 @@ stays_either (Err e) n k d old new ok err h all = ap (names_held n) err ∙ all
 pub holds_number : {N : Type 0} (items : List N) (func : RhaiFunc) (id : FnId) (native : N) → native_of func ≡ Some id → slice_get items id.0 ≡ Some native → func_held (length items) func ≡ true
 holds_number items func id native e some = ap (is_below (length items)) e ∙ lt-ltb id.0 (length items) (slice_get_within items id.0 native some)
 
-pub number_held : (n : ℕ) (func : RhaiFunc) (id : FnId) → native_of func ≡ Some id → func_held n func ≡ true → id.0 < n
-number_held n func id e h = ltb-true id.0 n (sym (ap (is_below n) e) ∙ h)
-
 pub on_err : {T E : Type 0} (r : Result T E) (P : Type 0) → P → OnErr r P
 on_err (Ok x) P p = tt
 on_err (Err e) P p = p
 
 -- Lists of modules.
-
-pub all_push : (n : ℕ) (ms : List ModuleTree) (m : ModuleTree) → all_held n ms ≡ true → names_held n m ≡ true → all_held n (ms ++ m ∷ []) ≡ true
-all_push n ms m all h = list_all-append (names_held n) ms (m ∷ []) ∙ both (all_held n ms) (names_held n m && true) all (both (names_held n m) true h refl)
 
 pub all_at : (n : ℕ) (ms : List ModuleTree) (i : ℕ) (m : ModuleTree) → all_held n ms ≡ true → slice_get ms i ≡ Some m → names_held n m ≡ true
 all_at n [] i m all e = absurd cc
@@ -127,7 +119,3 @@ found_step n key p ps d false all ih e = ih (parts (is_held n p.1) (pairs_held n
 pub found_held : (n : ℕ) (key : Key) (ps : Pairs) (d : Declaration) → pairs_held n ps ≡ true → lookup (key_eq key) ps ≡ Some d → is_held n d ≡ true
 found_held n key [] d all e = absurd cc
 found_held n key (p ∷ ps) d all e = found_step n key p ps d (key_eq key p.0) all (found_held n key ps d) e
-
-pub there_held : (n : ℕ) (m : ModuleTree) (key : Key) (d : Declaration) → names_held n m ≡ true → own_decl m key ≡ Some d → func_held n d.func ≡ true
-unfolding own_decl
-there_held n m key d all e = found_held n key m.own.eager d all e

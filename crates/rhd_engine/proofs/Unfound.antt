@@ -53,13 +53,6 @@ is_set_property pos property types a b x y text are p q e =
     ap (λ (t : Bytes). ErrorDotExpr t pos) (e ∙ (λ i. codes "No writable property '" ++ (property ++ (codes "' - a setter is not registered for type '" ++ (p i ++ (codes "' to handle '" ++ (q i ++ codes "'")))))) ∙ simp append_assoc)
     ∙ ap (set_property pos property) (sym are)
 
--- the faults of another number
-pub other_get_index : (pos : Position) (types : List Bytes) → (length types ≡ 2 → ⊥) → wrong_number pos types (codes "indexer") 2 ≡ get_index pos types
-other_get_index pos [] n = refl
-other_get_index pos (p ∷ []) n = refl
-other_get_index pos (p ∷ q ∷ []) n = absurd (n refl)
-other_get_index pos (p ∷ q ∷ r ∷ types) n = refl
-
 pub other_set_index : (pos : Position) (types : List Bytes) → (length types ≡ 3 → ⊥) → wrong_number pos types (codes "index setter") 3 ≡ set_index pos types
 other_set_index pos [] n = refl
 other_set_index pos (p ∷ []) n = refl

@@ -8,7 +8,7 @@ use Rattle.rhd_dispatch.proofs.Looks.{twice_step}
 
 -- one that no place may change
 one_alone : (n k : ℕ) → min n k ≡ 0 → 1 ≡ 2 ^ min n k
-one_alone n k none = ap (λ (e : ℕ). 2 ^ e) (omega (arith, none))
+one_alone n k none = let z : 0 ≡ min n k = omega (arith, none) in ap (λ (e : ℕ). 2 ^ e) z
 
 doubled : (n k e : ℕ) → e ≡ min (suc n) (suc k) → 2 ^ min n k + 2 ^ min n k ≡ 2 ^ e
 doubled n k e is =

@@ -1,5 +1,5 @@
 -- A key is found in the first module of a frame that declares it.
-use Rattle.std.proofs.Common.{◌≡◌, ℕ, ◌+◌, ◌<◌, Bool, true, false, List, [], ◌∷◌, ◌++◌, refl, sym, ap, ◌∙◌, ◌⊎◌, inl, inr, arith}
+use Rattle.std.proofs.Common.{◌≡◌, ℕ, ◌+◌, ◌<◌, List, [], ◌∷◌, refl, sym, ap, ◌∙◌, ◌⊎◌, inl, inr, arith}
 use Rattle.std.specs.Prelude.{zero, suc, slice_get, reverse, Option, Some, None, option_map}
 use Rattle.std.specs.List.{enumerate_from}
 use Rattle.std.specs.Option.{option_or}
@@ -8,7 +8,7 @@ use Rattle.rhd_value.specs.Firsts.{first_of}
 use Rattle.rhd_module.specs.declared.key.Key.{Key}
 use Rattle.rhd_module.specs.declared.declaration.Declaration.{Declaration}
 use Rattle.rhd_module.specs.FirstDeclarations.{IsFirstWith}
-use Rattle.rhd_module.proofs.FirstFound.{found_first, first_found}
+use Rattle.rhd_module.proofs.FirstFound.{found_first, first_found as key_found}
 use Rattle.rhd_module.specs.Keys.{key_eq, key_eq-Decides}
 use Rattle.rhd_module.specs.Shown.{own_decl}
 use Rattle.rhd_module.specs.Tree.{ModuleTree}
@@ -28,7 +28,7 @@ own_first m key d h = found_first key_eq key_eq-Decides key d m.own.eager h
 
 pub first_own : (m : ModuleTree) (key : Key) (d : Declaration) → IsFirstWith key d m.own.eager → own_decl m key ≡ Some d
 unfolding own_decl
-first_own m key d r = first_found key_eq key_eq-Decides key d m.own.eager r
+first_own m key d r = key_found key_eq key_eq-Decides key d m.own.eager r
 
 -- The first and the last of a list with numbers.
 

@@ -70,10 +70,6 @@ puts_frame w old new f inner outcome suspended frame asked is s o e g = subst (�
 pub puts_node : (w : World) (old : List StackFrame) (f : Frame) (outcome : Outcome) (node : CallNode) → outcome ≡ Finished node → Put w old f outcome (Answered node) old f
 puts_node w old f outcome node is = subst (λ (x : Outcome). Put w old f x (Answered node) old f) (sym is) (put_node refl refl)
 
--- what is above a frame stays above it where only the level changes
-pub above_at : (base f g : Frame) (n : ℕ) → g ≡ record f { level = n } → IsAbove base f → IsAbove base g
-above_at base f g n e h = ap (given_back (outer_of base)) e ∙ h
-
 -- what is above a frame stays above it where something is given back of it
 pub back_above : (base f g : Frame) (outer : Outer) → g ≡ given_back outer f → IsAbove base f → IsAbove base g
 back_above base f g outer e h = ap (given_back (outer_of base)) e ∙ h

@@ -5,7 +5,7 @@ use Rattle.std.proofs.lemmas.Bool.{ne_eqb, eqb-true}
 use Rattle.std.proofs.lemmas.Bool.Decides.{eqb_tells}
 use Rattle.rhd_text.specs.Bytes.{is_blank, is_word_byte, begins}
 use Rattle.rhd_text.specs.Spans.{Span, ◌▸◌, blanks, bracket, run}
-use Rattle.rhd_text.specs.Reading.{Parse, skip_blanks, is_end, comes, after_bracket}
+use Rattle.rhd_text.specs.Reading.{Parse, skip_blanks, comes, after_bracket}
 use Rattle.rhd_text.proofs.Agrees.{Agrees, and_parts}
 use Rattle.rhd_text.proofs.WordLaws.{Stops, skipped, skips_to, blanks_shrink, head_stop}
 
@@ -68,7 +68,3 @@ spaced A here written agrees stops = record {
   sound = λ x bytes rest e. (skip_blanks bytes, skipped bytes, agrees.sound x (skip_blanks bytes) rest e);
   complete = λ x bytes rest b. ap here (skips_to bytes b.0 b.1 (stops x b.0 rest b.2)) ∙ agrees.complete x b.0 rest b.2;
 }
-
--- where something stands after any blanks, the line has not ended
-pub spaced_begun : (bytes middle : List ℕ) → blanks bytes middle → Stops is_blank middle → 0 < length middle → is_end bytes ≡ false
-spaced_begun bytes middle b s some = let e = skips_to bytes middle b s in ne_eqb (length (skip_blanks bytes)) 0 (λ q. omega (arith, q, some, ap length e))

@@ -1,5 +1,5 @@
 -- In a line in UTF-8 every text is UTF-8.
-use Rattle.std.proofs.Common.{◌≡◌, ℕ, ◌<◌, Bool, true, false, cond, eqb, ◌||◌, List, [], ◌∷◌, ◌++◌, length, drop, get_or, Option, Some, None, refl, sym, ap, subst, arith, append_assoc, length-append, inl, inr}
+use Rattle.std.proofs.Common.{◌≡◌, ℕ, ◌<◌, Bool, true, false, cond, eqb, ◌||◌, List, [], ◌∷◌, ◌++◌, length, get_or, Option, Some, None, refl, sym, subst, arith, append_assoc, length-append, inl, inr}
 use Rattle.std.specs.Str.{IsUtf8, is_utf8}
 use Rattle.std.proofs.Math.Seq.{take-append_seam, drop-append_seam}
 use Rattle.std.proofs.lemmas.List.{append-nil}
@@ -12,9 +12,6 @@ use Rattle.rhd_text.proofs.Agrees.{same_some}
 use Rattle.rhd_text.proofs.NumberLaws.{ascii-cons, is_text}
 
 -- ---- cutting at an ASCII byte
-
-seam : (p : List ℕ) (b : ℕ) (m : List ℕ) → get_or (drop (length p) (p ++ b ∷ m)) 0 0 ≡ b
-seam p b m = ap (λ (x : List ℕ). get_or x 0 0) (drop-append_seam p (b ∷ m))
 
 at_seam : (p : List ℕ) (b : ℕ) (m : List ℕ) → get_or (p ++ b ∷ m) (length p) 0 ≡ b
 at_seam [] b m = refl

@@ -26,15 +26,6 @@ pub prefix_all : (p : ℕ → Bool) (xs : List ℕ) → list_all p (take (prefix
 prefix_all p [] = refl
 prefix_all p (x ∷ xs) = head_all p x xs (p x) refl (prefix_all p xs)
 
-head_stops : (p : ℕ → Bool) (x : ℕ) (xs : List ℕ) (b : Bool) → p x ≡ b → Stops p (drop (prefix_len p xs) xs) → Stops p (drop (prefix_len p (x ∷ xs)) (x ∷ xs))
-unfolding Stops
-head_stops p x xs true e ih = let k : 1 + prefix_len p xs ≡ suc (prefix_len p xs) = omega arith in rw (e, k) ih
-head_stops p x xs false e ih = rw e e
-
-pub prefix_stops : (p : ℕ → Bool) (xs : List ℕ) → Stops p (drop (prefix_len p xs) xs)
-prefix_stops p [] = stops_nil p
-prefix_stops p (x ∷ xs) = head_stops p x xs (p x) refl (prefix_stops p xs)
-
 pub rejoined : (n : ℕ) (xs : List ℕ) → xs ≡ take n xs ++ drop n xs
 rejoined zero xs = refl
 rejoined (suc n) [] = refl

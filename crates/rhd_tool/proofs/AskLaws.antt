@@ -1,8 +1,8 @@
 -- How often the native of number 13 asks, and which calls a body asks.
-use Rattle.std.proofs.Common.{◌≡◌, ℕ, zero, suc, ◌+◌, ◌<◌, ◌≤◌, ℤ, Bool, true, false, List, [], ◌∷◌, length, drop, refl, sym, ap, ◌∙◌, subst, arith}
-use Rattle.std.specs.Prelude.{pos, ◌-ℤ◌, int_le, int_lt, nat_le, ◌&&◌, is_some, slice_get, Option, None, Some, Result, Ok, Err, if◌then◌else◌, unwrap_or}
+use Rattle.std.proofs.Common.{◌≡◌, ℕ, zero, suc, ◌+◌, ◌<◌, Bool, true, false, List, [], ◌∷◌, length, refl, sym, ap, ◌∙◌, subst, arith}
+use Rattle.std.specs.Prelude.{pos, ◌-ℤ◌, int_le, int_lt, nat_le, ◌&&◌, slice_get, Option, None, Some, Ok, if◌then◌else◌}
 use Rattle.std.proofs.lemmas.Option.{slice_get_within}
-use Rattle.rhd_value.specs.Tree.{Tree, Bytes, unit, text, integer, array, items_of, list_of}
+use Rattle.rhd_value.specs.Tree.{Tree, Bytes, unit, text, array, items_of}
 use Rattle.rhd_value.specs.Kinds.{plain}
 use Rattle.rhd_value.specs.declared.tag.Marks.{Marks}
 use Rattle.rhd_func.specs.declared.func.ScriptFuncDef.{ScriptFuncDef}
@@ -11,11 +11,10 @@ use Rattle.rhd_func.specs.declared.request.NativeCallContext.{NativeCallContext}
 use Rattle.rhd_func.specs.declared.request.NativeStep.{NativeStep}
 use Rattle.rhd_func.specs.declared.request.NativeStep.TheVariants.{Done}
 use Rattle.rhd_text.specs.declared.body.BodyPlan.{BodyPlan}
-use Rattle.rhd_text.specs.declared.body.BodyEnd.{BodyEnd}
 use Rattle.rhd_text.specs.declared.body.CallPlan.{CallPlan}
 use Rattle.rhd_tool.specs.Asks.{AsksTimes, AsksInOrder, name_and_times}
 use Rattle.rhd_tool.specs.Kit.{kit_info, kit_does, kit_takes, kit_step, kit_next, arguments, call_of, asks_with_left, asks_often, with_left, goes_on}
-use Rattle.rhd_tool.specs.PlanBodies.{Scope, step_after, asks_or_ends, with_count, count_in, plan_of, body_step, body_next, next_after}
+use Rattle.rhd_tool.specs.PlanBodies.{step_after, with_count, body_step, body_next}
 use Rattle.rhd_tool.proofs.Arrays.{items_list}
 
 -- The native.

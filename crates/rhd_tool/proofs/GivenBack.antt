@@ -1,6 +1,6 @@
 -- Each step of the kit's natives and of the bodies of a text gives a first argument back exactly where one was given.
 use Rattle.std.proofs.Common.{◌≡◌, ℕ, ℤ, Bool, true, false, List, refl, IfOk, subst, sym}
-use Rattle.std.specs.Prelude.{◌==◌, ◌&&◌, not, pos, ◌-ℤ◌, int_lt, Option, None, Some, is_some, Result, Ok, Err, if◌then◌else◌, length, codes}
+use Rattle.std.specs.Prelude.{◌==◌, ◌&&◌, not, pos, ◌-ℤ◌, int_lt, Option, None, Some, Result, Ok, Err, if◌then◌else◌, length, codes}
 use Rattle.std.specs.Option.{option_map}
 use Rattle.rhd_value.specs.Tree.{Tree, unit}
 use Rattle.rhd_value.specs.Kinds.{plain}

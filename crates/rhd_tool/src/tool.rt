@@ -1,6 +1,6 @@
 //! The program's one call.
 
-ghost use Rattle.std.specs.Prelude.{ℕ, Some, ◌^◌, ◌≡◌, ◌↔◌, ◌⊎◌, ◌<◌, ◌≤◌, true, List, [], IfOk, IfErr, length, take, IsTrue};
+ghost use Rattle.std.specs.Prelude.{ℕ, Some, ◌^◌, ◌≡◌, ◌≢◌, ◌↔◌, ◌⊎◌, ◌<◌, ◌≤◌, true, List, [], IfOk, IfErr, length, take, IsTrue};
 ghost use Rattle.std.specs.Io.KnownBytes.{Appends};
 ghost use Rattle.std.specs.Str.Lines.{lines};
 ghost use Rattle.rhd_func.specs.Infos.{infos_of};

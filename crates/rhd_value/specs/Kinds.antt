@@ -34,11 +34,6 @@ type_name tags.Dynamic = codes "Dynamic"
 type_name tags.Str = codes "&str"
 type_name tags.StdString = codes "String"
 
--- the text of a type in keys and parameter lists: a text's own is another there
-abbrev pub type_text : TypeTag → Bytes
-type_text tags.Text = codes "ImmutableString"
-type_text t = type_name t
-
 -- the type that a parameter's type stands for in a key
 abbrev pub map_type : Bool → TypeTag → TypeTag
 map_type true tags.Str = tags.Text
