@@ -1,2 +1,4 @@
 pub mod FirstFound
 pub mod PutIn
+pub mod Mixing
+pub mod Paths

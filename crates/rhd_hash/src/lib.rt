@@ -1,8 +1,14 @@
-//! Keys of functions, and the count of look-ups.
+//! Keys of functions, their hashes, and the count of look-ups.
 #![tactic(auto)]
 
+mod hashing;
 mod key;
+mod mixer;
 mod steps;
 
+pub use hashing::{
+    calc_fn_hash, calc_fn_hash_full, calc_native_fn_hash, calc_typed_method_hash, calc_var_hash,
+};
 pub use key::Key;
+pub use mixer::{Mixer, Seeds, get_hasher};
 pub use steps::Steps;
