@@ -2,3 +2,4 @@ pub mod FirstFound
 pub mod PutIn
 pub mod Mixing
 pub mod Paths
+pub mod Filters

@@ -2,6 +2,9 @@ pub mod Keys
 pub mod Matching
 pub mod Mix
 pub mod Parts
+pub mod Straight
+pub mod Filter
+pub mod CallHashes
 pub mod PutIn
 pub mod FirstPairs
 pub mod Steps
