@@ -3,3 +3,4 @@ pub mod PutIn
 pub mod Mixing
 pub mod Paths
 pub mod Filters
+pub mod Tables
