@@ -8,7 +8,7 @@ use Rattle.rhd_value.specs.Firsts.{first_of}
 use Rattle.rhd_value.specs.Same.{tag_eq, tag_eq-Decides}
 use Rattle.rhd_value.specs.declared.tag.TypeTag.{TypeTag}
 use Rattle.rhd_value.specs.declared.tag.TypeTag.TheVariants.{Dynamic}
-use Rattle.rhd_module.specs.Matching.{types_match}
+use Rattle.rhd_hash.specs.Matching.{types_match}
 use Rattle.rhd_call.specs.declared.pick.Pick.{Pick}
 use Rattle.rhd_dispatch.specs.Patterns.{patterns_to}
 use Rattle.rhd_dispatch.specs.Walks.{first_match}

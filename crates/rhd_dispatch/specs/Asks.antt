@@ -14,7 +14,7 @@ use Rattle.rhd_func.specs.declared.func.RhaiFunc.TheVariants as funcs
 use Rattle.rhd_func.specs.declared.request.CallShape.{CallShape}
 use Rattle.rhd_func.specs.declared.request.CallShape.TheVariants.{Plain, ByRef, Method}
 use Rattle.rhd_func.specs.Shapes.{all_args}
-use Rattle.rhd_module.specs.declared.key.Key.TheVariants.{Script, Typed, Native}
+use Rattle.rhd_hash.specs.declared.key.Key.TheVariants.{Script, Typed, Native}
 use Rattle.rhd_module.specs.Tree.{ModuleTree}
 use Rattle.rhd_call.specs.declared.pick.Layer.TheVariants.{Builtin}
 use Rattle.rhd_call.specs.declared.pick.Pick.{Pick}

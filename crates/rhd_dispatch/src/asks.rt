@@ -2,7 +2,7 @@
 
 ghost use Rattle.std.specs.Prelude.{◌≡◌, ◌≤◌, ◌+◌, ◌*◌, [], ◌∷◌, true, IfOk, IfSome, None, length};
 ghost use Rattle.rhd_value.specs.Firsts.{first_of};
-ghost use Rattle.rhd_module.specs.declared.key.Key.TheVariants.{Script};
+ghost use Rattle.rhd_hash.specs.declared.key.Key.TheVariants.{Script};
 ghost use Rattle.rhd_engine.specs.Held.{func_held, all_held};
 ghost use Rattle.rhd_engine.specs.Of.{lists_of};
 ghost use Rattle.rhd_dispatch.specs.Asks.{looked, native, native_ask, typed_asks, allowed_asks, params_of, native_found, asks, pick_unqualified};
@@ -18,7 +18,7 @@ use crate::search::find;
 use rhd_call::Pick;
 use rhd_engine::{Engine, GlobalRuntimeState};
 use rhd_func::CallShape;
-use rhd_module::{Key, Steps};
+use rhd_hash::{Key, Steps};
 use rhd_names::OpToken;
 use rhd_value::{OutOfMemory, Text, TypeTag, Values};
 use std::alloc::Global;

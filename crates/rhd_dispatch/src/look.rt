@@ -3,7 +3,8 @@
 ghost use Rattle.std.specs.Prelude.{◌≡◌, ◌≤◌, ◌+◌, ℕ, false, true, List, Option, None, IfOk, length};
 ghost use Rattle.std.specs.List.{list_any};
 ghost use Rattle.rhd_value.specs.declared.tag.TypeTag.{TypeTag};
-ghost use Rattle.rhd_module.specs.Matching.{types_match, may_match as may_have};
+ghost use Rattle.rhd_hash.specs.Matching.{types_match};
+ghost use Rattle.rhd_module.specs.Matching.{may_match as may_have};
 ghost use Rattle.rhd_call.specs.declared.pick.Pick.{Pick};
 ghost use Rattle.rhd_dispatch.specs.Walks.{native_in};
 
@@ -11,7 +12,8 @@ use crate::keys::native_key_of;
 use crate::search::find;
 use rhd_call::Pick;
 use rhd_engine::{Engine, GlobalRuntimeState};
-use rhd_module::{SharedModule, Steps};
+use rhd_hash::Steps;
+use rhd_module::SharedModule;
 use rhd_value::{OutOfMemory, Text, TypeTag, Types};
 use std::alloc::Global;
 

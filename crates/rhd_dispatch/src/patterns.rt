@@ -6,7 +6,7 @@ ghost use Rattle.rhd_dispatch.specs.Walks.{first_match};
 
 use crate::look::Look;
 use rhd_call::Pick;
-use rhd_module::Steps;
+use rhd_hash::Steps;
 use rhd_value::{OutOfMemory, TypeTag};
 use std::alloc::Global;
 

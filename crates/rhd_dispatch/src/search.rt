@@ -9,7 +9,8 @@ ghost use Rattle.rhd_dispatch.specs.Walks.{library_places, global_places};
 
 use rhd_call::{Layer, Pick};
 use rhd_engine::{Engine, GlobalRuntimeState};
-use rhd_module::{Key, Module, SharedModule, Steps};
+use rhd_hash::{Key, Steps};
+use rhd_module::{Module, SharedModule};
 use rhd_value::OutOfMemory;
 use std::alloc::Global;
 

@@ -8,7 +8,7 @@ use Rattle.std.proofs.lemmas.Bool.Decides.{Decides-and, Decides-like}
 use Rattle.rhd_value.specs.Same.{tag_argument, tag_eq, tag_eq-Decides}
 use Rattle.rhd_value.specs.declared.tag.FnId.{FnId}
 use Rattle.rhd_names.specs.Tokens.{token_text, token_eq, token_eq-Decides}
-use Rattle.rhd_module.specs.Registered.{put_in}
+use Rattle.rhd_hash.specs.PutIn.{put_in}
 use Rattle.rhd_engine.specs.declared.builtins.Operator.{Operator}
 
 abbrev pub operator_eq : Operator → Operator → Bool

@@ -3,7 +3,7 @@
 ghost use Rattle.std.specs.Prelude.{◌≡◌, ◌≢◌, List, Some};
 ghost use Rattle.std.specs.Map.{lookup};
 ghost use Rattle.rhd_value.specs.declared.tag.FnId.{FnId};
-ghost use Rattle.rhd_module.specs.FirstDeclarations.{IsPut};
+ghost use Rattle.rhd_hash.specs.FirstPairs.{IsPut};
 ghost use Rattle.rhd_engine.specs.declared.builtins.Operator.{Operator};
 ghost use Rattle.rhd_engine.specs.Operators.{operator_eq, put_builtin};
 

@@ -16,7 +16,7 @@ use Rattle.rhd_session.specs.World.{World, Objects, Moment}
 use Rattle.rhd_dispatch.specs.Asks.{looked, native, native_found, builtin}
 use Rattle.rhd_dispatch.specs.Patterns.{patterns}
 use Rattle.rhd_dispatch.specs.Searched.{found, pick_at, searched}
-use Rattle.rhd_module.specs.declared.key.Key.{Key}
+use Rattle.rhd_hash.specs.declared.key.Key.{Key}
 use Rattle.rhd_value.specs.declared.tag.TypeTag.{TypeTag}
 use Rattle.rhd_names.specs.declared.token.OpToken.{OpToken}
 use Rattle.rhd_session.specs.Plans.{Plan, plan_of}

@@ -5,11 +5,11 @@ use Rattle.std.specs.List.{enumerate_from}
 use Rattle.std.specs.Option.{option_or}
 use Rattle.std.proofs.lemmas.List.{reverse-append, reverse-reverse}
 use Rattle.rhd_value.specs.Firsts.{first_of}
-use Rattle.rhd_module.specs.declared.key.Key.{Key}
+use Rattle.rhd_hash.specs.declared.key.Key.{Key}
 use Rattle.rhd_module.specs.declared.declaration.Declaration.{Declaration}
-use Rattle.rhd_module.specs.FirstDeclarations.{IsFirstWith}
-use Rattle.rhd_module.proofs.FirstFound.{found_first, first_found as key_found}
-use Rattle.rhd_module.specs.Keys.{key_eq, key_eq-Decides}
+use Rattle.rhd_hash.specs.FirstPairs.{IsFirstWith}
+use Rattle.rhd_hash.proofs.FirstFound.{found_first, first_found as key_found}
+use Rattle.rhd_hash.specs.Keys.{key_eq, key_eq-Decides}
 use Rattle.rhd_module.specs.Shown.{own_decl}
 use Rattle.rhd_module.specs.Tree.{ModuleTree}
 use Rattle.rhd_call.specs.declared.pick.Layer.{Layer}

@@ -6,7 +6,7 @@ use Rattle.rhd_value.specs.declared.tag.TypeTag.{TypeTag}
 use Rattle.rhd_names.specs.declared.token.OpToken.{OpToken}
 use Rattle.rhd_func.specs.Funcs.{is_pure, is_script}
 use Rattle.rhd_func.specs.declared.request.CallRequest.{CallRequest}
-use Rattle.rhd_module.specs.declared.key.Key.{Key}
+use Rattle.rhd_hash.specs.declared.key.Key.{Key}
 use Rattle.rhd_engine.specs.Engine.{EngineLists, Frame}
 use Rattle.rhd_call.specs.declared.pick.Pick.{Pick}
 use Rattle.rhd_dispatch.specs.Searched.{searched, pick_at}

@@ -11,10 +11,10 @@ use Rattle.rhd_names.specs.declared.token.OpToken.{OpToken}
 use Rattle.rhd_func.specs.declared.request.CallRequest.{CallRequest}
 use Rattle.rhd_func.specs.declared.request.CallShape.TheVariants.{Method}
 use Rattle.rhd_func.specs.Shapes.{all_args}
-use Rattle.rhd_module.specs.declared.key.Key.{Key}
-use Rattle.rhd_module.specs.declared.key.Key.TheVariants.{Script, Typed, Native}
+use Rattle.rhd_hash.specs.declared.key.Key.{Key}
+use Rattle.rhd_hash.specs.declared.key.Key.TheVariants.{Script, Typed, Native}
 use Rattle.rhd_module.specs.declared.declaration.Declaration.{Declaration}
-use Rattle.rhd_module.specs.FirstDeclarations.{IsFirstWith}
+use Rattle.rhd_hash.specs.FirstPairs.{IsFirstWith}
 use Rattle.rhd_module.specs.Tree.{ModuleTree}
 use Rattle.rhd_dispatch.specs.Asks.{params_of, builtin_pick}
 use Rattle.rhd_engine.specs.Display.{display}

@@ -14,7 +14,7 @@ ghost use Rattle.rhd_func.specs.declared.request.CallShape.{CallShape};
 ghost use Rattle.rhd_func.specs.declared.request.CallShape.TheVariants.{ByRef, Method};
 ghost use Rattle.rhd_func.specs.Funcs.{is_method, is_script};
 ghost use Rattle.rhd_func.specs.Shapes.{given, pos_of};
-ghost use Rattle.rhd_module.specs.declared.key.Key.{Key};
+ghost use Rattle.rhd_hash.specs.declared.key.Key.{Key};
 ghost use Rattle.rhd_call.specs.declared.node.CallNode.{CallNode};
 ghost use Rattle.rhd_call.specs.declared.node.Whose.TheVariants.{Call, Called};
 ghost use Rattle.rhd_call.specs.declared.node.Whose.TheVariants as owners;

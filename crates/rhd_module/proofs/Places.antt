@@ -7,14 +7,14 @@ use Rattle.std.proofs.lemmas.Slice.Eq.{bytes_eq-Decides}
 use Rattle.rhd_value.specs.Tree.{Bytes}
 use Rattle.rhd_value.specs.Same.{text_eq}
 use Rattle.rhd_value.specs.declared.tag.TypeTag.{TypeTag}
-use Rattle.rhd_module.specs.declared.key.Key.{Key}
-use Rattle.rhd_module.specs.declared.key.Key.TheVariants.{Script, Typed, Native}
+use Rattle.rhd_hash.specs.declared.key.Key.{Key}
+use Rattle.rhd_hash.specs.declared.key.Key.TheVariants.{Script, Typed, Native}
 use Rattle.rhd_module.specs.declared.declaration.Declaration.{Declaration}
 use Rattle.rhd_module.specs.declared.native_index.NativeIndex.{NativeIndex}
-use Rattle.rhd_module.specs.Keys.{key_eq}
+use Rattle.rhd_hash.specs.Keys.{key_eq}
 use Rattle.rhd_module.specs.Tree.{Pairs}
 use Rattle.rhd_module.specs.Registered.{put}
-use Rattle.rhd_module.specs.Matching.{types_match, key_matches}
+use Rattle.rhd_hash.specs.Matching.{types_match, key_matches}
 use Rattle.rhd_module.specs.NativeIndex.{is_native_of, places_from, place_at, noted, IsIndex}
 
 behind : (own : Bool) (n : ℕ) (xs ys : List ℕ) → cond own (n ∷ (xs ++ ys)) (xs ++ ys) ≡ cond own (n ∷ xs) xs ++ ys

@@ -1,22 +1,16 @@
 -- Where the natives of a name stand among the declarations of a module.
-use Rattle.std.specs.Prelude.{◌≡◌, ℕ, ◌+◌, Bool, false, List, [], ◌∷◌, slice_get, Option, None, Some, is_none, if◌then◌else◌}
+use Rattle.std.specs.Prelude.{◌≡◌, ℕ, ◌+◌, Bool, false, List, [], ◌∷◌, slice_get, if◌then◌else◌}
 use Rattle.std.specs.Option.{option_map_or}
 use Rattle.std.specs.HashMap.{get_by_text}
 use Rattle.rhd_value.specs.Tree.{Bytes}
 use Rattle.rhd_value.specs.Same.{text_eq}
 use Rattle.rhd_value.specs.declared.tag.TypeTag.{TypeTag}
-use Rattle.rhd_module.specs.declared.key.Key.{Key}
-use Rattle.rhd_module.specs.declared.key.Key.TheVariants.{Script, Typed, Native}
+use Rattle.rhd_hash.specs.declared.key.Key.{Key}
+use Rattle.rhd_hash.specs.Keys.{native_name}
 use Rattle.rhd_module.specs.declared.native_index.NativeIndex.{NativeIndex}
 use Rattle.rhd_module.specs.Tree.{Pairs, ModuleTree}
 use Rattle.rhd_module.specs.Shown.{shown}
-use Rattle.rhd_module.specs.Matching.{key_matches}
-
--- the name of a native's key without a path
-abbrev pub native_name : Key → Option Bytes
-native_name (Script path name params) = None
-native_name (Typed path name params this_type) = None
-native_name (Native path name types) = if is_none path then Some name else None
+use Rattle.rhd_hash.specs.Matching.{key_matches}
 
 -- a native's key of this name, without a path
 abbrev pub is_native_of : Bytes → Key → Bool

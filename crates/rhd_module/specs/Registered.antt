@@ -13,17 +13,14 @@ use Rattle.rhd_func.specs.declared.access.FnNamespace.TheVariants.{Internal, Glo
 use Rattle.rhd_func.specs.declared.func.ScriptFuncDef.{ScriptFuncDef}
 use Rattle.rhd_func.specs.declared.func.RhaiFunc.{RhaiFunc}
 use Rattle.rhd_func.specs.declared.func.RhaiFunc.TheVariants.{Pure, Method, Script}
-use Rattle.rhd_module.specs.declared.key.Key.{Key}
-use Rattle.rhd_module.specs.declared.key.Key.TheVariants as keys
+use Rattle.rhd_hash.specs.declared.key.Key.{Key}
+use Rattle.rhd_hash.specs.declared.key.Key.TheVariants as keys
 use Rattle.rhd_module.specs.declared.declaration.Declaration.{Declaration}
-use Rattle.rhd_module.specs.Keys.{key_eq}
+use Rattle.rhd_hash.specs.Keys.{key_eq}
+use Rattle.rhd_hash.specs.PutIn.{put_in}
 use Rattle.rhd_module.specs.Tree.{ModuleTree, Pairs}
 
--- an equal key keeps its place and gets the new value; else the pair goes last
-abbrev pub put_in : {K V : Type 0} → (K → K → Bool) → K → V → List (K × V) → List (K × V)
-put_in eq k v [] = (k, v) ∷ []
-put_in eq k v (p ∷ ps) = if eq k p.0 then (p.0, v) ∷ ps else p ∷ put_in eq k v ps
-
+-- an equal key keeps its place and gets the new declaration; else the declaration goes last
 abbrev pub put : Key → Declaration → Pairs → Pairs
 put k d ps = put_in key_eq k d ps
 

@@ -1,6 +1,6 @@
 -- A module as plain data.
 use Rattle.std.specs.Prelude.{List, []}
-use Rattle.rhd_module.specs.declared.key.Key.{Key}
+use Rattle.rhd_hash.specs.declared.key.Key.{Key}
 use Rattle.rhd_module.specs.declared.declaration.Declaration.{Declaration}
 
 -- declarations under their keys

@@ -1,12 +1,12 @@
 //! Laws of modules.
 
 ghost use Rattle.std.specs.Prelude.{◌≡◌, ◌≢◌, ◌↔◌, Some, None};
-ghost use Rattle.rhd_module.specs.declared.key.Key.{Key};
+ghost use Rattle.rhd_hash.specs.declared.key.Key.{Key};
 ghost use Rattle.rhd_module.specs.declared.declaration.Declaration.{Declaration};
 ghost use Rattle.rhd_module.specs.Tree.{ModuleTree};
 ghost use Rattle.rhd_module.specs.Shown.{own_decl};
 ghost use Rattle.rhd_module.specs.Registered.{with_decl};
-ghost use Rattle.rhd_module.specs.FirstDeclarations.{NoneWith, IsFirstWith, IsPut};
+ghost use Rattle.rhd_hash.specs.FirstPairs.{NoneWith, IsFirstWith, IsPut};
 
 /// A key finds the first declaration that stands under it, and nothing exactly where none does.
 pub fn a_key_finds_its_first_declaration()

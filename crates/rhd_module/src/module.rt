@@ -4,20 +4,19 @@ ghost use Rattle.std.specs.Prelude.{◌≡◌, ℕ, List, ◌++◌, is_none, OnO
 ghost use Rattle.std.specs.Map.{lookup};
 ghost use Rattle.std.specs.Option.{option_copied, option_map};
 ghost use Rattle.rhd_module.specs.Tree.{empty_module};
-ghost use Rattle.rhd_module.specs.Steps.{raised};
+ghost use Rattle.rhd_hash.specs.Steps.{raised};
 ghost use Rattle.rhd_module.specs.Shown.{own_decl};
 ghost use Rattle.rhd_module.specs.Registered.{put, with_decl, native_key, native_decl, script_key, script_decl};
-ghost use Rattle.rhd_module.specs.Keys.{key_eq};
+ghost use Rattle.rhd_hash.specs.Keys.{key_eq};
 ghost use Rattle.rhd_module.specs.Matching.{may_match};
 ghost use Rattle.rhd_module.specs.NativeIndex.{noted, place_at, matches_at};
 
 use crate::declaration::Declaration;
-use crate::key::Key;
 use crate::native_index::NativeIndex;
 use crate::registration::{native_declaration, native_key, script_declaration, script_key};
-use crate::steps::Steps;
 use indexmap::IndexMap;
 use rhd_func::{PluginFunc, RhaiFunc, SharedDef};
+use rhd_hash::{Key, Steps};
 use rhd_value::{FnId, OutOfMemory, Text, TypeTag};
 use std::alloc::{AllocError, Global};
 use std::marker::Model;

@@ -6,8 +6,8 @@ ghost use Rattle.rhd_func.specs.Funcs.{native_of};
 ghost use Rattle.rhd_module.specs.Registered.{mapped_types, native_key, native_decl, native_func, pure_by_name, script_key, script_namespace, script_decl};
 
 use crate::declaration::Declaration;
-use crate::key::Key;
 use rhd_func::{FnAccess, FnNamespace, PluginFunc, RhaiFunc, ScriptFuncDef, SharedDef};
+use rhd_hash::Key;
 use rhd_value::{FnId, OutOfMemory, Text, TypeTag, Types, map_type};
 use std::alloc::Global;
 

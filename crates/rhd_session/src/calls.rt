@@ -39,7 +39,7 @@ use rhd_func::{
     Bodies, CallDone, CallRequest, Carry, Host, HostAnswer, NativeCallContext, NativeStep, Natives,
     RhaiFunc, ScriptFuncDef,
 };
-use rhd_module::Steps;
+use rhd_hash::Steps;
 use rhd_value::{EvalAltResult, FnId, OutOfMemory};
 use std::alloc::Global;
 

@@ -1,6 +1,6 @@
 use Rattle.std.proofs.Common.{◌≤◌, ◌<◌, ◌-◌, length, ap, sym, ◌∙◌, arith}
 use Rattle.std.proofs.lemmas.Result.{IfOk-weaker}
-use Rattle.rhd_module.specs.Matching.{types_match}
+use Rattle.rhd_hash.specs.Matching.{types_match}
 use Rattle.rhd_dispatch.proofs.Looks.{leaf_looks, first_looks, both_looks}
 use Rattle.rhd_dispatch.proofs.PatternWalk.{walk_prunes, walk_last, walk_over, walk_found, walk_changed, back_changed}
 use Rattle.rhd_dispatch.proofs.patterns.+find_from.Goals as goal

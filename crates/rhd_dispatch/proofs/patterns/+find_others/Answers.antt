@@ -1,5 +1,5 @@
 use Rattle.std.proofs.Common.{◌≤◌, ◌<◌, ◌-◌, length, ap, sym, ◌∙◌, arith}
-use Rattle.rhd_module.specs.Matching.{types_match}
+use Rattle.rhd_hash.specs.Matching.{types_match}
 use Rattle.rhd_dispatch.proofs.Looks.{leaf_missed, first_less, both_less}
 use Rattle.rhd_dispatch.proofs.PatternWalk.{walk_prunes, walk_missed_last, walk_missed_over, walk_found, walk_changed, back_changed}
 use Rattle.rhd_dispatch.proofs.patterns.+find_others.Goals as goal

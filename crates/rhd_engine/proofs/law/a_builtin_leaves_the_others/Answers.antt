@@ -1,4 +1,4 @@
-use Rattle.rhd_module.proofs.PutIn.{is_put, finds_itself, finds_others}
+use Rattle.rhd_hash.proofs.PutIn.{is_put, finds_itself, finds_others}
 use Rattle.rhd_engine.specs.Operators.{operator_eq, operator_eq-Decides}
 use Rattle.rhd_engine.proofs.law.a_builtin_leaves_the_others.Goals as goal
 

@@ -1,6 +1,6 @@
-use Rattle.rhd_module.specs.Keys.{key_eq, key_eq-Decides}
+use Rattle.rhd_hash.specs.Keys.{key_eq, key_eq-Decides}
 use Rattle.rhd_module.specs.Shown.{own_decl}
-use Rattle.rhd_module.proofs.PutIn.{is_put, finds_itself, finds_others}
+use Rattle.rhd_hash.proofs.PutIn.{is_put, finds_itself, finds_others}
 use Rattle.rhd_module.proofs.law.a_declaration_leaves_the_others.Goals as goal
 
 pub returns-clause-put : goal.returns-clause-put

@@ -1,6 +1,6 @@
-use Rattle.rhd_module.specs.Keys.{key_eq, key_eq-Decides}
+use Rattle.rhd_hash.specs.Keys.{key_eq, key_eq-Decides}
 use Rattle.rhd_module.specs.Shown.{own_decl}
-use Rattle.rhd_module.proofs.FirstFound.{found_first, first_found, missing_none, none_missing}
+use Rattle.rhd_hash.proofs.FirstFound.{found_first, first_found, missing_none, none_missing}
 use Rattle.rhd_module.proofs.law.a_key_finds_its_first_declaration.Goals as goal
 
 pub returns-clause-found : goal.returns-clause-found

@@ -1,7 +1,7 @@
 use Rattle.std.proofs.Common.{◌≡◌, ◌++◌}
 use Rattle.std.specs.List.{IsDistinct}
 use Rattle.std.specs.Map.{keys_of}
-use Rattle.rhd_module.specs.Keys.{key_eq}
+use Rattle.rhd_hash.specs.Keys.{key_eq}
 use Rattle.rhd_module.proofs.module.Module.dup.Given as goal
 
 abbrev pub invariant-loop-key : goal.invariant-loop-key

@@ -2,10 +2,10 @@ use Rattle.std.proofs.Common.{rules, ◌≡◌, true, false, sym, ap, ◌∙◌}
 use Rattle.std.specs.Option.{option_map}
 use Rattle.std.specs.Map.{lookup}
 use Rattle.rhd_module.specs.declared.declaration.Declaration.{Declaration}
-use Rattle.rhd_module.specs.Keys.{key_eq}
+use Rattle.rhd_hash.specs.Keys.{key_eq}
 use Rattle.rhd_module.specs.Tree.{ModuleTree}
 use Rattle.rhd_module.specs.Shown.{own_decl}
-use Rattle.rhd_module.specs.Scripts.{is_script_key}
+use Rattle.rhd_hash.specs.Keys.{is_script_key}
 use Rattle.rhd_module.proofs.Scripts.{none_found}
 use Rattle.rhd_module.proofs.module.Module.get_fn.Goals as goal
 

@@ -1,7 +1,7 @@
 use Rattle.std.proofs.Common.{◌≡◌, ℕ, ◌++◌, true, false, is_none, length, take, sym, ap, subst, ◌∙◌}
 use Rattle.std.specs.Map.{lookup}
 use Rattle.rhd_value.specs.Tree.{Bytes}
-use Rattle.rhd_module.specs.Keys.{key_eq}
+use Rattle.rhd_hash.specs.Keys.{key_eq}
 use Rattle.rhd_module.specs.Tree.{Pairs, ModuleTree}
 use Rattle.rhd_module.specs.Registered.{put}
 use Rattle.rhd_module.specs.NativeIndex.{IsIndex, noted, place_at}

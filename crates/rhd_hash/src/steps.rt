@@ -1,12 +1,11 @@
 //! A count of look-ups.
 
 ghost use Rattle.std.specs.Prelude.{◌≡◌};
-ghost use Rattle.rhd_module.specs.Steps.{raised};
+ghost use Rattle.rhd_hash.specs.Steps.{raised};
 
 use std::marker::Model;
 
-/// How many look-ups were made. One is a call of `Module::get_fn`. It stays at `u64::MAX`. Contracts
-/// see the number.
+/// How many look-ups in modules were made. It stays at `u64::MAX`. Contracts see the number.
 #[derive(Drop, Debug)]
 pub struct Steps {
     count: u64,
@@ -36,7 +35,7 @@ impl Steps {
 
     /// One more.
     #[tactic(auto, unfolding(crate::specs::Steps::raised))]
-    pub(crate) fn raise(&mut self)
+    pub fn raise(&mut self)
         ensures { self.new ≡ raised self.old 1 }
     {
         self.count = self.count.saturating_add(1);

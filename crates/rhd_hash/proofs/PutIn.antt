@@ -2,9 +2,9 @@
 use Rattle.std.proofs.Common.{◌≡◌, ◌≢◌, Bool, true, false, cond, List, [], ◌∷◌, refl, sym, ap, ◌∙◌}
 use Rattle.std.specs.Prelude.{Option, Some}
 use Rattle.std.specs.Map.{lookup}
-use Rattle.rhd_module.specs.Registered.{put_in}
-use Rattle.rhd_module.specs.FirstDeclarations.{IsPut, in_place, last}
-use Rattle.rhd_module.proofs.FirstFound.{IsTest, same_key, other_key, is_other}
+use Rattle.rhd_hash.specs.PutIn.{put_in}
+use Rattle.rhd_hash.specs.FirstPairs.{IsPut, in_place, last}
+use Rattle.rhd_hash.proofs.FirstFound.{IsTest, same_key, other_key, is_other}
 
 one_more : {K V : Type 0} (key : K) (v : V) (p : K × V) (old new : List (K × V)) → p.0 ≢ key → IsPut key v old new → IsPut key v (p ∷ old) (p ∷ new)
 one_more {K} {V} key v p old new other (in_place front others was none o n) = in_place (p ∷ front) others was (other, none) (ap (λ (qs : List (K × V)). p ∷ qs) o) (ap (λ (qs : List (K × V)). p ∷ qs) n)

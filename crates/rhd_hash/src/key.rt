@@ -4,10 +4,8 @@ ghost use Rattle.std.specs.Prelude.{◌≡◌, ◌++◌, IfOk, length};
 ghost use Rattle.std.specs.Option.{option_copied};
 ghost use Rattle.std.specs.Cmp.{partial_equiv_from_equiv};
 ghost use Rattle.std.specs.Hash as fed;
-ghost use Rattle.rhd_module.specs.Keys.{path_eq, key_eq, key_eq_equiv, key_name, key_params, key_input, key_alike};
-ghost use Rattle.rhd_module.specs.Matching.{types_match, key_matches};
-ghost use Rattle.rhd_module.specs.NativeIndex.{native_name};
-ghost use Rattle.rhd_module.specs.Scripts.{is_script_key};
+ghost use Rattle.rhd_hash.specs.Keys.{path_eq, key_eq, key_eq_equiv, key_name, key_params, key_input, key_alike, native_name, is_script_key};
+ghost use Rattle.rhd_hash.specs.Matching.{types_match, key_matches};
 
 use rhd_value::{OutOfMemory, Text, Texts, TypeTag, Types};
 use std::alloc::Global;
@@ -134,7 +132,7 @@ impl Key {
     }
 
     /// The name of a native, where the key has no path.
-    pub(crate) fn native_name(&self) -> Option<&Text>
+    pub fn native_name(&self) -> Option<&Text>
         ensures { option_copied result ≡ native_name self.now }
     {
         match self {
@@ -145,7 +143,7 @@ impl Key {
     }
 
     /// Whether it is that of a script.
-    pub(crate) fn is_script(&self) -> bool
+    pub fn is_script(&self) -> bool
         ensures { result ≡ is_script_key self.now }
     {
         match self {

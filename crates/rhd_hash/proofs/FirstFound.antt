@@ -3,7 +3,7 @@ use Rattle.std.proofs.Common.{◌≡◌, ◌≢◌, Bool, true, false, cond, Lis
 use Rattle.std.specs.Prelude.{Some, None}
 use Rattle.std.specs.Bool.{Decides}
 use Rattle.std.specs.Map.{lookup}
-use Rattle.rhd_module.specs.FirstDeclarations.{NoneWith, IsFirstWith}
+use Rattle.rhd_hash.specs.FirstPairs.{NoneWith, IsFirstWith}
 
 abbrev pub IsTest : {K : Type 0} → (K → K → Bool) → Type 0
 IsTest {K} eq = (a b : K) → Decides (eq a b) (a ≡ b)

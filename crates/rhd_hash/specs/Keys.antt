@@ -1,5 +1,5 @@
 -- When two keys are the same: the test that the code makes, and that it decides equality.
-use Rattle.std.specs.Prelude.{◌≡◌, ℕ, Bool, true, false, ◌==◌, ◌&&◌, ◌++◌, List, length, refl}
+use Rattle.std.specs.Prelude.{◌≡◌, ℕ, Bool, true, false, ◌==◌, ◌&&◌, ◌++◌, List, length, is_none, if◌then◌else◌, refl}
 use Rattle.std.specs.declared.option.Option.{Option}
 use Rattle.std.specs.declared.option.Option.TheVariants.{None, Some}
 use Rattle.std.specs.Bool.{Decides}
@@ -9,8 +9,8 @@ use Rattle.std.proofs.Common.{ap}
 use Rattle.std.proofs.lemmas.Slice.Eq.{bytes_eq-Decides}
 use Rattle.std.proofs.lemmas.Bool.Decides.{Decides-eqb, Decides-and, Decides-like}
 use Rattle.rhd_value.specs.Same.{text_eq, texts_eq, types_eq, texts_eq-Decides, types_eq-Decides}
-use Rattle.rhd_module.specs.declared.key.Key.{Key}
-use Rattle.rhd_module.specs.declared.key.Key.TheVariants.{Script, Typed, Native}
+use Rattle.rhd_hash.specs.declared.key.Key.{Key}
+use Rattle.rhd_hash.specs.declared.key.Key.TheVariants.{Script, Typed, Native}
 
 abbrev pub path_eq : Option (List (List ℕ)) → Option (List (List ℕ)) → Bool
 path_eq None None = true
@@ -67,6 +67,18 @@ abbrev pub key_params : Key → ℕ
 key_params (Script p n c) = c
 key_params (Typed p n c t) = c
 key_params (Native p n t) = length t
+
+-- the name of a native's key without a path
+abbrev pub native_name : Key → Option (List ℕ)
+native_name (Script path name params) = None
+native_name (Typed path name params this_type) = None
+native_name (Native path name types) = if is_none path then Some name else None
+
+-- a script's key, with a type of its object or without one
+abbrev pub is_script_key : Key → Bool
+is_script_key (Script path name params) = true
+is_script_key (Typed path name params this_type) = true
+is_script_key (Native path name types) = false
 
 -- what a hash of a key is made of
 abbrev pub key_input : Key → List (List ℕ)

@@ -1,0 +1,52 @@
+use Rattle.std.proofs.Common.{◌≡◌, List, map, nat_eq, sym, ap, subst, ◌∙◌}
+use Rattle.std.specs.Map.{lookup}
+use Rattle.std.specs.Option.{option_map}
+use Rattle.indexmap.specs.IndexMap.{insert_entry}
+use Rattle.rhd_hash.specs.PutIn.{put_in}
+use Rattle.rhd_hash.specs.declared.key.Key.{Key}
+use Rattle.rhd_hash.specs.Keys.{key_eq, key_eq-Decides}
+use Rattle.rhd_hash.specs.Parts.{mixed}
+use Rattle.rhd_hash.specs.Table.{Table, HasOwnHashes}
+use Rattle.rhd_hash.specs.Slots.{hashed, IsFree}
+use Rattle.rhd_hash.proofs.Tables.{lookup-hashed, lookup-none, lookup-free, insert-hashed, behind-hashed, apart-hashed, pairs-hashed}
+use Rattle.rhd_hash.proofs.table.KeyTable.put.Goals as goal
+use Rattle.rhd_hash.proofs.table.KeyTable.put.Goals.{After-value_of}
+
+-- what the slots are after the insert
+slots_after : (g : _) (c : After-value_of g) → c.insert.new.self.entries ≡ hashed (mixed c.self.inside.seeds) (put_in key_eq c.args.key c.args.value (map (λ e. e.1) c.self.inside.slots.entries))
+slots_after g c =
+    let hash = mixed c.self.inside.seeds in
+    let P : Table g.row.V.Denot → Type 0 = λ t. IsFree t c.args.key in
+    let free = subst P (sym c.self.view_is) c.requires in
+    c.in-Ok.ensures.entries ∙ (λ i. insert_entry nat_eq (c.self.invariant.behind i) (c.mixed-hash.ensures i) (c.args.key, c.args.value))
+    ∙ insert-hashed hash key_eq key_eq-Decides c.args.key c.args.value _ free
+
+pub invariant_of-self : goal.invariant_of-self
+unfolding HasOwnHashes
+invariant_of-self g c =
+    let hash = mixed c.self.inside.seeds in
+    let e = behind-hashed hash _ _ (slots_after g c) in
+    record { behind = e; apart = apart-hashed hash _ e c.in-Ok.ensures.unique }
+
+pub returns-in-Ok-clause-old : goal.returns-in-Ok-clause-old
+returns-in-Ok-clause-old g c =
+    let hash = mixed c.self.inside.seeds in
+    let P : Table g.row.V.Denot → Type 0 = λ t. IsFree t c.args.key in
+    let free = subst P (sym c.self.view_is) c.requires in
+    c.value_of.ensures
+    ∙ ap (option_map (λ p. p.1)) (c.in-Ok.ensures.old ∙ (λ i. lookup (nat_eq (c.mixed-hash.ensures i)) (c.self.invariant.behind i)) ∙ lookup-hashed hash (hash c.args.key) _)
+    ∙ lookup-free hash key_eq key_eq-Decides c.args.key _ free ∙ ap (λ t. lookup (key_eq c.args.key) t.pairs) c.self.view_is
+
+pub returns-in-Ok-clause-pairs : goal.returns-in-Ok-clause-pairs
+returns-in-Ok-clause-pairs g c =
+    let hash = mixed c.self.inside.seeds in
+    let view : List (Key × g.row.V.Denot) → Table g.row.V.Denot = λ qs. record { seeds = c.self.inside.seeds; pairs = qs } in
+    ap view (ap (map (λ e. e.1)) (slots_after g c) ∙ pairs-hashed hash _)
+    ∙ ap (λ t. record { seeds = t.seeds; pairs = put_in key_eq c.args.key c.args.value t.pairs }) c.self.view_is
+
+pub returns-clause-absent : goal.returns-clause-absent
+returns-clause-absent g c =
+    let hash = mixed c.self.inside.seeds in
+    let ps = map (λ e. e.1) c.self.inside.slots.entries in
+    let unfound = sym (lookup-hashed hash (hash c.args.key) ps) ∙ sym (λ i. lookup (nat_eq (c.mixed-hash.ensures i)) (c.self.invariant.behind i)) ∙ c.in-Err.ensures.absent in
+    ap (λ t. lookup (key_eq c.args.key) t.pairs) (sym c.self.view_is) ∙ lookup-none hash key_eq key_eq-Decides c.args.key ps unfound

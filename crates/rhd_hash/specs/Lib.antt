@@ -1,0 +1,13 @@
+pub mod Keys
+pub mod Matching
+pub mod Mix
+pub mod Parts
+pub mod Straight
+pub mod Filter
+pub mod CallHashes
+pub mod Table
+pub mod Slots
+pub mod Refusal
+pub mod PutIn
+pub mod FirstPairs
+pub mod Steps

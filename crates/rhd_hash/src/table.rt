@@ -1,0 +1,174 @@
+//! Tables by key.
+
+ghost use Rattle.std.specs.Prelude.{◌≡◌, [], length, slice_get, None, IfOk, IfErr, OnOk, OnErr, IfSome, IfNone, IsErr};
+ghost use Rattle.std.specs.List.{Contains};
+ghost use Rattle.std.specs.Option.{option_map, option_copied};
+ghost use Rattle.std.specs.Map.{lookup, keys_of};
+ghost use Rattle.rhd_hash.specs.declared.fault.TableFault.TheVariants.{OutOfMemory as no_memory};
+ghost use Rattle.rhd_hash.specs.Keys.{key_eq};
+ghost use Rattle.rhd_hash.specs.Parts.{mixed};
+ghost use Rattle.rhd_hash.specs.PutIn.{put_in};
+ghost use Rattle.rhd_hash.specs.Refusal.{IsRefusal};
+ghost use Rattle.rhd_hash.specs.Slots.{IsFree};
+ghost use Rattle.rhd_hash.specs.Table.{first_hashed, HasOwnHashes, Clashes};
+
+use crate::fault::TableFault;
+use crate::key::Key;
+use crate::mixer::Seeds;
+use crate::straight::StraightHasherBuilder;
+use indexmap::IndexMap;
+use indexmap::map::Values;
+use rhd_value::OutOfMemory;
+use std::alloc::Global;
+use std::marker::Model;
+
+/// Values by key, in the order in which their keys came first. No two keys have one hash: a key
+/// that clashes with another isn't taken in. Contracts see the seeds and the list of pairs.
+#[derive(Drop)]
+pub struct KeyTable<V> {
+    seeds: Seeds,
+    slots: IndexMap<u64, (Key, V), StraightHasherBuilder>,
+}
+
+impl<V> Model for KeyTable<V> {
+    ghost use Rattle.std.specs.Prelude.{map};
+    ghost use Rattle.rhd_hash.specs.Slots.{AreSlots};
+    ghost use Rattle.rhd_hash.specs.Table.{Table};
+
+    ghost Value = { Table V };
+
+    ghost view = { λ t. record { seeds = t.seeds; pairs = map (λ e. e.1) t.slots.entries } };
+
+    ghost invariant = { λ t. AreSlots t.seeds t.slots.entries };
+}
+
+/// The value of a pair that was replaced.
+fn value_of<V>(pair: Option<(Key, V)>) -> Option<V>
+    ensures { result ≡ option_map (λ p. p.1) pair }
+{
+    match pair {
+        Some((_key, value)) => Some(value),
+        None => None,
+    }
+}
+
+impl<V> KeyTable<V> {
+    /// A table without pairs, whose keys are hashed under these seeds.
+    pub fn new(alloc: Global, seeds: Seeds) -> KeyTable<V>
+        ensures { result ≡ record { seeds = seeds; pairs = [] } }
+    {
+        KeyTable {
+            seeds,
+            slots: IndexMap::with_hasher(alloc, StraightHasherBuilder),
+        }
+    }
+
+    /// The seeds under which keys are hashed.
+    pub fn seeds(&self) -> Seeds
+        ensures { result ≡ self.now.seeds }
+    {
+        self.seeds
+    }
+
+    /// The number of pairs.
+    pub fn len(&self) -> usize
+        ensures { result ≡ length self.now.pairs }
+    {
+        self.slots.len()
+    }
+
+    /// The pairs, in order.
+    pub fn iter(&self) -> Values<'_, u64, (Key, V)>
+        ensures pairs { result ≡ self.now.pairs }
+        ensures apart { HasOwnHashes self.now.seeds (keys_of self.now.pairs) }
+    {
+        self.slots.values()
+    }
+
+    /// The pair at a place, counted from 0; none where there is nothing.
+    pub fn get_index(&self, place: usize) -> Option<(&Key, &V)>
+        ensures { option_map (λ p. (p.0.now, p.1.now)) result ≡ slice_get self.now.pairs place }
+    {
+        match self.slots.get_index(place) {
+            Some((_hash, pair)) => Some((&pair.0, &pair.1)),
+            None => None,
+        }
+    }
+
+    /// The pair whose key has this hash.
+    pub fn get_by_hash(&self, hash: u64) -> Option<(&Key, &V)>
+        ensures pair { option_map (λ p. (p.0.now, p.1.now)) result ≡ first_hashed (mixed self.now.seeds) hash self.now.pairs }
+        ensures apart { HasOwnHashes self.now.seeds (keys_of self.now.pairs) }
+    {
+        match self.slots.get(&hash) {
+            Some((key, value)) => Some((key, value)),
+            None => None,
+        }
+    }
+
+    /// The value under a key.
+    pub fn get(&self, key: &Key) -> Option<&V>
+        ensures { option_copied result ≡ lookup (key_eq key.now) self.now.pairs }
+    {
+        match self.get_by_hash(key.mixed(self.seeds)) {
+            Some((held, value)) => { if *held == *key { Some(value) } else { None } }
+            None => None,
+        }
+    }
+
+    /// Puts a value under a key: an equal key keeps its place, and its value so far is answered;
+    /// else the pair goes last. A key that clashes with another one is refused.
+    pub fn insert(&mut self, key: Key, value: V) -> Result<Option<V>, TableFault>
+    where
+        V: Drop,
+        ensures old { IfOk result (λ old. old ≡ lookup (key_eq key) self.old.pairs) }
+        ensures pairs { OnOk result (self.new ≡ record self.old { pairs = put_in key_eq key value self.old.pairs }) }
+        ensures unchanged { OnErr result (self.new ≡ self.old) }
+        ensures absent { OnErr result (lookup (key_eq key) self.old.pairs ≡ None) }
+        ensures refused { IfErr result (IsRefusal self.old key) }
+        ensures refuses { (held : _) → Contains (keys_of self.old.pairs) held → Clashes self.old.seeds held key → IsErr result }
+    {
+        if let Some(held) = self.clash_with(&key)? {
+            return Err(TableFault::Clash { held, new: key });
+        }
+        self.put(key, value)
+    }
+
+    /// A copy of the key that clashes with this one.
+    fn clash_with(&self, key: &Key) -> Result<Option<Key>, OutOfMemory>
+        ensures apart { HasOwnHashes self.now.seeds (keys_of self.now.pairs) }
+        ensures free { IfOk result (λ r. IfNone r (IsFree self.now key.now)) }
+        ensures held { IfOk result (λ r. IfSome r (λ held. Contains (keys_of self.now.pairs) held × Clashes self.now.seeds held key.now)) }
+        ensures absent { IfOk result (λ r. IfSome r (λ _. lookup (key_eq key.now) self.now.pairs ≡ None)) }
+        ensures err { OnErr result (lookup (key_eq key.now) self.now.pairs ≡ None) }
+    {
+        match self.get_by_hash(key.mixed(self.seeds)) {
+            Some((held, _value)) => {
+                if *held == *key {
+                    Ok(None)
+                } else {
+                    Ok(Some(held.dup(*self.slots.allocator())?))
+                }
+            }
+            None => Ok(None),
+        }
+    }
+
+    /// Puts a value under a key that clashes with none.
+    fn put(&mut self, key: Key, value: V) -> Result<Option<V>, TableFault>
+    where
+        V: Drop,
+        requires { IsFree self.old key }
+        ensures old { IfOk result (λ old. old ≡ lookup (key_eq key) self.old.pairs) }
+        ensures pairs { OnOk result (self.new ≡ record self.old { pairs = put_in key_eq key value self.old.pairs }) }
+        ensures unchanged { OnErr result (self.new ≡ self.old) }
+        ensures absent { OnErr result (lookup (key_eq key) self.old.pairs ≡ None) }
+        ensures refused { IfErr result (λ fault. fault ≡ no_memory) }
+    {
+        let hash = key.mixed(self.seeds);
+        match self.slots.insert(hash, (key, value)) {
+            Ok(old) => Ok(value_of(old)),
+            Err(_) => Err(TableFault::OutOfMemory),
+        }
+    }
+}
