@@ -11,6 +11,8 @@ mod mixer;
 mod steps;
 mod straight;
 mod table;
+#[cfg(test)]
+mod tests;
 
 pub use call_hashes::FnCallHashes;
 pub use fault::TableFault;
