@@ -4,3 +4,4 @@ pub mod Mixing
 pub mod Paths
 pub mod Filters
 pub mod Tables
+pub mod HashedPairs

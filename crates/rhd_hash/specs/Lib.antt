@@ -8,6 +8,7 @@ pub mod CallHashes
 pub mod Table
 pub mod Slots
 pub mod Refusal
+pub mod Apart
 pub mod PutIn
 pub mod FirstPairs
 pub mod Steps

@@ -6,10 +6,13 @@ mod fault;
 mod filter;
 mod hashing;
 mod key;
+mod law;
 mod mixer;
 mod steps;
 mod straight;
 mod table;
+#[cfg(test)]
+mod tests;
 
 pub use call_hashes::FnCallHashes;
 pub use fault::TableFault;
@@ -18,6 +21,11 @@ pub use hashing::{
     calc_fn_hash, calc_fn_hash_full, calc_native_fn_hash, calc_typed_method_hash, calc_var_hash,
 };
 pub use key::Key;
+pub use law::{
+    a_hash_finds_its_pair, a_hash_is_made_of_parts, a_key_finds_its_value,
+    a_marked_number_stays_marked, a_mixer_answers_for_its_bytes, a_slot_is_a_bit,
+    a_value_leaves_the_others, keys_of_a_table_are_apart,
+};
 pub use mixer::{Mixer, Seeds, get_hasher};
 pub use steps::Steps;
 pub use straight::{StraightHashMap, StraightHasher, StraightHasherBuilder};
