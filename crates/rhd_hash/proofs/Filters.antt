@@ -1,5 +1,6 @@
 -- The slots of a filter, and the bits of its bytes.
-use Rattle.std.proofs.Common.{◌≡◌, ◌≢◌, ◌<◌, ◌≤◌, ℕ, zero, suc, max, ◌+◌, ◌*◌, ◌/◌, ◌%◌, ◌^◌, Bool, true, false, not, ◌||◌, ◌==◌, nat_eq, List, length, get_or, set, replicate, bit_or, bit_and, refl, sym, ap, ◌∙◌, arith, inl, inr, w8, eq-eqb, get_or-set_same, get_or-set_other}
+use Rattle.std.proofs.Common.{◌≡◌, ◌≢◌, ◌<◌, ◌≤◌, ℕ, zero, suc, max, ◌+◌, ◌*◌, ◌/◌, ◌%◌, ◌^◌, Bool, true, false, not, ◌||◌, ◌==◌, nat_eq, List, length, get_or, set}
+use Rattle.std.proofs.Common.{replicate, bit_or, bit_and, refl, sym, ap, ◌∙◌, arith, inl, inr, w8, eq-eqb, get_or-set_same, get_or-set_other}
 use Rattle.std.specs.Int.{bit_at}
 use Rattle.std.proofs.lemmas.Bool.Decides.{eqb_tells, leb_tells}
 use Rattle.std.proofs.lemmas.Nat.{mod-mul-add}
@@ -120,7 +121,8 @@ module _ (xs ys zs : List ℕ) (i : ℕ) (within : i < length zs) where
   pub joined-done : ((k : ℕ) → k < i → get_or zs k 0 ≡ bit_or (get_or xs k 0) (get_or ys k 0)) → ((k : ℕ) → i ≤ k → get_or zs k 0 ≡ get_or xs k 0)
       → (k : ℕ) → k < i + 1 → get_or (set zs i (bit_or (get_or zs i 0) (get_or ys i 0))) k 0 ≡ bit_or (get_or xs k 0) (get_or ys k 0)
   joined-done done left k h = elim (eqb_tells k i) [
-    | inl e ↦ (ap (λ j. get_or (set zs i (bit_or (get_or zs i 0) (get_or ys i 0))) j 0) e.1 ∙ get_or-set_same zs i _ 0 within ∙ ap (λ t. bit_or t (get_or ys i 0)) (left i (omega arith)) ∙ sym (ap (λ j. bit_or (get_or xs j 0) (get_or ys j 0)) e.1))
+    | inl e ↦ (ap (λ j. get_or (set zs i (bit_or (get_or zs i 0) (get_or ys i 0))) j 0) e.1 ∙ get_or-set_same zs i _ 0 within
+        ∙ ap (λ t. bit_or t (get_or ys i 0)) (left i (omega arith)) ∙ sym (ap (λ j. bit_or (get_or xs j 0) (get_or ys j 0)) e.1))
     | inr n ↦ (get_or-set_other zs i k _ 0 n.1 ∙ done k (omega (arith, n.1)))
   ]
 

@@ -1,5 +1,6 @@
 -- What a hash finds among pairs whose keys have hashes of their own, and when keys have such hashes.
-use Rattle.std.proofs.Common.{◌≡◌, ◌≢◌, ℕ, zero, suc, ◌<◌, length, get_or, arith, Bool, true, false, cond, List, [], ◌∷◌, map, nat_eq, ◌==◌, slice_get, None, Some, refl, sym, ap, ◌∙◌, true≢false, eq-eqb, eqb-true}
+use Rattle.std.proofs.Common.{◌≡◌, ◌≢◌, ℕ, zero, suc, ◌<◌, length, get_or, arith, Bool, true, false, cond, List, [], ◌∷◌, map, nat_eq, ◌==◌, slice_get, None, Some}
+use Rattle.std.proofs.Common.{refl, sym, ap, ◌∙◌, true≢false, eq-eqb, eqb-true}
 use Rattle.std.specs.List.{IsDistinct, AllByRecursion, Contains}
 use Rattle.std.specs.Map.{keys_of}
 use Rattle.std.proofs.lemmas.List.Elements.{Contains-append_right}
@@ -77,7 +78,8 @@ own_apart seeds keys own i j a b less at_i at_j =
     let apart = own_hash seeds keys own i j a b less at_i at_j in
     (λ same. apart (ap (mixed seeds) same), λ clash. apart clash.one_hash)
 
-other_hashes : (seeds : Seeds) (a b : Key) (same : Bool) → key_eq a b ≡ same → a ≢ b → (Clashes seeds a b → ⊥) → (one : Bool) → nat_eq (mixed seeds a) (mixed seeds b) ≡ one → nat_eq (mixed seeds a) (mixed seeds b) ≡ false
+other_hashes : (seeds : Seeds) (a b : Key) (same : Bool) → key_eq a b ≡ same → a ≢ b → (Clashes seeds a b → ⊥) → (one : Bool) → nat_eq (mixed seeds a) (mixed seeds b) ≡ one
+    → nat_eq (mixed seeds a) (mixed seeds b) ≡ false
 other_hashes seeds a b true s differ clear one h = absurd (differ ((key_eq-Decides a b).0 s))
 other_hashes seeds a b false s differ clear true h = absurd (clear (record { differ = differ; one_hash = eqb-true (mixed seeds a) (mixed seeds b) h }))
 other_hashes seeds a b false s differ clear false h = h

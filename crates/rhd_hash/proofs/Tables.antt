@@ -1,5 +1,6 @@
 -- Lists of pairs and of slots: what is found by a hash, and what a slot that is put in changes. The keys, their hash and their test are any.
-use Rattle.std.proofs.Common.{◌≡◌, ℕ, zero, suc, ◌<◌, length, get_or, arith, Bool, true, false, cond, List, [], ◌∷◌, map, nat_eq, ◌==◌, Option, None, Some, Result, Ok, Err, refl, sym, ap, ◌∙◌, subst, true≢false, eq-eqb, eqb-true}
+use Rattle.std.proofs.Common.{◌≡◌, ℕ, zero, suc, ◌<◌, length, get_or, arith, Bool, true, false, cond, List, [], ◌∷◌, map, nat_eq, ◌==◌, Option, None, Some, Result, Ok, Err}
+use Rattle.std.proofs.Common.{refl, sym, ap, ◌∙◌, subst, true≢false, eq-eqb, eqb-true}
 use Rattle.std.specs.Result.{OnErr}
 use Rattle.std.specs.Bool.{Decides}
 use Rattle.std.specs.List.{IsDistinct, AllByRecursion, Contains}
@@ -107,7 +108,8 @@ module _ {K V : Type 0} (hash : K → ℕ) where
     insert-hashed k v [] h = refl
     insert-hashed k v (p ∷ ps) h = by (λ e. insert-hashed k v ps e) (hash k == hash p.0) refl
       where
-        by : (((q : K) (w : V) → first_hashed hash (hash k) ps ≡ Some (q, w) → eq q k ≡ true) → insert_entry nat_eq (hashed hash ps) (hash k) (k, v) ≡ hashed hash (put_in eq k v ps)) → (d : Bool) → (hash k == hash p.0) ≡ d → insert_entry nat_eq (hashed hash (p ∷ ps)) (hash k) (k, v) ≡ hashed hash (put_in eq k v (p ∷ ps))
+        by : (((q : K) (w : V) → first_hashed hash (hash k) ps ≡ Some (q, w) → eq q k ≡ true) → insert_entry nat_eq (hashed hash ps) (hash k) (k, v) ≡ hashed hash (put_in eq k v ps))
+            → (d : Bool) → (hash k == hash p.0) ≡ d → insert_entry nat_eq (hashed hash (p ∷ ps)) (hash k) (k, v) ≡ hashed hash (put_in eq k v (p ∷ ps))
         by rest true f =
             let r = h p.0 p.1 (yes (Some p) (first_hashed hash (hash k) ps) f) in
             let e : p.0 ≡ k = (same p.0 k).0 r in
@@ -158,7 +160,10 @@ module _ {K V : Type 0} (hash : K → ℕ) where
   first_hashed-at (p ∷ ps) q zero u l e = (p.1, yes (Some p) (first_hashed hash (hash q) ps) (eq-eqb (hash q) (hash p.0) (ap hash (sym e))) ∙ (λ j. Some (e j, p.1)))
   first_hashed-at (p ∷ ps) q (suc i) u l e =
       let r = first_hashed-at ps q i (IsDistinct-tail nat_eq (hash p.0) (map hash (keys_of ps)) u) (omega arith) e in
-      (r.0, no (Some p) (first_hashed hash (hash q) ps) (nat_eq-turned (hash p.0) (hash q) (ap (nat_eq (hash p.0)) (sym (get_or-map hash (keys_of ps) i q ∙ ap hash e)) ∙ apart_from_distinct nat_eq (map hash (keys_of (p ∷ ps))) 0 (suc i) (hash q) u (omega arith) (omega (arith, length-map (keys_of ps) hash, length-map ps (λ (x : K × V). x.0))))) ∙ r.1)
+      let long : length (map hash (keys_of ps)) ≡ length ps = length-map (keys_of ps) hash ∙ length-map ps (λ (x : K × V). x.0) in
+      let there : get_or (map hash (keys_of ps)) i (hash q) ≡ hash q = get_or-map hash (keys_of ps) i q ∙ ap hash e in
+      let apart = apart_from_distinct nat_eq (map hash (keys_of (p ∷ ps))) 0 (suc i) (hash q) u (omega arith) (omega (arith, long)) in
+      (r.0, no (Some p) (first_hashed hash (hash q) ps) (nat_eq-turned (hash p.0) (hash q) (ap (nat_eq (hash p.0)) (sym there) ∙ apart)) ∙ r.1)
 
   -- where no other key has the hash of k, a key with that hash is k
   pub free-same : (eq : K → K → Bool) (ps : List (K × V)) (k q : K) → IsDistinct nat_eq (map hash (keys_of ps)) → ((q : K) (w : V) → first_hashed hash (hash k) ps ≡ Some (q, w) → eq q k ≡ true)

@@ -3,6 +3,7 @@
 ghost use Rattle.std.specs.Prelude.{◌≡◌, ◌≢◌, ◌↔◌, ℕ, ◌<◌, ◌/◌, ◌%◌, ◌++◌, ◌∷◌, [], List, length, bit_xor, Option, Some, None, true};
 ghost use Rattle.std.specs.List.{AllByRecursion, Contains};
 ghost use Rattle.std.specs.Map.{lookup, keys_of};
+ghost use Rattle.rhd_value.specs.Tree.{Bytes};
 ghost use Rattle.rhd_value.specs.declared.tag.TypeTag.{TypeTag};
 ghost use Rattle.rhd_hash.specs.declared.key.Key.{Key};
 ghost use Rattle.rhd_hash.specs.declared.key.Key.TheVariants.{Script, Typed, Native};
@@ -27,10 +28,10 @@ pub fn a_mixer_answers_for_its_bytes()
 /// part mixed in. Keys of paths that differ in the first name alone are one, and those of an empty
 /// path are others.
 pub fn a_hash_is_made_of_parts()
-    ensures native { (s : Seeds) (path : Option (List (List ℕ))) (name : List ℕ) (types : List TypeTag) → mixed s (Native path name types) ≡ bit_xor (mix s (types_part types)) (mixed s (Script path name (length types))) }
-    ensures typed { (s : Seeds) (path : Option (List (List ℕ))) (name : List ℕ) (params : ℕ) (this_type : List ℕ) → mixed s (Typed path name params this_type) ≡ bit_xor (mix s (this_part this_type)) (mixed s (Script path name params)) }
-    ensures first { (one other : List ℕ) (names : List (List ℕ)) → path_of (one ∷ names) ≡ path_of (other ∷ names) }
-    ensures empty { (one : List ℕ) (names : List (List ℕ)) → path_of (one ∷ names) ≢ path_of [] }
+    ensures native { (s : Seeds) (path : Option (List Bytes)) (name : Bytes) (types : List TypeTag) → mixed s (Native path name types) ≡ bit_xor (mix s (types_part types)) (mixed s (Script path name (length types))) }
+    ensures typed { (s : Seeds) (path : Option (List Bytes)) (name : Bytes) (params : ℕ) (this_type : Bytes) → mixed s (Typed path name params this_type) ≡ bit_xor (mix s (this_part this_type)) (mixed s (Script path name params)) }
+    ensures first { (one other : Bytes) (names : List Bytes) → path_of (one ∷ names) ≡ path_of (other ∷ names) }
+    ensures empty { (one : Bytes) (names : List Bytes) → path_of (one ∷ names) ≢ path_of [] }
 {}
 
 /// Two numbers have one slot exactly where they have one bit of one byte.

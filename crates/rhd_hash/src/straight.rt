@@ -48,10 +48,10 @@ pub struct StraightHasherBuilder;
 impl BuildHasher for StraightHasherBuilder {
     type Hasher = StraightHasher;
 
-    ghost build_hasher = { λ _. record { value = 42 } };
+    ghost build_hasher = { λ _. record { value = 0 } };
 
     fn build_hasher(&self) -> StraightHasher {
-        StraightHasher { value: 42 }
+        StraightHasher { value: 0 }
     }
 }
 
