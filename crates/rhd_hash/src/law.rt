@@ -28,7 +28,8 @@ pub fn a_mixer_answers_for_its_bytes()
 /// part mixed in. Keys of paths that differ in the first name alone are one, and those of an empty
 /// path are others.
 pub fn a_hash_is_made_of_parts()
-    ensures native { (s : Seeds) (path : Option (List Bytes)) (name : Bytes) (types : List TypeTag) → mixed s (Native path name types) ≡ bit_xor (mix s (types_part types)) (mixed s (Script path name (length types))) }
+    ensures native { (s : Seeds) (path : Option (List Bytes)) (name : Bytes) (types : List TypeTag)
+        → mixed s (Native path name types) ≡ bit_xor (mix s (types_part types)) (mixed s (Script path name (length types))) }
     ensures typed { (s : Seeds) (path : Option (List Bytes)) (name : Bytes) (params : ℕ) (this_type : Bytes) → mixed s (Typed path name params this_type) ≡ bit_xor (mix s (this_part this_type)) (mixed s (Script path name params)) }
     ensures first { (one other : Bytes) (names : List Bytes) → path_of (one ∷ names) ≡ path_of (other ∷ names) }
     ensures empty { (one : Bytes) (names : List Bytes) → path_of (one ∷ names) ≢ path_of [] }
