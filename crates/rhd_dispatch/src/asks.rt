@@ -147,8 +147,8 @@ fn find_native(
 }
 
 /// The function that a call by name means: of the scripts, where they are allowed, and then of the
-/// natives and built-ins. It looks up each key of each question once at most in each module, also where
-/// memory runs out.
+/// natives and built-ins. It makes at most one look-up for each key of each question in each module, also
+/// where memory runs out.
 pub fn resolve(
     alloc: Global,
     engine: &Engine,
