@@ -17,6 +17,7 @@ pub mod ReceivedPlaces
 pub mod PatternOrder
 pub mod PatternPlaces
 pub mod PickPlaces
+pub mod FramePlaces
 pub mod PickCalls
 pub mod PickAnswers
 pub mod PatternCount

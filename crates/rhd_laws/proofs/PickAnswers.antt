@@ -1,5 +1,5 @@
 -- One declaration or built-in answers a call, and what a function receives matches its types.
-use Rattle.std.proofs.Common.{◌≡◌, ◌≢◌, ℕ, ◌<◌, Bool, true, false, List, [], ◌∷◌, ◌++◌, length, map, refl, sym, ap, subst, ◌∙◌, ◌⊎◌, inl, inr, arith}
+use Rattle.std.proofs.Common.{◌≡◌, ◌≢◌, ℕ, ◌<◌, Bool, true, false, List, [], ◌∷◌, ◌++◌, length, map, refl, sym, ap, subst, ◌∙◌, arith}
 use Rattle.std.specs.Prelude.{Option, Some, None, option_map, ◌↔◌}
 use Rattle.std.specs.List.{AllByRecursion}
 use Rattle.std.specs.Map.{lookup}
@@ -16,7 +16,6 @@ use Rattle.rhd_func.specs.declared.request.CallShape.{CallShape}
 use Rattle.rhd_func.specs.declared.request.CallShape.TheVariants.{Plain, ByRef, Method}
 use Rattle.rhd_hash.specs.declared.key.Key.{Key}
 use Rattle.rhd_hash.specs.declared.key.Key.TheVariants.{Script, Typed, Native}
-use Rattle.rhd_call.specs.declared.pick.Layer.{Layer}
 use Rattle.rhd_call.specs.declared.pick.Pick.{Pick}
 use Rattle.rhd_engine.specs.Engine.{EngineLists, Frame}
 use Rattle.rhd_engine.specs.declared.builtins.Operator.{Operator}
@@ -32,10 +31,10 @@ use Rattle.rhd_dispatch.specs.Asks.{looked, native_found, builtin, builtin_pick,
 use Rattle.rhd_session.specs.Plans.{plan_of, token_in}
 use Rattle.rhd_session.specs.Decisions.{asks_of}
 use Rattle.rhd_laws.specs.FirstAsks.{IsAnsweredFirst, IsUnanswered}
-use Rattle.rhd_laws.specs.Matches.{TypesMatch, kinds_in, MatchesCall, by_type, by_number, by_kinds, IsEarlier, rank, GoesBefore, lower_rank, more_exact, earlier_module, NoneMatches, IsFirstMatch, IsFirstBuiltin, HasBuiltin, IsAnsweredBy, by_declaration, by_builtin, all_received}
+use Rattle.rhd_laws.specs.Matches.{TypesMatch, kinds_in, MatchesCall, by_type, by_number, by_kinds, rank, GoesBefore, lower_rank, more_exact, earlier_place, NoneMatches, IsFirstMatch, IsFirstBuiltin, HasBuiltin, IsAnsweredBy, by_declaration, by_builtin, all_received, IsInFirstPlace}
 use Rattle.rhd_laws.proofs.FirstAnswered.{first_is-first, first_none, none_first}
 use Rattle.rhd_laws.proofs.PatternOrder.{or_parts, match_to, is_before, in_order, Ordered, first_goes, second_goes, same_types}
-use Rattle.rhd_laws.proofs.PickPlaces.{modules_ordered, same_declared, sources_same, same_shown}
+use Rattle.rhd_laws.proofs.PickPlaces.{got, in_first_is}
 use Rattle.rhd_laws.proofs.PickCalls.{NoTyped, NoScript, native_look, none_match, asked_by, true_false, plain_method, ref_method, one_method, typed_native, script_native, same_natives}
 
 -- Where no ask is found.
@@ -96,15 +95,15 @@ asked_in_vain e f (Named name token false (Method target args) want pos) h = non
 -- Of two declarations that match, one goes before the other, or their keys are the same.
 
 data KeysOrdered (kinds : List TypeTag) (key other : Key) : Type 0 where
-  goes_first : ((layer behind : Layer) → GoesBefore kinds key layer other behind) → KeysOrdered kinds key other
-  goes_second : ((layer behind : Layer) → GoesBefore kinds other layer key behind) → KeysOrdered kinds key other
+  goes_first : ((n behind : ℕ) → GoesBefore kinds key n other behind) → KeysOrdered kinds key other
+  goes_second : ((n behind : ℕ) → GoesBefore kinds other n key behind) → KeysOrdered kinds key other
   one_key : key ≡ other → KeysOrdered kinds key other
 
 by_rank : (kinds : List TypeTag) (key other : Key) (n m : ℕ) → rank key ≡ n → rank other ≡ m → n < m → KeysOrdered kinds key other
-by_rank kinds key other n m a b less = goes_first (λ layer behind. lower_rank (omega (arith, a, b, less)))
+by_rank kinds key other n m a b less = goes_first (λ place behind. lower_rank (omega (arith, a, b, less)))
 
 by_rank_back : (kinds : List TypeTag) (key other : Key) (n m : ℕ) → rank key ≡ n → rank other ≡ m → m < n → KeysOrdered kinds key other
-by_rank_back kinds key other n m a b less = goes_second (λ layer behind. lower_rank (omega (arith, a, b, less)))
+by_rank_back kinds key other n m a b less = goes_second (λ place behind. lower_rank (omega (arith, a, b, less)))
 
 same_typed : (e : EngineLists) (name : Bytes) (target other : Tree) (args others : List Tree) → Method target args ≡ Method other others → Typed None name (length args) (display e target) ≡ Typed None name (length others) (display e other)
 same_typed e name target other args others same =
@@ -113,8 +112,8 @@ same_typed e name target other args others same =
     (λ i. Typed None name (length (b i)) (display e (a i)))
 
 natives_ordered : (kinds : List TypeTag) (key other : Key) (name : Bytes) (types others : List TypeTag) → key ≡ Native None name types → other ≡ Native None name others → Ordered kinds types others → KeysOrdered kinds key other
-natives_ordered kinds key other name types others k o (first_goes b) = goes_first (λ layer behind. more_exact name types others k o (is_before kinds types others b))
-natives_ordered kinds key other name types others k o (second_goes b) = goes_second (λ layer behind. more_exact name others types o k (is_before kinds others types b))
+natives_ordered kinds key other name types others k o (first_goes b) = goes_first (λ place behind. more_exact name types others k o (is_before kinds types others b))
+natives_ordered kinds key other name types others k o (second_goes b) = goes_second (λ place behind. more_exact name others types o k (is_before kinds others types b))
 natives_ordered kinds key other name types others k o (same_types s) = one_key (k ∙ ap (Native None name) s ∙ sym o)
 
 keys_ordered : (e : EngineLists) (call : CallRequest) (key other : Key) → MatchesCall e call key → MatchesCall e call other → KeysOrdered (kinds_in call) key other
@@ -130,28 +129,27 @@ keys_ordered e call key other (by_kinds types k n) (by_kinds ts o m) = natives_o
 
 -- One pick answers a call.
 
-one_match : (e : EngineLists) (f : Frame) (call : CallRequest) (key other : Key) (pick own : Pick) → IsFirstMatch e f call key pick → IsFirstMatch e f call other own → key ≡ other
-    → IsEarlier pick.layer own.layer ⊎ ((pick.layer ≡ own.layer) ⊎ IsEarlier own.layer pick.layer) → pick ≡ own
-one_match e f call key other pick own a b k (inl before) = absurd (b.first key pick.layer a.decl a.matches a.stands (earlier_module k before))
-one_match e f call key other pick own a b k (inr (inl same)) = same_shown pick own a.decl b.decl same a.func b.func (a.source ∙ sources_same e f pick.layer own.layer a.stands.tree b.stands.tree same a.stands.stands b.stands.stands ∙ sym b.source) (same_declared e f pick.layer own.layer key other a.decl b.decl same k a.stands b.stands)
-one_match e f call key other pick own a b k (inr (inr before)) = absurd (a.first other own.layer b.decl b.matches b.stands (earlier_module (sym k) before))
+in_first_place : (e : EngineLists) (f : Frame) (call : CallRequest) (key : Key) (pick : Pick) → IsFirstMatch e f call key pick → IsInFirstPlace e f key pick
+in_first_place e f call key pick a =
+    record { number = a.number; decl = a.decl; stands = a.stands; layer = a.layer; func = a.func; source = a.source; first = λ n other less it. a.first key n other a.matches it (earlier_place refl less) }
+
+-- so it is what is found under its key
+found_by : (e : EngineLists) (f : Frame) (call : CallRequest) (key : Key) (pick : Pick) → IsFirstMatch e f call key pick → found e f.lib f.imports key ≡ Some pick
+found_by e f call key pick a = in_first_is e f key pick (in_first_place e f call key pick a)
 
 two_matches : (e : EngineLists) (f : Frame) (call : CallRequest) (key other : Key) (pick own : Pick) → IsFirstMatch e f call key pick → IsFirstMatch e f call other own → KeysOrdered (kinds_in call) key other → pick ≡ own
-two_matches e f call key other pick own a b (goes_first h) = absurd (b.first key pick.layer a.decl a.matches a.stands (h pick.layer own.layer))
-two_matches e f call key other pick own a b (goes_second h) = absurd (a.first other own.layer b.decl b.matches b.stands (h own.layer pick.layer))
-two_matches e f call key other pick own a b (one_key k) = one_match e f call key other pick own a b k (modules_ordered e f pick.layer own.layer a.stands.tree b.stands.tree a.stands.stands b.stands.stands)
-
-same_some : (a b : Pick) → ◌≡◌ {A = Option Pick} (Some a) (Some b) → a ≡ b
-same_some a b e = cc
+two_matches e f call key other pick own a b (goes_first h) = absurd (b.first key a.number a.decl a.matches a.stands (h a.number b.number))
+two_matches e f call key other pick own a b (goes_second h) = absurd (a.first other b.number b.decl b.matches b.stands (h b.number a.number))
+two_matches e f call key other pick own a b (one_key k) = got pick own (sym (found_by e f call key pick a) ∙ ap (found e f.lib f.imports) k ∙ found_by e f call other own b)
 
 pub one_answer : (e : EngineLists) (f : Frame) (call : CallRequest) (pick own : Pick) → IsAnsweredBy e f call pick → IsAnsweredBy e f call own → pick ≡ own
 one_answer e f call pick own (by_declaration key a) (by_declaration other b) = two_matches e f call key other pick own a b (keys_ordered e call key other a.matches b.matches)
-one_answer e f call pick own (by_declaration key a) (by_builtin none b) = absurd (none key pick.layer a.decl a.matches a.stands)
-one_answer e f call pick own (by_builtin none a) (by_declaration other b) = absurd (none other own.layer b.decl b.matches b.stands)
-one_answer e f call pick own (by_builtin none a) (by_builtin also b) = same_some pick own (sym (built e call pick a) ∙ built e call own b)
+one_answer e f call pick own (by_declaration key a) (by_builtin none b) = absurd (none key a.number a.decl a.matches a.stands)
+one_answer e f call pick own (by_builtin none a) (by_declaration other b) = absurd (none other b.number b.decl b.matches b.stands)
+one_answer e f call pick own (by_builtin none a) (by_builtin also b) = got pick own (sym (built e call pick a) ∙ built e call own b)
 
 unanswered_not : (e : EngineLists) (f : Frame) (call : CallRequest) (pick : Pick) → NoneMatches e f call × NoBuiltin e call → IsAnsweredBy e f call pick → ⊥
-unanswered_not e f call pick none (by_declaration key a) = none.0 key pick.layer a.decl a.matches a.stands
+unanswered_not e f call pick none (by_declaration key a) = none.0 key a.number a.decl a.matches a.stands
 unanswered_not e f call pick none (by_builtin also b) = none.1 pick b
 
 pub match_first : (e : EngineLists) (f : Frame) (call : CallRequest) (pick : Pick) → IsAnsweredBy e f call pick → IsAnsweredFirst e f call pick

@@ -14,7 +14,6 @@ use Rattle.rhd_func.specs.declared.request.CallShape.TheVariants.{Plain, ByRef, 
 use Rattle.rhd_hash.specs.declared.key.Key.{Key}
 use Rattle.rhd_hash.specs.declared.key.Key.TheVariants.{Script, Typed, Native}
 use Rattle.rhd_module.specs.declared.declaration.Declaration.{Declaration}
-use Rattle.rhd_call.specs.declared.pick.Layer.{Layer}
 use Rattle.rhd_call.specs.declared.pick.Pick.{Pick}
 use Rattle.rhd_engine.specs.Engine.{EngineLists, Frame}
 use Rattle.rhd_engine.specs.declared.builtins.Operator.{Operator}
@@ -26,13 +25,10 @@ use Rattle.rhd_dispatch.specs.Asks.{looked, native, native_found, builtin, built
 use Rattle.rhd_session.specs.Plans.{plan_of, only_natives, token_in}
 use Rattle.rhd_session.specs.Decisions.{asks_of}
 use Rattle.rhd_laws.specs.FirstAsks.{IsAnsweredFirst}
-use Rattle.rhd_laws.specs.Matches.{TypesMatch, IsMoreExact, kinds_in, MatchesCall, by_type, by_number, by_kinds, HasDeclaration, IsEarlier, rank, GoesBefore, lower_rank, more_exact, earlier_module, NoneMatches, IsFirstBuiltin, HasBuiltin, IsAnsweredBy, by_declaration, by_builtin, IsInFirstModule}
+use Rattle.rhd_laws.specs.Matches.{TypesMatch, IsMoreExact, kinds_in, MatchesCall, by_type, by_number, by_kinds, HasDeclaration, rank, GoesBefore, lower_rank, more_exact, earlier_place, NoneMatches, IsFirstBuiltin, HasBuiltin, IsAnsweredBy, by_declaration, by_builtin, IsInFirstPlace}
 use Rattle.rhd_laws.proofs.FirstAnswered.{is-first_first}
 use Rattle.rhd_laws.proofs.PatternOrder.{or_cases, or_none, none_matching, first_pattern, FirstOf, first_types, match_to, types_match, before_is}
-use Rattle.rhd_laws.proofs.PickPlaces.{found_where, is_in_first, not_found}
-
-pub got : {A : Type 0} (x y : A) → ◌≡◌ {A = Option A} (Some x) (Some y) → x ≡ y
-got x y e = cc
+use Rattle.rhd_laws.proofs.PickPlaces.{got, in_first, not_found}
 
 -- A declaration that is asked for.
 
@@ -43,11 +39,11 @@ NoTyped e f call = (object : Tree) (args : List Tree) → only_natives (plan_of 
 abbrev pub NoScript : EngineLists → Frame → CallRequest → Type 0
 NoScript e f call = only_natives (plan_of call).search ≡ false → found e f.lib f.imports (Script None (plan_of call).name (params_of (plan_of call).shape)) ≡ None
 
-undeclared : (e : EngineLists) (f : Frame) (key other : Key) (layer : Layer) (d : Declaration) → other ≡ key → found e f.lib f.imports key ≡ None → HasDeclaration e f layer other d → ⊥
-undeclared e f key other layer d same none r = not_found e f key none layer d (subst (λ k. HasDeclaration e f layer k d) same r)
+undeclared : (e : EngineLists) (f : Frame) (key other : Key) (n : ℕ) (d : Declaration) → other ≡ key → found e f.lib f.imports key ≡ None → HasDeclaration e f n other d → ⊥
+undeclared e f key other n d same none r = not_found e f key none n d (subst (λ k. HasDeclaration e f n k d) same r)
 
-not_earlier : (e : EngineLists) (f : Frame) (key other : Key) (pick : Pick) (layer : Layer) (d : Declaration) → IsInFirstModule e f key pick → other ≡ key → HasDeclaration e f layer other d → IsEarlier layer pick.layer → ⊥
-not_earlier e f key other pick layer d r same it before = r.first layer d (subst (λ k. HasDeclaration e f layer k d) same it) before
+not_earlier : (e : EngineLists) (f : Frame) (key other : Key) (pick : Pick) (n : ℕ) (d : Declaration) (r : IsInFirstPlace e f key pick) → other ≡ key → HasDeclaration e f n other d → n < r.number → ⊥
+not_earlier e f key other pick n d r same it less = r.first n d less (subst (λ k. HasDeclaration e f n k d) same it)
 
 pub typed_native : (other : Key) (name own : Bytes) (params : ℕ) (this_type : Bytes) (types : List TypeTag) → other ≡ Typed None name params this_type → other ≡ Native None own types → ⊥
 typed_native other name own params this_type types a b = let q : Typed None name params this_type ≡ Native None own types = sym a ∙ b in absurd cc
@@ -58,81 +54,83 @@ script_native other name own params types a b = let q : Script None name params 
 pub same_natives : (other : Key) (name own : Bytes) (types others : List TypeTag) → other ≡ Native None name types → other ≡ Native None own others → types ≡ others
 same_natives other name own types others a b = let q : Native None name types ≡ Native None own others = sym a ∙ b in cc
 
-typed_before : (e : EngineLists) (f : Frame) (call : CallRequest) (object : Tree) (args : List Tree) (pick : Pick) → IsInFirstModule e f (Typed None (plan_of call).name (length args) (display e object)) pick
-    → (other : Key) (layer : Layer) (d : Declaration) → MatchesCall e call other → HasDeclaration e f layer other d → GoesBefore (kinds_in call) other layer (Typed None (plan_of call).name (length args) (display e object)) pick.layer → ⊥
-typed_before e f call object args pick r other layer d m it (lower_rank less) = omega (arith, less)
-typed_before e f call object args pick r other layer d m it (more_exact name types others k o x) = typed_native (Typed None (plan_of call).name (length args) (display e object)) (plan_of call).name name (length args) (display e object) others refl o
-typed_before e f call object args pick r other layer d m it (earlier_module same before) = not_earlier e f (Typed None (plan_of call).name (length args) (display e object)) other pick layer d r same it before
+typed_before : (e : EngineLists) (f : Frame) (call : CallRequest) (object : Tree) (args : List Tree) (pick : Pick) (r : IsInFirstPlace e f (Typed None (plan_of call).name (length args) (display e object)) pick)
+    → (other : Key) (n : ℕ) (d : Declaration) → MatchesCall e call other → HasDeclaration e f n other d → GoesBefore (kinds_in call) other n (Typed None (plan_of call).name (length args) (display e object)) r.number → ⊥
+typed_before e f call object args pick r other n d m it (lower_rank less) = omega (arith, less)
+typed_before e f call object args pick r other n d m it (more_exact name types others k o x) = typed_native (Typed None (plan_of call).name (length args) (display e object)) (plan_of call).name name (length args) (display e object) others refl o
+typed_before e f call object args pick r other n d m it (earlier_place same before) = not_earlier e f (Typed None (plan_of call).name (length args) (display e object)) other pick n d r same it before
 
 typed_first : (e : EngineLists) (f : Frame) (call : CallRequest) (object : Tree) (args : List Tree) (pick : Pick) → only_natives (plan_of call).search ≡ false → (plan_of call).shape ≡ Method object args
     → found e f.lib f.imports (Typed None (plan_of call).name (length args) (display e object)) ≡ Some pick → IsAnsweredBy e f call pick
 typed_first e f call object args pick allowed shape h =
     let key : Key = Typed None (plan_of call).name (length args) (display e object) in
-    let r : IsInFirstModule e f key pick = is_in_first e f key pick (found_where e f key pick h) in
-    by_declaration key (record { matches = by_type object args allowed shape refl; decl = r.decl; stands = r.stands; func = r.func; source = r.source; first = typed_before e f call object args pick r })
+    let r : IsInFirstPlace e f key pick = in_first e f key pick h in
+    by_declaration key (record { matches = by_type object args allowed shape refl; number = r.number; decl = r.decl; stands = r.stands; layer = r.layer; func = r.func; source = r.source; first = typed_before e f call object args pick r })
 
-script_rank : (e : EngineLists) (f : Frame) (call : CallRequest) (other : Key) (layer : Layer) (d : Declaration) → NoTyped e f call → MatchesCall e call other → HasDeclaration e f layer other d → rank other < 1 → ⊥
-script_rank e f call other layer d untyped (by_type object args allowed shape k) it less = undeclared e f (Typed None (plan_of call).name (length args) (display e object)) other layer d k (untyped object args allowed shape) it
-script_rank e f call other layer d untyped (by_number allowed k) it less = let t : rank other ≡ 1 = ap rank k in omega (arith, less, t)
-script_rank e f call other layer d untyped (by_kinds types k m) it less = let t : rank other ≡ 2 = ap rank k in omega (arith, less, t)
+script_rank : (e : EngineLists) (f : Frame) (call : CallRequest) (other : Key) (n : ℕ) (d : Declaration) → NoTyped e f call → MatchesCall e call other → HasDeclaration e f n other d → rank other < 1 → ⊥
+script_rank e f call other n d untyped (by_type object args allowed shape k) it less = undeclared e f (Typed None (plan_of call).name (length args) (display e object)) other n d k (untyped object args allowed shape) it
+script_rank e f call other n d untyped (by_number allowed k) it less = let t : rank other ≡ 1 = ap rank k in omega (arith, less, t)
+script_rank e f call other n d untyped (by_kinds types k m) it less = let t : rank other ≡ 2 = ap rank k in omega (arith, less, t)
 
-script_before : (e : EngineLists) (f : Frame) (call : CallRequest) (pick : Pick) → NoTyped e f call → IsInFirstModule e f (Script None (plan_of call).name (params_of (plan_of call).shape)) pick
-    → (other : Key) (layer : Layer) (d : Declaration) → MatchesCall e call other → HasDeclaration e f layer other d → GoesBefore (kinds_in call) other layer (Script None (plan_of call).name (params_of (plan_of call).shape)) pick.layer → ⊥
-script_before e f call pick untyped r other layer d m it (lower_rank less) = script_rank e f call other layer d untyped m it less
-script_before e f call pick untyped r other layer d m it (more_exact name types others k o x) = script_native (Script None (plan_of call).name (params_of (plan_of call).shape)) (plan_of call).name name (params_of (plan_of call).shape) others refl o
-script_before e f call pick untyped r other layer d m it (earlier_module same before) = not_earlier e f (Script None (plan_of call).name (params_of (plan_of call).shape)) other pick layer d r same it before
+script_before : (e : EngineLists) (f : Frame) (call : CallRequest) (pick : Pick) → NoTyped e f call → (r : IsInFirstPlace e f (Script None (plan_of call).name (params_of (plan_of call).shape)) pick)
+    → (other : Key) (n : ℕ) (d : Declaration) → MatchesCall e call other → HasDeclaration e f n other d → GoesBefore (kinds_in call) other n (Script None (plan_of call).name (params_of (plan_of call).shape)) r.number → ⊥
+script_before e f call pick untyped r other n d m it (lower_rank less) = script_rank e f call other n d untyped m it less
+script_before e f call pick untyped r other n d m it (more_exact name types others k o x) = script_native (Script None (plan_of call).name (params_of (plan_of call).shape)) (plan_of call).name name (params_of (plan_of call).shape) others refl o
+script_before e f call pick untyped r other n d m it (earlier_place same before) = not_earlier e f (Script None (plan_of call).name (params_of (plan_of call).shape)) other pick n d r same it before
 
 script_first : (e : EngineLists) (f : Frame) (call : CallRequest) (pick : Pick) → NoTyped e f call → only_natives (plan_of call).search ≡ false
     → found e f.lib f.imports (Script None (plan_of call).name (params_of (plan_of call).shape)) ≡ Some pick → IsAnsweredBy e f call pick
 script_first e f call pick untyped allowed h =
     let key : Key = Script None (plan_of call).name (params_of (plan_of call).shape) in
-    let r : IsInFirstModule e f key pick = is_in_first e f key pick (found_where e f key pick h) in
-    by_declaration key (record { matches = by_number allowed refl; decl = r.decl; stands = r.stands; func = r.func; source = r.source; first = script_before e f call pick untyped r })
+    let r : IsInFirstPlace e f key pick = in_first e f key pick h in
+    by_declaration key (record { matches = by_number allowed refl; number = r.number; decl = r.decl; stands = r.stands; layer = r.layer; func = r.func; source = r.source; first = script_before e f call pick untyped r })
 
 -- no native with more exact types that match
 abbrev pub NoneBefore : EngineLists → Frame → CallRequest → List TypeTag → Type 0
 NoneBefore e f call types = (others : List TypeTag) → TypesMatch others (kinds_in call) → IsMoreExact (kinds_in call) others types → found e f.lib f.imports (Native None (plan_of call).name others) ≡ None
 
-native_rank : (e : EngineLists) (f : Frame) (call : CallRequest) (other : Key) (layer : Layer) (d : Declaration) → NoTyped e f call → NoScript e f call → MatchesCall e call other → HasDeclaration e f layer other d → rank other < 2 → ⊥
-native_rank e f call other layer d untyped unscripted (by_type object args allowed shape k) it less = undeclared e f (Typed None (plan_of call).name (length args) (display e object)) other layer d k (untyped object args allowed shape) it
-native_rank e f call other layer d untyped unscripted (by_number allowed k) it less = undeclared e f (Script None (plan_of call).name (params_of (plan_of call).shape)) other layer d k (unscripted allowed) it
-native_rank e f call other layer d untyped unscripted (by_kinds types k m) it less = let t : rank other ≡ 2 = ap rank k in omega (arith, less, t)
+native_rank : (e : EngineLists) (f : Frame) (call : CallRequest) (other : Key) (n : ℕ) (d : Declaration) → NoTyped e f call → NoScript e f call → MatchesCall e call other → HasDeclaration e f n other d → rank other < 2 → ⊥
+native_rank e f call other n d untyped unscripted (by_type object args allowed shape k) it less = undeclared e f (Typed None (plan_of call).name (length args) (display e object)) other n d k (untyped object args allowed shape) it
+native_rank e f call other n d untyped unscripted (by_number allowed k) it less = undeclared e f (Script None (plan_of call).name (params_of (plan_of call).shape)) other n d k (unscripted allowed) it
+native_rank e f call other n d untyped unscripted (by_kinds types k m) it less = let t : rank other ≡ 2 = ap rank k in omega (arith, less, t)
 
-native_exact : (e : EngineLists) (f : Frame) (call : CallRequest) (types : List TypeTag) (other : Key) (layer : Layer) (d : Declaration) (name : Bytes) (exact others : List TypeTag)
-    → NoneBefore e f call types → MatchesCall e call other → HasDeclaration e f layer other d
+native_exact : (e : EngineLists) (f : Frame) (call : CallRequest) (types : List TypeTag) (other : Key) (n : ℕ) (d : Declaration) (name : Bytes) (exact others : List TypeTag)
+    → NoneBefore e f call types → MatchesCall e call other → HasDeclaration e f n other d
     → other ≡ Native None name exact → Native None (plan_of call).name types ≡ Native None name others → IsMoreExact (kinds_in call) exact others → ⊥
-native_exact e f call types other layer d name exact others none (by_type object args allowed shape k) it p q x = typed_native other (plan_of call).name name (length args) (display e object) exact k p
-native_exact e f call types other layer d name exact others none (by_number allowed k) it p q x = script_native other (plan_of call).name name (params_of (plan_of call).shape) exact k p
-native_exact e f call types other layer d name exact others none (by_kinds own k m) it p q x =
+native_exact e f call types other n d name exact others none (by_type object args allowed shape k) it p q x = typed_native other (plan_of call).name name (length args) (display e object) exact k p
+native_exact e f call types other n d name exact others none (by_number allowed k) it p q x = script_native other (plan_of call).name name (params_of (plan_of call).shape) exact k p
+native_exact e f call types other n d name exact others none (by_kinds own k m) it p q x =
     let a : exact ≡ own = same_natives other name (plan_of call).name exact own p k in
     let b : others ≡ types = sym (same_natives (Native None (plan_of call).name types) (plan_of call).name name types others refl q) in
-    undeclared e f (Native None (plan_of call).name own) other layer d k (none own m (subst (λ ts. IsMoreExact (kinds_in call) own ts) b (subst (λ ts. IsMoreExact (kinds_in call) ts others) a x))) it
+    undeclared e f (Native None (plan_of call).name own) other n d k (none own m (subst (λ ts. IsMoreExact (kinds_in call) own ts) b (subst (λ ts. IsMoreExact (kinds_in call) ts others) a x))) it
 
-native_before : (e : EngineLists) (f : Frame) (call : CallRequest) (pick : Pick) (types : List TypeTag) → NoTyped e f call → NoScript e f call → NoneBefore e f call types → IsInFirstModule e f (Native None (plan_of call).name types) pick
-    → (other : Key) (layer : Layer) (d : Declaration) → MatchesCall e call other → HasDeclaration e f layer other d → GoesBefore (kinds_in call) other layer (Native None (plan_of call).name types) pick.layer → ⊥
-native_before e f call pick types untyped unscripted none r other layer d m it (lower_rank less) = native_rank e f call other layer d untyped unscripted m it less
-native_before e f call pick types untyped unscripted none r other layer d m it (more_exact name exact others k o x) = native_exact e f call types other layer d name exact others none m it k o x
-native_before e f call pick types untyped unscripted none r other layer d m it (earlier_module same before) = not_earlier e f (Native None (plan_of call).name types) other pick layer d r same it before
+native_before : (e : EngineLists) (f : Frame) (call : CallRequest) (pick : Pick) (types : List TypeTag) → NoTyped e f call → NoScript e f call → NoneBefore e f call types → (r : IsInFirstPlace e f (Native None (plan_of call).name types) pick)
+    → (other : Key) (n : ℕ) (d : Declaration) → MatchesCall e call other → HasDeclaration e f n other d → GoesBefore (kinds_in call) other n (Native None (plan_of call).name types) r.number → ⊥
+native_before e f call pick types untyped unscripted none r other n d m it (lower_rank less) = native_rank e f call other n d untyped unscripted m it less
+native_before e f call pick types untyped unscripted none r other n d m it (more_exact name exact others k o x) = native_exact e f call types other n d name exact others none m it k o x
+native_before e f call pick types untyped unscripted none r other n d m it (earlier_place same before) = not_earlier e f (Native None (plan_of call).name types) other pick n d r same it before
 
 native_first : (e : EngineLists) (f : Frame) (call : CallRequest) (pick : Pick) → NoTyped e f call → NoScript e f call → FirstOf (native_found e f.lib f.imports (plan_of call).name) 16 (kinds_in call) pick → IsAnsweredBy e f call pick
 native_first e f call pick untyped unscripted (first_types types m h none) =
     let key : Key = Native None (plan_of call).name types in
     let own : TypesMatch types (kinds_in call) = types_match types (kinds_in call) m in
-    let r : IsInFirstModule e f key pick = is_in_first e f key pick (found_where e f key pick h) in
+    let r : IsInFirstPlace e f key pick = in_first e f key pick h in
     by_declaration key (record {
       matches = by_kinds types refl own;
+      number = r.number;
       decl = r.decl;
       stands = r.stands;
+      layer = r.layer;
       func = r.func;
       source = r.source;
       first = native_before e f call pick types untyped unscripted (λ others o x. none others (match_to others (kinds_in call) o) (before_is (kinds_in call) others types o.as_many own.as_many x)) r;
     })
 
 pub none_match : (e : EngineLists) (f : Frame) (call : CallRequest) → NoTyped e f call → NoScript e f call → first_of (native_found e f.lib f.imports (plan_of call).name) (patterns_to 16 (kinds_in call)) ≡ None → NoneMatches e f call
-none_match e f call untyped unscripted none key layer d (by_type object args allowed shape k) it = undeclared e f (Typed None (plan_of call).name (length args) (display e object)) key layer d k (untyped object args allowed shape) it
-none_match e f call untyped unscripted none key layer d (by_number allowed k) it = undeclared e f (Script None (plan_of call).name (params_of (plan_of call).shape)) key layer d k (unscripted allowed) it
-none_match e f call untyped unscripted none key layer d (by_kinds types k m) it =
-    undeclared e f (Native None (plan_of call).name types) key layer d k (none_matching (native_found e f.lib f.imports (plan_of call).name) 16 (kinds_in call) types none (match_to types (kinds_in call) m)) it
+none_match e f call untyped unscripted none key n d (by_type object args allowed shape k) it = undeclared e f (Typed None (plan_of call).name (length args) (display e object)) key n d k (untyped object args allowed shape) it
+none_match e f call untyped unscripted none key n d (by_number allowed k) it = undeclared e f (Script None (plan_of call).name (params_of (plan_of call).shape)) key n d k (unscripted allowed) it
+none_match e f call untyped unscripted none key n d (by_kinds types k m) it =
+    undeclared e f (Native None (plan_of call).name types) key n d k (none_matching (native_found e f.lib f.imports (plan_of call).name) 16 (kinds_in call) types none (match_to types (kinds_in call) m)) it
 
 -- A built-in of the table.
 

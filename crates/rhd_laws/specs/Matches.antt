@@ -1,5 +1,5 @@
 -- Which declarations match a call, and which of two goes first, said without a search.
-use Rattle.std.specs.Prelude.{◌≡◌, ◌≢◌, ◌<◌, ℕ, false, List, [], ◌∷◌, ◌++◌, length, map, take, slice_get, Option, Some, None}
+use Rattle.std.specs.Prelude.{◌≡◌, ◌≢◌, ◌<◌, ℕ, false, List, [], ◌∷◌, ◌++◌, length, map, take, slice_get, Some, None}
 use Rattle.std.specs.List.{AllByRecursion}
 use Rattle.std.specs.Option.{option_map_or}
 use Rattle.rhd_value.specs.Tree.{Bytes, Tree}
@@ -15,15 +15,13 @@ use Rattle.rhd_hash.specs.declared.key.Key.{Key}
 use Rattle.rhd_hash.specs.declared.key.Key.TheVariants.{Script, Typed, Native}
 use Rattle.rhd_module.specs.declared.declaration.Declaration.{Declaration}
 use Rattle.rhd_hash.specs.FirstPairs.{IsFirstWith}
-use Rattle.rhd_module.specs.Tree.{ModuleTree}
+use Rattle.rhd_dispatch.specs.Searched.{Place, searched}
 use Rattle.rhd_dispatch.specs.Asks.{params_of, builtin_pick}
 use Rattle.rhd_engine.specs.Display.{display}
 use Rattle.rhd_engine.specs.Engine.{EngineLists, Frame}
 use Rattle.rhd_engine.specs.declared.builtins.Operator.{Operator}
 use Rattle.rhd_session.specs.Plans.{plan_of, only_natives, token_in}
 use Rattle.rhd_session.specs.Received.{Received}
-use Rattle.rhd_call.specs.declared.pick.Layer.{Layer}
-use Rattle.rhd_call.specs.declared.pick.Layer.TheVariants.{Library, Global}
 use Rattle.rhd_call.specs.declared.pick.Pick.{Pick}
 
 -- A declared type takes the argument at a place: it is the argument's kind, or `Dynamic` at one of the first sixteen places.
@@ -54,38 +52,25 @@ pub data MatchesCall (e : EngineLists) (call : CallRequest) (key : Key) : Type 0
   by_number : only_natives (plan_of call).search ≡ false → key ≡ Script None (plan_of call).name (params_of (plan_of call).shape) → MatchesCall e call key
   by_kinds : (types : List TypeTag) → key ≡ Native None (plan_of call).name types → TypesMatch types (kinds_in call) → MatchesCall e call key
 
--- a module at its place, where a frame finds it
-pub data IsModuleAt (e : EngineLists) (f : Frame) (layer : Layer) (m : ModuleTree) : Type 0 where
-  is_library : (n : ℕ) → layer ≡ Library n → slice_get f.lib n ≡ Some m → IsModuleAt e f layer m
-  is_global : (n : ℕ) → layer ≡ Global n → slice_get e.globals n ≡ Some m → IsModuleAt e f layer m
+-- the place of this number has this declaration as the first under the key
+pub record HasDeclaration (e : EngineLists) (f : Frame) (n : ℕ) (key : Key) (d : Declaration) : Type 0 where
+  pub place : Place
+  pub stands : slice_get (searched e f.lib f.imports) n ≡ Some place
+  pub declared : IsFirstWith key d place.pairs
 
--- the module at a place has this declaration as the first under the key
-pub record HasDeclaration (e : EngineLists) (f : Frame) (layer : Layer) (key : Key) (d : Declaration) : Type 0 where
-  pub tree : ModuleTree
-  pub stands : IsModuleAt e f layer tree
-  pub declared : IsFirstWith key d tree.own.eager
-
--- One module goes before another: a later library, a library before a global module, an earlier global module.
-pub data IsEarlier (layer other : Layer) : Type 0 where
-  later_library : (n m : ℕ) → layer ≡ Library n → other ≡ Library m → m < n → IsEarlier layer other
-  any_library : (n m : ℕ) → layer ≡ Library n → other ≡ Global m → IsEarlier layer other
-  earlier_global : (n m : ℕ) → layer ≡ Global n → other ≡ Global m → n < m → IsEarlier layer other
-
--- the source of the functions of a module; modules have no id yet
-abbrev pub source_of : EngineLists → ModuleTree → Option Bytes
-source_of e m = None
-
--- the pick is of a declaration under the key, and no module before its own declares the key
-pub record IsInFirstModule (e : EngineLists) (f : Frame) (key : Key) (pick : Pick) : Type 0 where
+-- the pick is of a declaration that a place has under the key, and no place of a lower number has one
+pub record IsInFirstPlace (e : EngineLists) (f : Frame) (key : Key) (pick : Pick) : Type 0 where
+  pub number : ℕ
   pub decl : Declaration
-  pub stands : HasDeclaration e f pick.layer key decl
+  pub stands : HasDeclaration e f number key decl
+  pub layer : pick.layer ≡ stands.place.layer
   pub func : pick.func ≡ decl.func
-  pub source : pick.source ≡ source_of e stands.tree
-  pub first : (layer : Layer) (other : Declaration) → HasDeclaration e f layer key other → IsEarlier layer pick.layer → ⊥
+  pub source : pick.source ≡ stands.place.source
+  pub first : (n : ℕ) (other : Declaration) → n < number → HasDeclaration e f n key other → ⊥
 
--- no module of a frame declares the key
+-- no place of a frame has a declaration under the key
 abbrev pub NoneDeclares : EngineLists → Frame → Key → Type 0
-NoneDeclares e f key = (layer : Layer) (d : Declaration) → HasDeclaration e f layer key d → ⊥
+NoneDeclares e f key = (n : ℕ) (d : Declaration) → HasDeclaration e f n key d → ⊥
 
 -- scripts of a type go first, then other scripts, then natives
 abbrev pub rank : Key → ℕ
@@ -93,24 +78,26 @@ rank (Typed path name params this_type) = 0
 rank (Script path name params) = 1
 rank (Native path name types) = 2
 
--- Of two declarations that match, under keys and in modules, the first goes before the other: its rank is lower; or both are natives, and its types are more exact; or the keys are the same, and its module goes before.
-pub data GoesBefore (kinds : List TypeTag) (key : Key) (layer : Layer) (other : Key) (behind : Layer) : Type 0 where
-  lower_rank : rank key < rank other → GoesBefore kinds key layer other behind
-  more_exact : (name : Bytes) (types others : List TypeTag) → key ≡ Native None name types → other ≡ Native None name others → IsMoreExact kinds types others → GoesBefore kinds key layer other behind
-  earlier_module : key ≡ other → IsEarlier layer behind → GoesBefore kinds key layer other behind
+-- Of two declarations that match, under keys and in places of these numbers, the first goes before the other: its rank is lower; or both are natives, and its types are more exact; or the keys are the same, and its number is lower.
+pub data GoesBefore (kinds : List TypeTag) (key : Key) (n : ℕ) (other : Key) (behind : ℕ) : Type 0 where
+  lower_rank : rank key < rank other → GoesBefore kinds key n other behind
+  more_exact : (name : Bytes) (types others : List TypeTag) → key ≡ Native None name types → other ≡ Native None name others → IsMoreExact kinds types others → GoesBefore kinds key n other behind
+  earlier_place : key ≡ other → n < behind → GoesBefore kinds key n other behind
 
 -- no declaration matches the call
 abbrev pub NoneMatches : EngineLists → Frame → CallRequest → Type 0
-NoneMatches e f call = (key : Key) (layer : Layer) (d : Declaration) → MatchesCall e call key → HasDeclaration e f layer key d → ⊥
+NoneMatches e f call = (key : Key) (n : ℕ) (d : Declaration) → MatchesCall e call key → HasDeclaration e f n key d → ⊥
 
--- the pick is of a declaration under this key, which matches the call, and before which none goes that matches
+-- the pick is of a declaration that a place has under this key, which matches the call, and before which none goes that matches
 pub record IsFirstMatch (e : EngineLists) (f : Frame) (call : CallRequest) (key : Key) (pick : Pick) : Type 0 where
   pub matches : MatchesCall e call key
+  pub number : ℕ
   pub decl : Declaration
-  pub stands : HasDeclaration e f pick.layer key decl
+  pub stands : HasDeclaration e f number key decl
+  pub layer : pick.layer ≡ stands.place.layer
   pub func : pick.func ≡ decl.func
-  pub source : pick.source ≡ source_of e stands.tree
-  pub first : (other : Key) (layer : Layer) (d : Declaration) → MatchesCall e call other → HasDeclaration e f layer other d → GoesBefore (kinds_in call) other layer key pick.layer → ⊥
+  pub source : pick.source ≡ stands.place.source
+  pub first : (other : Key) (n : ℕ) (d : Declaration) → MatchesCall e call other → HasDeclaration e f n other d → GoesBefore (kinds_in call) other n key number → ⊥
 
 -- the table has this function for the operator, and none before it
 pub record IsFirstBuiltin (operator : Operator) (id : FnId) (table : List (Operator × FnId)) : Type 0 where

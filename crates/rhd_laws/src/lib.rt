@@ -24,5 +24,6 @@ pub use missing::{a_fault_of_a_missing_call_is_by_its_name, a_missing_call_ends_
 pub use picks::{
     a_key_is_found_in_the_first_module, a_pick_matches_its_call,
     each_call_of_a_tree_shows_its_first_match, the_patterns_of_kinds_match_them,
+    the_places_of_a_frame,
 };
 pub use runs::each_tree_of_a_run_runs_where_the_run_came;

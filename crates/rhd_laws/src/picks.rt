@@ -1,6 +1,6 @@
 //! Laws of what answers a call.
 
-ghost use Rattle.std.specs.Prelude.{◌≡◌, ◌↔◌, ◌≤◌, ◌<◌, ◌^◌, ℕ, true, List, length, map, min, slice_get, Some, None};
+ghost use Rattle.std.specs.Prelude.{◌≡◌, ◌↔◌, ◌≤◌, ◌<◌, ◌+◌, ◌-◌, ◌^◌, ℕ, true, List, length, map, min, slice_get, Some, None};
 ghost use Rattle.std.specs.List.{Contains};
 ghost use Rattle.rhd_value.specs.declared.tag.TypeTag.{TypeTag};
 ghost use Rattle.rhd_func.specs.declared.request.CallRequest.{CallRequest};
@@ -8,10 +8,13 @@ ghost use Rattle.rhd_value.specs.Kinds.{tag_of};
 ghost use Rattle.rhd_value.specs.Tree.{Bytes, Tree};
 ghost use Rattle.rhd_hash.specs.declared.key.Key.{Key};
 ghost use Rattle.rhd_hash.specs.declared.key.Key.TheVariants.{Native};
+ghost use Rattle.rhd_module.specs.Shown.{shown};
+ghost use Rattle.rhd_module.specs.Tree.{ModuleTree};
+ghost use Rattle.rhd_call.specs.declared.pick.Layer.TheVariants.{Library, Global};
 ghost use Rattle.rhd_call.specs.declared.pick.Pick.{Pick};
 ghost use Rattle.rhd_engine.specs.Engine.{EngineLists, Frame};
 ghost use Rattle.rhd_dispatch.specs.Patterns.{patterns};
-ghost use Rattle.rhd_dispatch.specs.Searched.{found};
+ghost use Rattle.rhd_dispatch.specs.Searched.{searched, found};
 ghost use Rattle.rhd_laws.specs.FirstAsks.{IsAnsweredFirst, IsUnanswered};
 ghost use Rattle.rhd_session.specs.Plans.{plan_of};
 ghost use Rattle.rhd_session.specs.Decisions.{decision, refusal};
@@ -27,7 +30,7 @@ ghost use Rattle.rhd_call.specs.Trees.{InTree};
 ghost use Rattle.rhd_session.specs.Trees.{frame_at};
 ghost use Rattle.rhd_laws.specs.Unfound.{fault_number};
 ghost use Rattle.rhd_laws.specs.Causes.{IsOwn};
-ghost use Rattle.rhd_laws.specs.Matches.{TypesMatch, IsMoreExact, IsInFirstModule, NoneDeclares, NoneMatches, IsFirstMatch, HasBuiltin, IsAnsweredBy, all_received};
+ghost use Rattle.rhd_laws.specs.Matches.{TypesMatch, IsMoreExact, IsInFirstPlace, NoneDeclares, NoneMatches, IsFirstMatch, HasBuiltin, IsAnsweredBy, all_received};
 
 use rhd_func::{Bodies, Host, Natives};
 
@@ -41,10 +44,21 @@ pub fn the_patterns_of_kinds_match_them()
     ensures count { (kinds : List TypeTag) → length (patterns kinds) ≡ 2 ^ min 16 (length kinds) }
 {}
 
-/// A key is found in the first module of a frame that declares it, libraries latest first and then
-/// the global modules, and isn't found exactly where none does.
+/// A call looks in the libraries of its frame, latest first, and then in the global modules in order.
+/// Of m libraries that of number n is the place of number m - 1 - n, and the global module of number
+/// n is the place of number m + n. A place has the declarations of its module, and no source yet.
+pub fn the_places_of_a_frame()
+    ensures libraries { (e : EngineLists) (f : Frame) (n : ℕ) (m : ModuleTree) → slice_get f.lib n ≡ Some m
+        → slice_get (searched e f.lib f.imports) (length f.lib - 1 - n) ≡ Some (record { layer = Library n; source = None; pairs = shown m.own }) }
+    ensures global_modules { (e : EngineLists) (f : Frame) (n : ℕ) (m : ModuleTree) → slice_get e.globals n ≡ Some m
+        → slice_get (searched e f.lib f.imports) (length f.lib + n) ≡ Some (record { layer = Global n; source = None; pairs = shown m.own }) }
+    ensures count { (e : EngineLists) (f : Frame) → length (searched e f.lib f.imports) ≡ length f.lib + length e.globals }
+{}
+
+/// A key is found in the first place of a frame that has a declaration under it, and isn't found
+/// exactly where none has. What is found shows the first such declaration of that place.
 pub fn a_key_is_found_in_the_first_module()
-    ensures found { (e : EngineLists) (f : Frame) (key : Key) (pick : Pick) → (found e f.lib f.imports key ≡ Some pick) ↔ IsInFirstModule e f key pick }
+    ensures found { (e : EngineLists) (f : Frame) (key : Key) (pick : Pick) → (found e f.lib f.imports key ≡ Some pick) ↔ IsInFirstPlace e f key pick }
     ensures missing { (e : EngineLists) (f : Frame) (key : Key) → (found e f.lib f.imports key ≡ None) ↔ NoneDeclares e f key }
 {}
 
