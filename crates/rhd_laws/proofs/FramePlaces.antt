@@ -2,7 +2,7 @@
 use Rattle.std.proofs.Common.{◌≡◌, ℕ, ◌+◌, ◌-◌, List, [], ◌∷◌, ◌++◌, length, refl, sym, ap, ◌∙◌, arith}
 use Rattle.std.specs.Prelude.{zero, suc, slice_get, reverse, Some, option_map}
 use Rattle.std.specs.List.{enumerate_from}
-use Rattle.std.proofs.lemmas.List.{length-append, length-map, length-reverse, reverse-append}
+use Rattle.std.proofs.lemmas.List.{length-map, length-reverse, reverse-append}
 use Rattle.std.proofs.lemmas.List.FromFn.{length-enumerate_from}
 use Rattle.std.proofs.lemmas.Option.{slice_get-map}
 use Rattle.rhd_module.specs.Tree.{ModuleTree}
@@ -49,9 +49,6 @@ with_own xs n x is = let z : 0 + n ≡ n = omega arith in with_number 0 xs n x i
 as_many_libraries : (e : EngineLists) (libs : List ModuleTree) → length (libraries e libs) ≡ length libs
 as_many_libraries e libs = length-map (reverse (enumerate_from 0 libs)) (own_place e Library) ∙ length-reverse (enumerate_from 0 libs) ∙ length-enumerate_from 0 libs
 
-as_many_globals : (e : EngineLists) → length (global_modules e) ≡ length e.globals
-as_many_globals e = length-map (enumerate_from 0 e.globals) (own_place e Global) ∙ length-enumerate_from 0 e.globals
-
 pub library_place : (e : EngineLists) (f : Frame) (n : ℕ) (m : ModuleTree) → slice_get f.lib n ≡ Some m → slice_get (searched e f.lib f.imports) (length f.lib - 1 - n) ≡ Some (own_place e Library (n, m))
 library_place e f n m is =
     let l = length-enumerate_from 0 f.lib in
@@ -64,6 +61,3 @@ pub global_place : (e : EngineLists) (f : Frame) (n : ℕ) (m : ModuleTree) → 
 global_place e f n m is =
     ap (λ (k : ℕ). slice_get (searched e f.lib f.imports) (k + n)) (sym (as_many_libraries e f.lib)) ∙ in_back (libraries e f.lib) (global_modules e) n
     ∙ slice_get-map (own_place e Global) (enumerate_from 0 e.globals) n ∙ ap (option_map (own_place e Global)) (with_own e.globals n m is)
-
-pub count_places : (e : EngineLists) (f : Frame) → length (searched e f.lib f.imports) ≡ length f.lib + length e.globals
-count_places e f = length-append (libraries e f.lib) (global_modules e) ∙ (λ i. as_many_libraries e f.lib i + as_many_globals e i)

@@ -1,4 +1,5 @@
-use Rattle.rhd_laws.proofs.FramePlaces.{library_place, global_place, count_places}
+use Rattle.rhd_dispatch.proofs.Looks.{places_count}
+use Rattle.rhd_laws.proofs.FramePlaces.{library_place, global_place}
 use Rattle.rhd_laws.proofs.picks.the_places_of_a_frame.Goals as goal
 
 pub returns-clause-libraries : goal.returns-clause-libraries
@@ -8,4 +9,4 @@ pub returns-clause-global_modules : goal.returns-clause-global_modules
 returns-clause-global_modules c = global_place
 
 pub returns-clause-count : goal.returns-clause-count
-returns-clause-count c = count_places
+returns-clause-count c = λ e f. places_count e f.lib f.imports
