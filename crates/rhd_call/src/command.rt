@@ -2,8 +2,10 @@
 
 ghost use Rattle.std.specs.Prelude.{◌≡◌, ◌++◌, ◌∷◌, [], length, if◌then◌else◌, is_ok, IfOk};
 
-use rhd_func::{CallRequest, SharedDef};
-use rhd_value::{FnId, OutOfMemory, Text};
+use rhd_func::{CallRequest, FnNamespace, RhaiFunc, SharedDef};
+use rhd_hash::Key;
+use rhd_module::FuncRegistration;
+use rhd_value::{Dynamic, FnId, OutOfMemory, Text, Types};
 use std::alloc::Global;
 use std::marker::Model;
 
@@ -16,16 +18,66 @@ pub struct ModuleId(pub u32);
 pub enum Command {
     /// Makes an empty module, which gets the next number.
     NewModule,
+    /// Sets a module's id; an empty one clears it.
+    SetId { module: ModuleId, id: Text },
+    /// Sets a module's documentation.
+    SetDoc { module: ModuleId, doc: Text },
+    /// Sets a variable of a module.
+    SetVar {
+        module: ModuleId,
+        name: Text,
+        value: Dynamic,
+    },
+    /// The type of this type name is shown by this name in a module.
+    SetType {
+        module: ModuleId,
+        type_name: Text,
+        display: Text,
+    },
+    /// Registers a native in a module.
+    Native {
+        module: ModuleId,
+        reg: FuncRegistration,
+        id: FnId,
+    },
+    /// Registers a function in a module under a name, with these types.
+    RawNative {
+        module: ModuleId,
+        name: Text,
+        namespace: FnNamespace,
+        types: Types,
+        func: RhaiFunc,
+    },
     /// Declares a script in a module.
     Script { module: ModuleId, def: SharedDef },
+    /// Puts a module, as it is then, under a name into a module.
+    SubModule {
+        module: ModuleId,
+        name: Text,
+        sub: ModuleId,
+    },
+    /// Takes all out of a module but its id and own flags.
+    Clear { module: ModuleId },
     /// Registers a native under a name, for all calls.
     RegisterFn { name: Text, id: FnId },
+    /// Registers a native under a name as a method with these types, for all calls.
+    RegisterRaw {
+        name: Text,
+        types: Types,
+        id: FnId,
+    },
+    /// The custom type of a number is shown by this name.
+    RegisterType { kind: u32, display: Text },
     /// Puts a module last among the libraries, as it is then.
     PushLib { module: ModuleId },
     /// Takes the last library off.
     PopLib,
     /// Makes a call.
     Call(CallRequest),
+    /// How many variables and functions a module has.
+    Count { module: ModuleId },
+    /// Whether a module has a function under a key.
+    Contains { module: ModuleId, key: Key },
 }
 
 impl Command {
@@ -35,17 +87,73 @@ impl Command {
     {
         match self {
             Command::NewModule => Ok(Command::NewModule),
+            Command::SetId { module, id } => Ok(Command::SetId {
+                module: *module,
+                id: id.dup(alloc)?,
+            }),
+            Command::SetDoc { module, doc } => Ok(Command::SetDoc {
+                module: *module,
+                doc: doc.dup(alloc)?,
+            }),
+            Command::SetVar { module, name, value } => Ok(Command::SetVar {
+                module: *module,
+                name: name.dup(alloc)?,
+                value: value.dup(alloc)?,
+            }),
+            Command::SetType { module, type_name, display } => Ok(Command::SetType {
+                module: *module,
+                type_name: type_name.dup(alloc)?,
+                display: display.dup(alloc)?,
+            }),
+            Command::Native { module, reg, id } => Ok(Command::Native {
+                module: *module,
+                reg: reg.dup(alloc)?,
+                id: *id,
+            }),
+            Command::RawNative { module, name, namespace, types, func } => Ok(Command::RawNative {
+                module: *module,
+                name: name.dup(alloc)?,
+                namespace: *namespace,
+                types: types.dup(alloc)?,
+                func: func.dup(alloc)?,
+            }),
             Command::Script { module, def } => Ok(Command::Script {
                 module: *module,
                 def: def.dup(alloc)?,
+            }),
+            Command::SubModule { module, name, sub } => Ok(Command::SubModule {
+                module: *module,
+                name: name.dup(alloc)?,
+                sub: *sub,
+            }),
+            Command::Clear { module } => Ok(Command::Clear {
+                module: *module,
             }),
             Command::RegisterFn { name, id } => Ok(Command::RegisterFn {
                 name: name.dup(alloc)?,
                 id: *id,
             }),
-            Command::PushLib { module } => Ok(Command::PushLib { module: *module }),
+            Command::RegisterRaw { name, types, id } => Ok(Command::RegisterRaw {
+                name: name.dup(alloc)?,
+                types: types.dup(alloc)?,
+                id: *id,
+            }),
+            Command::RegisterType { kind, display } => Ok(Command::RegisterType {
+                kind: *kind,
+                display: display.dup(alloc)?,
+            }),
+            Command::PushLib { module } => Ok(Command::PushLib {
+                module: *module,
+            }),
             Command::PopLib => Ok(Command::PopLib),
             Command::Call(request) => Ok(Command::Call(request.dup(alloc)?)),
+            Command::Count { module } => Ok(Command::Count {
+                module: *module,
+            }),
+            Command::Contains { module, key } => Ok(Command::Contains {
+                module: *module,
+                key: key.dup(alloc)?,
+            }),
         }
     }
 }

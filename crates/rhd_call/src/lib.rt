@@ -8,5 +8,6 @@ mod reply;
 
 pub use command::{Command, Commands, ModuleId};
 pub use node::{CallNode, Carries, Nodes, Whose};
-pub use pick::{Layer, Pick, SharedText};
+pub use pick::{Layer, Pick};
+pub use rhd_func::SharedText;
 pub use reply::{Replies, Reply, Stopped};

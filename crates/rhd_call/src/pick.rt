@@ -2,11 +2,9 @@
 
 ghost use Rattle.std.specs.Prelude.{◌≡◌, IfOk};
 
-use rhd_func::RhaiFunc;
-use rhd_value::{OutOfMemory, Text};
+use rhd_func::{RhaiFunc, SharedText};
+use rhd_value::OutOfMemory;
 use std::alloc::Global;
-use std::marker::Model;
-use std::rc::Rc;
 
 /// Where a function was found. A number is a place in its list, counted from 0.
 #[derive(Clone, Copy, PartialEq, Eq, Debug)]
@@ -17,45 +15,6 @@ pub enum Layer {
     Global(u64),
     /// The table of built-in operators.
     Builtin,
-}
-
-/// A text with several owners. Contracts see the text itself.
-#[derive(Drop)]
-pub struct SharedText {
-    text: Rc<Text>,
-}
-
-impl Model for SharedText {
-    ghost use Rattle.rhd_value.specs.Tree.{Bytes};
-
-    ghost Value = { Bytes };
-
-    ghost view = { λ a. a.text.value };
-}
-
-impl SharedText {
-    pub fn new(alloc: Global, text: Text) -> Result<SharedText, OutOfMemory>
-        ensures { IfOk result (λ shared. shared ≡ text) }
-    {
-        Ok(SharedText {
-            text: Rc::new(alloc, text)?,
-        })
-    }
-
-    pub fn text(&self) -> &Text
-        ensures { result.now ≡ self.now }
-    {
-        &self.text
-    }
-
-    /// One more owner of the same text.
-    pub fn dup(&self, _alloc: Global) -> Result<SharedText, OutOfMemory>
-        ensures { IfOk result (λ shared. shared ≡ self.now) }
-    {
-        Ok(SharedText {
-            text: self.text.clone()?,
-        })
-    }
 }
 
 /// A function, and where it was found.

@@ -18,6 +18,10 @@ pub enum Reply {
     Made(ModuleId),
     /// A declaration was refused, and nothing has changed. Want of memory is no reply.
     Refused(DeclFault),
+    /// How many variables, functions and functions that iterate a module has.
+    Count(u64, u64, u64),
+    /// Whether something is so.
+    Truth(bool),
     /// A call was made.
     Called(CallNode),
 }

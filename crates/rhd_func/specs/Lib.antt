@@ -1,4 +1,5 @@
 pub mod Natives
+pub mod Access
 pub mod Funcs
 pub mod Shapes
 pub mod GivenBack

@@ -1,10 +1,12 @@
 //! The function that a declaration names.
 
 ghost use Rattle.std.specs.Prelude.{◌≡◌, IfOk};
-ghost use Rattle.rhd_func.specs.Funcs.{is_pure, is_volatile, is_method, has_context, is_script, native_of};
+ghost use Rattle.std.specs.Option.{option_copied};
+ghost use Rattle.rhd_func.specs.declared.func.RhaiFunc.TheVariants.{Plugin};
+ghost use Rattle.rhd_func.specs.Funcs.{is_pure, is_volatile, is_method, has_context, is_iter, is_script, is_plugin_fn, is_native, access_of, native_of, native_fn_of, plugin_fn_of, iter_fn_of, script_def_of};
 ghost use Rattle.rhd_func.specs.Infos.{infos_in};
 
-use crate::access::{EnvId, FnAccess};
+use crate::access::{EnvId, FnAccess, IterId};
 use crate::natives::Natives;
 use crate::request::dup_text;
 use rhd_value::{FnId, OutOfMemory, Text, Texts};
@@ -84,11 +86,12 @@ impl SharedDef {
 
 /// A function.
 ///
-/// `func` is the number of its native. `has_context`: it is handed the context of the call.
-/// `is_pure`: it may be called on a constant. `is_volatile`: it may answer otherwise the next time.
+/// `func` is the number of its native, or of the function that iterates. `has_context`: it is handed the
+/// context of the call. `is_pure`: it may be called on a constant. `is_volatile`: it may answer otherwise
+/// the next time.
 ///
-/// What may depend on a native is asked with the table of natives beside it. A function that holds
-/// its own answers, as these variants do, answers without the table.
+/// A plugin has the properties that its native says of itself, so they are asked with the table of
+/// natives beside it; of a number that isn't held nothing holds.
 #[derive(Drop)]
 pub enum RhaiFunc {
     /// A native that takes all its arguments by value.
@@ -105,6 +108,12 @@ pub enum RhaiFunc {
         is_pure: bool,
         is_volatile: bool,
     },
+    /// A function that iterates. It isn't called.
+    Iterator { func: IterId },
+    /// A native, as it says of itself.
+    Plugin { func: FnId },
+    /// The same of a native that is listed.
+    StaticPlugin { func: FnId },
     /// A script, and the environment in which it was defined, if there is one.
     Script {
         fn_def: SharedDef,
@@ -121,18 +130,10 @@ impl RhaiFunc {
         match self {
             RhaiFunc::Pure { .. } => true,
             RhaiFunc::Method { is_pure, .. } => *is_pure,
+            RhaiFunc::Iterator { .. } => true,
+            RhaiFunc::Plugin { func } => natives.is_pure(*func),
+            RhaiFunc::StaticPlugin { func } => natives.is_pure(*func),
             RhaiFunc::Script { .. } => false,
-        }
-    }
-
-    /// Whether it may answer otherwise the next time. A script always may.
-    pub fn is_volatile(&self, natives: &Natives) -> bool
-        ensures { result ≡ is_volatile (infos_in info natives.now.items.items) self.now }
-    {
-        match self {
-            RhaiFunc::Pure { is_volatile, .. } => *is_volatile,
-            RhaiFunc::Method { is_volatile, .. } => *is_volatile,
-            RhaiFunc::Script { .. } => true,
         }
     }
 
@@ -143,6 +144,9 @@ impl RhaiFunc {
         match self {
             RhaiFunc::Pure { .. } => false,
             RhaiFunc::Method { .. } => true,
+            RhaiFunc::Iterator { .. } => false,
+            RhaiFunc::Plugin { func } => natives.is_method(*func),
+            RhaiFunc::StaticPlugin { func } => natives.is_method(*func),
             RhaiFunc::Script { .. } => false,
         }
     }
@@ -154,6 +158,37 @@ impl RhaiFunc {
         match self {
             RhaiFunc::Pure { has_context, .. } => *has_context,
             RhaiFunc::Method { has_context, .. } => *has_context,
+            RhaiFunc::Iterator { .. } => false,
+            RhaiFunc::Plugin { func } => natives.has_context(*func),
+            RhaiFunc::StaticPlugin { func } => natives.has_context(*func),
+            RhaiFunc::Script { .. } => false,
+        }
+    }
+
+    /// Whether it may answer otherwise the next time. A script and a function that iterates may.
+    pub fn is_volatile(&self, natives: &Natives) -> bool
+        ensures { result ≡ is_volatile (infos_in info natives.now.items.items) self.now }
+    {
+        match self {
+            RhaiFunc::Pure { is_volatile, .. } => *is_volatile,
+            RhaiFunc::Method { is_volatile, .. } => *is_volatile,
+            RhaiFunc::Iterator { .. } => true,
+            RhaiFunc::Plugin { func } => natives.is_volatile(*func),
+            RhaiFunc::StaticPlugin { func } => natives.is_volatile(*func),
+            RhaiFunc::Script { .. } => true,
+        }
+    }
+
+    /// Whether it is a function that iterates.
+    pub fn is_iter(&self) -> bool
+        ensures { result ≡ is_iter self.now }
+    {
+        match self {
+            RhaiFunc::Pure { .. } => false,
+            RhaiFunc::Method { .. } => false,
+            RhaiFunc::Iterator { .. } => true,
+            RhaiFunc::Plugin { .. } => false,
+            RhaiFunc::StaticPlugin { .. } => false,
             RhaiFunc::Script { .. } => false,
         }
     }
@@ -165,19 +200,130 @@ impl RhaiFunc {
         match self {
             RhaiFunc::Pure { .. } => false,
             RhaiFunc::Method { .. } => false,
+            RhaiFunc::Iterator { .. } => false,
+            RhaiFunc::Plugin { .. } => false,
+            RhaiFunc::StaticPlugin { .. } => false,
             RhaiFunc::Script { .. } => true,
         }
     }
 
-    /// The number of the native that runs it; none for a script.
-    pub fn get_native_fn(&self) -> Option<FnId>
+    /// Whether it is a plugin.
+    pub fn is_plugin_fn(&self) -> bool
+        ensures { result ≡ is_plugin_fn self.now }
+    {
+        match self {
+            RhaiFunc::Pure { .. } => false,
+            RhaiFunc::Method { .. } => false,
+            RhaiFunc::Iterator { .. } => false,
+            RhaiFunc::Plugin { .. } => true,
+            RhaiFunc::StaticPlugin { .. } => true,
+            RhaiFunc::Script { .. } => false,
+        }
+    }
+
+    /// Whether it isn't defined by a script.
+    pub fn is_native(&self) -> bool
+        ensures { result ≡ is_native self.now }
+    {
+        match self {
+            RhaiFunc::Pure { .. } => true,
+            RhaiFunc::Method { .. } => true,
+            RhaiFunc::Iterator { .. } => true,
+            RhaiFunc::Plugin { .. } => true,
+            RhaiFunc::StaticPlugin { .. } => true,
+            RhaiFunc::Script { .. } => false,
+        }
+    }
+
+    /// Who may call it: a script's definition says it, and all others are public.
+    pub fn access(&self) -> FnAccess
+        ensures { result ≡ access_of self.now }
+    {
+        match self {
+            RhaiFunc::Pure { .. } => FnAccess::Public,
+            RhaiFunc::Method { .. } => FnAccess::Public,
+            RhaiFunc::Iterator { .. } => FnAccess::Public,
+            RhaiFunc::Plugin { .. } => FnAccess::Public,
+            RhaiFunc::StaticPlugin { .. } => FnAccess::Public,
+            RhaiFunc::Script { fn_def, .. } => fn_def.def().access,
+        }
+    }
+
+    /// The number of the native that runs it; none for a script, and for a function that iterates.
+    pub fn native_id(&self) -> Option<FnId>
         ensures { result ≡ native_of self.now }
     {
         match self {
             RhaiFunc::Pure { func, .. } => Some(*func),
             RhaiFunc::Method { func, .. } => Some(*func),
+            RhaiFunc::Iterator { .. } => None,
+            RhaiFunc::Plugin { func } => Some(*func),
+            RhaiFunc::StaticPlugin { func } => Some(*func),
             RhaiFunc::Script { .. } => None,
         }
+    }
+
+    /// The number of a native that isn't a plugin.
+    pub fn get_native_fn(&self) -> Option<FnId>
+        ensures { result ≡ native_fn_of self.now }
+    {
+        match self {
+            RhaiFunc::Pure { func, .. } => Some(*func),
+            RhaiFunc::Method { func, .. } => Some(*func),
+            RhaiFunc::Iterator { .. } => None,
+            RhaiFunc::Plugin { .. } => None,
+            RhaiFunc::StaticPlugin { .. } => None,
+            RhaiFunc::Script { .. } => None,
+        }
+    }
+
+    /// The number of a plugin's native.
+    pub fn get_plugin_fn(&self) -> Option<FnId>
+        ensures { result ≡ plugin_fn_of self.now }
+    {
+        match self {
+            RhaiFunc::Pure { .. } => None,
+            RhaiFunc::Method { .. } => None,
+            RhaiFunc::Iterator { .. } => None,
+            RhaiFunc::Plugin { func } => Some(*func),
+            RhaiFunc::StaticPlugin { func } => Some(*func),
+            RhaiFunc::Script { .. } => None,
+        }
+    }
+
+    /// The number of a function that iterates.
+    pub fn get_iter_fn(&self) -> Option<IterId>
+        ensures { result ≡ iter_fn_of self.now }
+    {
+        match self {
+            RhaiFunc::Pure { .. } => None,
+            RhaiFunc::Method { .. } => None,
+            RhaiFunc::Iterator { func } => Some(*func),
+            RhaiFunc::Plugin { .. } => None,
+            RhaiFunc::StaticPlugin { .. } => None,
+            RhaiFunc::Script { .. } => None,
+        }
+    }
+
+    /// The definition of a script.
+    pub fn get_script_fn_def(&self) -> Option<&SharedDef>
+        ensures { option_copied result ≡ script_def_of self.now }
+    {
+        match self {
+            RhaiFunc::Pure { .. } => None,
+            RhaiFunc::Method { .. } => None,
+            RhaiFunc::Iterator { .. } => None,
+            RhaiFunc::Plugin { .. } => None,
+            RhaiFunc::StaticPlugin { .. } => None,
+            RhaiFunc::Script { fn_def, .. } => Some(fn_def),
+        }
+    }
+
+    /// The native of a number, as it says of itself.
+    pub fn plugin(id: FnId) -> RhaiFunc
+        ensures { result ≡ Plugin id }
+    {
+        RhaiFunc::Plugin { func: id }
     }
 
     /// An equal function.
@@ -207,10 +353,25 @@ impl RhaiFunc {
                 is_pure: *is_pure,
                 is_volatile: *is_volatile,
             }),
+            RhaiFunc::Iterator { func } => Ok(RhaiFunc::Iterator { func: *func }),
+            RhaiFunc::Plugin { func } => Ok(RhaiFunc::Plugin { func: *func }),
+            RhaiFunc::StaticPlugin { func } => Ok(RhaiFunc::StaticPlugin { func: *func }),
             RhaiFunc::Script { fn_def, env } => Ok(RhaiFunc::Script {
                 fn_def: fn_def.dup(alloc)?,
                 env: *env,
             }),
         }
+    }
+}
+
+/// A script without an environment.
+impl From<SharedDef> for RhaiFunc {
+    ghost use Rattle.std.specs.Prelude.{◌≡◌, None};
+    ghost use Rattle.rhd_func.specs.declared.func.RhaiFunc.TheVariants.{Script};
+
+    ghost from_gives = { λ def func. func ≡ Script def None };
+
+    fn from(fn_def: SharedDef) -> RhaiFunc {
+        RhaiFunc::Script { fn_def, env: None }
     }
 }

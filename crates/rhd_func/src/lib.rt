@@ -9,8 +9,9 @@ mod host;
 mod native;
 mod natives;
 mod request;
+mod shared_text;
 
-pub use access::{EnvId, FnAccess, FnNamespace};
+pub use access::{EnvId, FnAccess, FnNamespace, IterId, ManifestId};
 pub use bodies::Bodies;
 pub use func::{BodyId, RhaiFunc, ScriptFuncDef, SharedDef};
 pub use host::Host;
@@ -19,3 +20,4 @@ pub use natives::Natives;
 pub use request::{
     CallDone, CallRequest, CallShape, Carry, HostAnswer, NativeCallContext, NativeStep,
 };
+pub use shared_text::SharedText;

@@ -2,7 +2,8 @@
 
 ghost use Rattle.std.specs.Prelude.{◌≡◌, ◌<◌, ◌+◌, ◌^◌, ◌++◌, ◌∷◌, [], IfOk, IfErr, OnOk, length, slice_get, Some};
 ghost use Rattle.std.specs.Option.{option_copied};
-ghost use Rattle.rhd_func.specs.Natives.{StartAllowed, ResumeAllowed};
+ghost use Rattle.rhd_func.specs.Infos.{infos_in};
+ghost use Rattle.rhd_func.specs.Natives.{StartAllowed, ResumeAllowed, says};
 ghost use Rattle.rhd_func.specs.GivenBack.{GivesBack};
 
 use crate::native::PluginFunc;
@@ -44,6 +45,34 @@ fn resume_box(
     native.resume(alloc, ctx, carry, done)
 }
 
+/// Whether one native may be called on a constant.
+fn pure_of(native: &Box<dyn PluginFunc>) -> bool
+    ensures { result ≡ (info native.now).is_pure }
+{
+    native.is_pure()
+}
+
+/// Whether one native takes its first argument by reference.
+fn method_of(native: &Box<dyn PluginFunc>) -> bool
+    ensures { result ≡ (info native.now).is_method }
+{
+    native.is_method_call()
+}
+
+/// Whether one native is handed the context of the call.
+fn context_of(native: &Box<dyn PluginFunc>) -> bool
+    ensures { result ≡ (info native.now).has_context }
+{
+    native.has_context()
+}
+
+/// Whether one native may answer otherwise the next time.
+fn volatile_of(native: &Box<dyn PluginFunc>) -> bool
+    ensures { result ≡ (info native.now).is_volatile }
+{
+    native.is_volatile()
+}
+
 impl Natives {
     pub fn new(alloc: Global) -> Natives
         ensures { result.items.items ≡ [] }
@@ -83,6 +112,46 @@ impl Natives {
         ensures { result ≡ length self.now.items.items }
     {
         self.items.len()
+    }
+
+    /// Whether the native of a number may be called on a constant; false where it isn't held.
+    pub fn is_pure(&self, id: FnId) -> bool
+        ensures { result ≡ says (λ n. n.is_pure) (infos_in info self.now.items.items) id }
+    {
+        match self.get(id) {
+            Some(native) => pure_of(native),
+            None => false,
+        }
+    }
+
+    /// Whether the native of a number takes its first argument by reference; false where it isn't held.
+    pub fn is_method(&self, id: FnId) -> bool
+        ensures { result ≡ says (λ n. n.is_method) (infos_in info self.now.items.items) id }
+    {
+        match self.get(id) {
+            Some(native) => method_of(native),
+            None => false,
+        }
+    }
+
+    /// Whether the native of a number is handed the context of the call; false where it isn't held.
+    pub fn has_context(&self, id: FnId) -> bool
+        ensures { result ≡ says (λ n. n.has_context) (infos_in info self.now.items.items) id }
+    {
+        match self.get(id) {
+            Some(native) => context_of(native),
+            None => false,
+        }
+    }
+
+    /// Whether the native of a number may answer otherwise the next time; false where it isn't held.
+    pub fn is_volatile(&self, id: FnId) -> bool
+        ensures { result ≡ says (λ n. n.is_volatile) (infos_in info self.now.items.items) id }
+    {
+        match self.get(id) {
+            Some(native) => volatile_of(native),
+            None => false,
+        }
     }
 
     /// Calls the native of a number. A first argument is given back exactly where one was given.

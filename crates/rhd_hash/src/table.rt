@@ -1,6 +1,6 @@
 //! Tables by key.
 
-ghost use Rattle.std.specs.Prelude.{◌≡◌, [], length, slice_get, None, IfOk, IfErr, OnOk, OnErr, IfSome, IfNone, IsErr};
+ghost use Rattle.std.specs.Prelude.{◌≡◌, [], length, take, slice_get, None, IfOk, IfErr, OnOk, OnErr, IfSome, IfNone, IsErr};
 ghost use Rattle.std.specs.List.{Contains};
 ghost use Rattle.std.specs.Option.{option_map, option_copied};
 ghost use Rattle.std.specs.Map.{lookup, keys_of};
@@ -132,6 +132,15 @@ impl<V> KeyTable<V> {
             return Err(TableFault::Clash { held, new: key });
         }
         self.put(key, value)
+    }
+
+    /// Keeps the first pairs alone.
+    pub fn truncate(&mut self, len: usize)
+    where
+        V: Drop,
+        ensures { self.new ≡ record self.old { pairs = take len self.old.pairs } }
+    {
+        self.slots.truncate(len);
     }
 
     /// A copy of the key that clashes with this one.

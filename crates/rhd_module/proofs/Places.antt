@@ -9,7 +9,7 @@ use Rattle.rhd_value.specs.Same.{text_eq}
 use Rattle.rhd_value.specs.declared.tag.TypeTag.{TypeTag}
 use Rattle.rhd_hash.specs.declared.key.Key.{Key}
 use Rattle.rhd_hash.specs.declared.key.Key.TheVariants.{Script, Typed, Native}
-use Rattle.rhd_module.specs.declared.declaration.Declaration.{Declaration}
+use Rattle.rhd_decl.specs.declared.declaration.Declaration.{Declaration}
 use Rattle.rhd_module.specs.declared.native_index.NativeIndex.{NativeIndex}
 use Rattle.rhd_hash.specs.Keys.{key_eq}
 use Rattle.rhd_module.specs.Tree.{Pairs}

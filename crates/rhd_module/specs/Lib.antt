@@ -1,4 +1,6 @@
 pub mod Tree
+pub mod Codes
+pub mod Contents
 pub mod Shown
 pub mod Registered
 pub mod Matching

@@ -2,7 +2,7 @@
 
 ghost use Rattle.std.specs.Prelude.{◌≡◌, ◌≢◌, ◌↔◌, Some, None};
 ghost use Rattle.rhd_hash.specs.declared.key.Key.{Key};
-ghost use Rattle.rhd_module.specs.declared.declaration.Declaration.{Declaration};
+ghost use Rattle.rhd_decl.specs.declared.declaration.Declaration.{Declaration};
 ghost use Rattle.rhd_module.specs.Tree.{ModuleTree};
 ghost use Rattle.rhd_module.specs.Shown.{own_decl};
 ghost use Rattle.rhd_module.specs.Registered.{with_decl};

@@ -1,17 +1,16 @@
-//! Modules: functions by key, and what a key finds.
+//! Modules: what they hold, how it is put, and what a key finds.
 #![tactic(auto)]
 
-mod declaration;
-mod fault;
+mod contents;
 mod law;
 mod module;
 mod native_index;
 mod registration;
+mod setters;
 mod shared;
 
-pub use declaration::Declaration;
-pub use fault::DeclFault;
 pub use law::{a_declaration_leaves_the_others, a_key_finds_its_first_declaration};
 pub use module::Module;
-pub use registration::{native_declaration, native_key, script_declaration, script_key};
+pub use registration::{FuncRegistration, native_key, script_declaration, script_key};
+pub use rhd_decl::{CustomTypeInfo, CustomTypesCollection, DeclFault, Declaration, FuncMetadata};
 pub use shared::SharedModule;

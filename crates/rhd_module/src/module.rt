@@ -1,30 +1,40 @@
 //! A module.
 
-ghost use Rattle.std.specs.Prelude.{◌≡◌, ℕ, List, ◌++◌, is_none, OnOk, OnErr, IfOk};
-ghost use Rattle.std.specs.Map.{lookup};
+ghost use Rattle.std.specs.Prelude.{◌≡◌, ℕ, List, ◌++◌, [], None, is_none, is_some, OnOk, OnErr, IfOk, IfErr, IsErr};
+ghost use Rattle.std.specs.List.{Contains};
+ghost use Rattle.std.specs.Map.{lookup, keys_of};
 ghost use Rattle.std.specs.Option.{option_copied, option_map};
-ghost use Rattle.rhd_module.specs.Tree.{empty_module};
-ghost use Rattle.rhd_hash.specs.Steps.{raised};
-ghost use Rattle.rhd_module.specs.Shown.{own_decl};
-ghost use Rattle.rhd_module.specs.Registered.{put, with_decl, native_key, native_decl, script_key, script_decl};
 ghost use Rattle.rhd_hash.specs.Keys.{key_eq};
+ghost use Rattle.rhd_hash.specs.Parts.{mixed};
+ghost use Rattle.rhd_hash.specs.Steps.{raised};
+ghost use Rattle.rhd_hash.specs.Table.{HasOwnHashes};
+ghost use Rattle.rhd_module.specs.Tree.{empty_module};
+ghost use Rattle.rhd_module.specs.Shown.{own_decl};
+ghost use Rattle.rhd_module.specs.Registered.{put, with_decl, Puts};
 ghost use Rattle.rhd_module.specs.Matching.{may_match};
 ghost use Rattle.rhd_module.specs.NativeIndex.{noted, place_at, matches_at};
 
-use crate::declaration::Declaration;
 use crate::native_index::NativeIndex;
-use crate::registration::{native_declaration, native_key, script_declaration, script_key};
-use indexmap::IndexMap;
-use rhd_func::{PluginFunc, RhaiFunc, SharedDef};
-use rhd_hash::{Key, Steps};
-use rhd_value::{FnId, OutOfMemory, Text, TypeTag};
+use rhd_decl::{CustomTypesCollection, DeclFault, Declaration, Switches};
+use rhd_func::{RhaiFunc, SharedText};
+use rhd_hash::{Key, KeyTable, Seeds, Steps};
+use rhd_value::{Entries, OutOfMemory, Text, TypeTag};
 use std::alloc::{AllocError, Global};
+use std::collections::BTreeMap;
 use std::marker::Model;
+use std::rc::Rc;
 
-/// Functions by key, in the order in which their keys came first. Contracts see its lists.
+/// Functions by key, with variables, custom types and sub-modules. Contracts see its lists.
 #[derive(Drop)]
 pub struct Module {
-    declarations: IndexMap<Key, Declaration>,
+    pub(crate) id: Option<SharedText>,
+    pub(crate) doc: Text,
+    pub(crate) types: CustomTypesCollection,
+    pub(crate) vars: Entries,
+    /// Declarations, in the order in which their keys came first.
+    pub(crate) eager: KeyTable<Declaration>,
+    pub(crate) subs: BTreeMap<Text, Rc<Module>>,
+    pub(crate) flags: Switches,
     /// Where the natives of a name stand among the declarations.
     natives: NativeIndex,
     /// Whether a script was ever declared: if not, a search for one ends at once.
@@ -32,79 +42,109 @@ pub struct Module {
 }
 
 impl Model for Module {
-    ghost use Rattle.rhd_module.specs.Tree.{ModuleTree};
+    ghost use Rattle.std.specs.Prelude.{[]};
+    ghost use Rattle.std.proofs.Common.{arith};
+    ghost use Rattle.rhd_module.specs.Tree.{ModuleTree, subs_of, depth};
+    ghost use Rattle.rhd_module.specs.Codes.{tree_code, most_le-depth};
     ghost use Rattle.rhd_module.specs.NativeIndex.{IsIndex};
     ghost use Rattle.rhd_module.specs.Scripts.{AreNoted};
 
     ghost Value = { ModuleTree };
 
-    ghost view = { λ m. record { own = record { eager = m.declarations.entries } } };
+    ghost coded = { tree_code };
 
-    ghost invariant = { λ m. IsIndex m.natives m.declarations.entries × AreNoted m.scripts m.declarations.entries };
-}
+    ghost view = { λ m. record {
+      own = record { id = m.id; doc = m.doc; types = m.types; vars = m.vars; eager = m.eager.pairs; manifests = []; iterators = []; internal = m.flags.internal; standard = m.flags.standard; indexed = m.flags.indexed; seeds = m.eager.seeds };
+      subs = subs_of m.subs.entries;
+    } };
 
-/// Puts a declaration under a key. Whether no equal key was there, so that it went last.
-#[tactic(auto, using(crate::proofs::Puts::put_is))]
-fn put(
-    declarations: &mut IndexMap<Key, Declaration>,
-    key: Key,
-    declaration: Declaration,
-) -> Result<bool, OutOfMemory>
-    ensures answer { IfOk result (λ last. last ≡ is_none (lookup (key_eq key) declarations.old.entries)) }
-    ensures ok { OnOk result (declarations.new.entries ≡ put key declaration declarations.old.entries) }
-    ensures err { OnErr result (declarations.new.entries ≡ declarations.old.entries) }
-{
-    let was = declarations.insert(key, declaration)?;
-    Ok(was.is_none())
+    ghost invariant = { λ m. IsIndex m.natives m.eager.pairs × AreNoted m.scripts m.eager.pairs };
+
+    ghost size = { λ t. depth t.subs };
+
+    ghost size_decreases = { λ a h. omega (arith, most_le-depth a.subs.entries) };
 }
 
 /// Notes the place of a declaration under its name, if it is a native's without a path.
 fn note_place(
     natives: &mut NativeIndex,
-    declarations: &IndexMap<Key, Declaration>,
+    alloc: Global,
+    declarations: &KeyTable<Declaration>,
     place: usize,
 ) -> Result<(), OutOfMemory>
-    ensures ok { OnOk result ((name : List ℕ) → noted natives.new name ≡ noted natives.old name ++ place_at name declarations.now.entries place) }
+    ensures ok { OnOk result ((name : List ℕ) → noted natives.new name ≡ noted natives.old name ++ place_at name declarations.now.pairs place) }
     ensures err { OnErr result ((name : List ℕ) → noted natives.new name ≡ noted natives.old name) }
 {
     let Some((key, _declaration)) = declarations.get_index(place) else {
         return Ok(());
     };
     match key.native_name() {
-        Some(name) => natives.note(*declarations.allocator(), name, place),
+        Some(name) => natives.note(alloc, name, place),
         None => Ok(()),
     }
 }
 
 impl Module {
-    /// A module without declarations.
-    pub fn new(alloc: Global) -> Module
-        ensures { result ≡ empty_module }
+    /// A module in which nothing is. It is indexed.
+    pub fn new(alloc: Global, seeds: Seeds) -> Result<Module, OutOfMemory>
+        ensures { IfOk result (λ made. made ≡ empty_module seeds) }
     {
-        Module {
-            declarations: IndexMap::new(alloc),
+        let mut flags = Switches::new();
+        flags.set_indexed(true);
+        Ok(Module {
+            id: None,
+            doc: Text::new(alloc),
+            types: CustomTypesCollection::new(alloc),
+            vars: Entries::new(alloc),
+            eager: KeyTable::new(alloc, seeds),
+            subs: BTreeMap::new(alloc),
+            flags,
             natives: NativeIndex::new(alloc),
             scripts: false,
-        }
+        })
+    }
+
+    /// The seeds under which its keys are hashed.
+    pub fn seeds(&self) -> Seeds
+        ensures { result ≡ self.now.own.seeds }
+    {
+        self.eager.seeds()
     }
 
     /// Puts a declaration under a key: an equal key keeps its place, else it goes last.
-    pub(crate) fn set_fn(&mut self, key: Key, declaration: Declaration) -> Result<(), OutOfMemory>
-        ensures ok { OnOk result (self.new ≡ with_decl key declaration self.old) }
-        ensures err { OnErr result (self.new ≡ self.old) }
+    pub(crate) fn put_fn(
+        &mut self,
+        alloc: Global,
+        key: Key,
+        declaration: Declaration,
+    ) -> Result<(), DeclFault>
+        ensures { Puts None key declaration self.old result self.new }
     {
-        let place = self.declarations.len();
+        let place = self.eager.len();
         self.scripts |= key.is_script();
-        if !put(&mut self.declarations, key, declaration)? {
+        if self.eager.insert(key, declaration)?.is_some() {
+            self.flags.set_indexed(false);
             return Ok(());
         }
-        match note_place(&mut self.natives, &self.declarations, place) {
-            Ok(()) => Ok(()),
+        match note_place(&mut self.natives, alloc, &self.eager, place) {
+            Ok(()) => {
+                self.flags.set_indexed(false);
+                Ok(())
+            }
             Err(OutOfMemory) => {
-                self.declarations.truncate(place);
-                Err(OutOfMemory)
+                self.eager.truncate(place);
+                Err(DeclFault::OutOfMemory)
             }
         }
+    }
+
+    /// Takes all declarations out.
+    pub(crate) fn clear_fns(&mut self, alloc: Global)
+        ensures { self.new ≡ record self.old { own = record self.old.own { eager = [] } } }
+    {
+        self.eager = KeyTable::new(alloc, self.eager.seeds());
+        self.natives = NativeIndex::new(alloc);
+        self.scripts = false;
     }
 
     /// The function that is declared under a key. It is one look-up more.
@@ -117,10 +157,18 @@ impl Module {
         if !self.scripts && key.is_script() {
             return None;
         }
-        match self.declarations.get(key) {
+        match self.eager.get(key) {
             Some(declaration) => Some(&declaration.func),
             None => None,
         }
+    }
+
+    /// Whether a function is declared under a key. It is no look-up of a call.
+    #[tactic(auto, unfolding(crate::specs::Shown::own_decl))]
+    pub fn contains_fn(&self, key: &Key) -> bool
+        ensures { result ≡ is_some (own_decl self.now key.now) }
+    {
+        self.eager.get(key).is_some()
     }
 
     /// Whether a native is declared under this name each of whose types is the argument's kind, or,
@@ -140,60 +188,49 @@ impl Module {
     fn matches_at(&self, place: usize, exact: usize, name: &Text, kinds: &[TypeTag]) -> bool
         ensures { result ≡ matches_at self.now exact name.now kinds.now place }
     {
-        match self.declarations.get_index(place) {
+        match self.eager.get_index(place) {
             Some((key, _declaration)) => key.matches(exact, name, kinds),
             None => false,
         }
     }
 
-    /// Declares a native under a name: an equal key keeps its place, else it goes last.
-    pub fn set_native_fn(
-        &mut self,
-        alloc: Global,
-        name: &Text,
-        native: &Box<dyn PluginFunc>,
-        id: FnId,
-    ) -> Result<(), OutOfMemory>
-        ensures ok { OnOk result (self.new ≡ with_decl (native_key name.now (info native.now)) (native_decl name.now (info native.now) id) self.old) }
-        ensures err { OnErr result (self.new ≡ self.old) }
-    {
-        let key = native_key(alloc, name, native)?;
-        self.set_fn(key, native_declaration(name, native, id))
-    }
-
-    /// Declares a script under its key: an equal key keeps its place, else it goes last.
-    pub fn set_script_fn(&mut self, alloc: Global, def: SharedDef) -> Result<(), OutOfMemory>
-        ensures ok { OnOk result (self.new ≡ with_decl (script_key def) (script_decl def) self.old) }
-        ensures err { OnErr result (self.new ≡ self.old) }
-    {
-        let key = script_key(alloc, def.def())?;
-        self.set_fn(key, script_declaration(def))
-    }
-
-    /// Puts an equal declaration under an equal key.
-    fn set_copy(
-        &mut self,
-        alloc: Global,
-        key: &Key,
-        declaration: &Declaration,
-    ) -> Result<(), OutOfMemory>
-        ensures { OnOk result (self.new ≡ with_decl key.now declaration.now self.old) }
-    {
-        let key = key.dup(alloc)?;
-        let declaration = declaration.dup(alloc)?;
-        self.set_fn(key, declaration)
-    }
-
-    /// An equal module.
+    /// An equal module. Its sub-modules are shared.
     pub fn dup(&self, alloc: Global) -> Result<Module, OutOfMemory>
         ensures { IfOk result (λ copy. copy ≡ self.now) }
     {
-        let mut copy = Module::new(alloc);
-        for (key, declaration) in self.declarations.iter() {
-            copy.set_copy(alloc, key, declaration)?;
-        }
-        Ok(copy)
+        let id = match &self.id {
+            Some(id) => Some(id.dup(alloc)?),
+            None => None,
+        };
+        Ok(Module {
+            id,
+            doc: self.doc.dup(alloc)?,
+            types: self.types.dup(alloc)?,
+            vars: self.vars.dup(alloc)?,
+            eager: dup_declarations(alloc, &self.eager)?,
+            subs: self.subs.clone()?,
+            flags: self.flags.dup(),
+            natives: self.natives.dup(alloc)?,
+            scripts: self.scripts,
+        })
     }
+}
+
+/// An equal table of declarations.
+fn dup_declarations(
+    alloc: Global,
+    table: &KeyTable<Declaration>,
+) -> Result<KeyTable<Declaration>, OutOfMemory>
+    ensures { IfOk result (λ copy. copy ≡ table.now) }
+{
+    let mut copy = KeyTable::new(alloc, table.seeds());
+    for (key, declaration) in table.iter() {
+        let declaration = declaration.dup(alloc)?;
+        if copy.insert(key.dup(alloc)?, declaration).is_err() {
+            return Err(OutOfMemory);
+        }
+    }
+    Ok(copy)
 }
 
 /// A clone is the module itself.
@@ -203,7 +240,7 @@ impl Clone for Module {
     ghost is_clone = { λ old copy. copy ≡ old };
 
     fn clone(&self) -> Result<Module, AllocError> {
-        let alloc = *self.declarations.allocator();
+        let alloc = *self.subs.allocator();
         match self.dup(alloc) {
             Ok(module) => Ok(module),
             Err(OutOfMemory) => Err(AllocError),

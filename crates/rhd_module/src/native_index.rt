@@ -1,6 +1,6 @@
 //! Where the natives of a module stand.
 
-ghost use Rattle.std.specs.Prelude.{◌≡◌, ℕ, List, ◌++◌, [], ◌∷◌, OnOk, OnErr, if◌then◌else◌};
+ghost use Rattle.std.specs.Prelude.{◌≡◌, ℕ, List, ◌++◌, [], ◌∷◌, OnOk, OnErr, IfOk, if◌then◌else◌};
 ghost use Rattle.rhd_value.specs.Same.{text_eq};
 ghost use Rattle.rhd_module.specs.NativeIndex.{noted};
 
@@ -21,6 +21,15 @@ impl NativeIndex {
         NativeIndex {
             places: IndexMap::new(alloc),
         }
+    }
+
+    /// An equal index.
+    pub fn dup(&self, _alloc: Global) -> Result<NativeIndex, OutOfMemory>
+        ensures { IfOk result (λ copy. (name : List ℕ) → noted copy name ≡ noted self.now name) }
+    {
+        Ok(NativeIndex {
+            places: self.places.clone()?,
+        })
     }
 
     /// The places that are noted under a name.

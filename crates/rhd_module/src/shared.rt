@@ -1,11 +1,15 @@
 //! Modules with several owners.
 
-ghost use Rattle.std.specs.Prelude.{◌≡◌, OnOk, OnErr, IfOk};
-ghost use Rattle.rhd_module.specs.Registered.{with_decl, native_key, native_decl, script_key, script_decl};
+ghost use Rattle.std.specs.Prelude.{◌≡◌, None, [], OnOk, OnErr, IfOk};
+ghost use Rattle.rhd_func.specs.Infos.{infos_of};
+ghost use Rattle.rhd_module.specs.Contents.{with_id, with_doc, with_var, with_type, cleared, with_sub};
+ghost use Rattle.rhd_module.specs.Registered.{Puts, Registers, RegistersRaw, script_key, script_decl};
 
 use crate::module::Module;
-use rhd_func::{PluginFunc, SharedDef};
-use rhd_value::{FnId, OutOfMemory, Text};
+use crate::registration::FuncRegistration;
+use rhd_decl::DeclFault;
+use rhd_func::{Natives, RhaiFunc, SharedDef};
+use rhd_value::{Dynamic, FnId, OutOfMemory, Text, TypeTag};
 use std::alloc::Global;
 use std::marker::Model;
 use std::rc::Rc;
@@ -49,27 +53,110 @@ impl SharedModule {
         })
     }
 
-    /// Declares a native in this owner's module, which is copied first where there are other owners.
-    pub fn set_native_fn(
-        &mut self,
-        alloc: Global,
-        name: &Text,
-        native: &Box<dyn PluginFunc>,
-        id: FnId,
-    ) -> Result<(), OutOfMemory>
-        ensures ok { OnOk result (self.new ≡ with_decl (native_key name.now (info native.now)) (native_decl name.now (info native.now) id) self.old) }
+    /// The module itself, whose owner this one is.
+    pub fn into_rc(self) -> Rc<Module>
+        ensures { result.value ≡ self }
+    {
+        self.module
+    }
+
+    /// Sets the id of this owner's module. It is copied first where it has other owners.
+    pub fn set_id(&mut self, alloc: Global, id: Text) -> Result<(), OutOfMemory>
+        ensures ok { OnOk result (self.new ≡ with_id id self.old) }
         ensures err { OnErr result (self.new ≡ self.old) }
     {
         let module = Rc::make_mut(&mut self.module)?;
-        module.set_native_fn(alloc, name, native, id)
+        module.set_id(alloc, id)
+    }
+
+    /// Sets the documentation of this owner's module. It is copied first where it has other owners.
+    pub fn set_doc(&mut self, _alloc: Global, doc: Text) -> Result<(), OutOfMemory>
+        ensures ok { OnOk result (self.new ≡ with_doc doc self.old) }
+        ensures err { OnErr result (self.new ≡ self.old) }
+    {
+        let module = Rc::make_mut(&mut self.module)?;
+        module.set_doc(doc);
+        Ok(())
+    }
+
+    /// Sets a variable of this owner's module. It is copied first where it has other owners.
+    pub fn set_var(&mut self, alloc: Global, name: Text, value: Dynamic) -> Result<(), OutOfMemory>
+        ensures ok { OnOk result (self.new ≡ with_var name value self.old) }
+        ensures err { OnErr result (self.new ≡ self.old) }
+    {
+        let module = Rc::make_mut(&mut self.module)?;
+        module.set_var(alloc, name, value)
+    }
+
+    /// The type of this type name is shown by this name in this owner's module. It is copied first where it has other owners.
+    pub fn set_custom_type_raw(&mut self, alloc: Global, type_name: Text, display: Text) -> Result<(), OutOfMemory>
+        ensures ok { OnOk result (self.new ≡ with_type type_name display [] self.old) }
+        ensures err { OnErr result (self.new ≡ self.old) }
+    {
+        let module = Rc::make_mut(&mut self.module)?;
+        module.set_custom_type_raw(alloc, type_name, display)
+    }
+
+    /// Puts a sub-module into this owner's module. It is copied first where it has other owners.
+    pub fn set_sub_module(&mut self, alloc: Global, name: Text, child: SharedModule) -> Result<(), OutOfMemory>
+        ensures ok { OnOk result (self.new ≡ with_sub name child self.old) }
+        ensures err { OnErr result (self.new ≡ self.old) }
+    {
+        let module = Rc::make_mut(&mut self.module)?;
+        module.set_sub_module(alloc, name, child.into_rc())
+    }
+
+    /// Takes all out of this owner's module but its id and own flags. It is copied first where it has other owners.
+    pub fn clear(&mut self, _alloc: Global) -> Result<(), OutOfMemory>
+        ensures ok { OnOk result (self.new ≡ cleared self.old) }
+        ensures err { OnErr result (self.new ≡ self.old) }
+    {
+        let module = Rc::make_mut(&mut self.module)?;
+        module.clear();
+        Ok(())
+    }
+
+    /// Registers the native of a number in this owner's module, as `FuncRegistration::set_into_module`
+    /// does. The module is copied first where it has other owners.
+    pub fn register(
+        &mut self,
+        alloc: Global,
+        reg: FuncRegistration,
+        natives: &Natives,
+        id: FnId,
+    ) -> Result<(), DeclFault>
+        ensures { Registers (infos_of info natives.now) reg id self.old result self.new }
+    {
+        let module = Rc::make_mut(&mut self.module)?;
+        reg.set_into_module(alloc, module, natives, id)?;
+        Ok(())
+    }
+
+    /// Registers a function in this owner's module, as `FuncRegistration::set_into_module_raw` does. The
+    /// module is copied first where it has other owners.
+    pub fn register_raw(
+        &mut self,
+        alloc: Global,
+        reg: FuncRegistration,
+        natives: &Natives,
+        types: &[TypeTag],
+        func: RhaiFunc,
+    ) -> Result<(), DeclFault>
+        requires purity { reg.purity ≡ None }
+        requires volatility { reg.volatility ≡ None }
+        ensures { RegistersRaw (infos_of info natives.now) reg types.now func self.old result self.new }
+    {
+        let module = Rc::make_mut(&mut self.module)?;
+        reg.set_into_module_raw(alloc, module, natives, types, func)?;
+        Ok(())
     }
 
     /// Declares a script in this owner's module, which is copied first where there are other owners.
-    pub fn set_script_fn(&mut self, alloc: Global, def: SharedDef) -> Result<(), OutOfMemory>
-        ensures ok { OnOk result (self.new ≡ with_decl (script_key def) (script_decl def) self.old) }
-        ensures err { OnErr result (self.new ≡ self.old) }
+    pub fn set_script_fn(&mut self, alloc: Global, def: SharedDef) -> Result<(), DeclFault>
+        ensures { Puts None (script_key def) (script_decl self.old.own.seeds def None) self.old result self.new }
     {
         let module = Rc::make_mut(&mut self.module)?;
-        module.set_script_fn(alloc, def)
+        module.set_script_fn(alloc, def)?;
+        Ok(())
     }
 }

@@ -34,6 +34,11 @@ type_name tags.Dynamic = codes "Dynamic"
 type_name tags.Str = codes "&str"
 type_name tags.StdString = codes "String"
 
+-- a type as keys and parameters show it: a text has another name there than as the type of a value
+abbrev pub type_text : TypeTag → Bytes
+type_text tags.Text = codes "ImmutableString"
+type_text t = type_name t
+
 -- the type that a parameter's type stands for in a key
 abbrev pub map_type : Bool → TypeTag → TypeTag
 map_type true tags.Str = tags.Text

@@ -1,6 +1,6 @@
 //! Lists of texts and of types.
 
-ghost use Rattle.std.specs.Prelude.{◌≡◌, ◌++◌, ◌∷◌, [], length, if◌then◌else◌, is_ok, IfOk, slice_get, nat_eq};
+ghost use Rattle.std.specs.Prelude.{◌≡◌, ◌-◌, ◌++◌, ◌∷◌, [], length, take, if◌then◌else◌, is_ok, IfOk, slice_get, nat_eq};
 ghost use Rattle.std.specs.Option.{option_copied};
 ghost use Rattle.std.specs.Cmp.{partial_equiv_from_equiv};
 ghost use Rattle.std.specs.Cmp.Lexicographic.{pointwise, nat_list_eq_equiv};
@@ -10,7 +10,7 @@ ghost use Rattle.rhd_value.specs.Same.{types_eq, types_eq_equiv};
 use crate::memory::OutOfMemory;
 use crate::tag::TypeTag;
 use crate::text::Text;
-use std::alloc::Global;
+use std::alloc::{AllocError, Global};
 use std::marker::Model;
 
 /// Texts in order. Contracts see the list of them.
@@ -34,6 +34,14 @@ impl Texts {
         Texts {
             items: Vec::new(alloc),
         }
+    }
+
+    /// Takes the last text off; none where there is nothing.
+    pub fn pop(&mut self) -> Option<Text>
+        ensures last { result ≡ slice_get self.old (length self.old - 1) }
+        ensures rest { self.new ≡ take (length self.old - 1) self.old }
+    {
+        self.items.pop()
     }
 
     /// Puts a text last.
@@ -72,6 +80,19 @@ impl Texts {
             texts.push(text.dup(alloc)?)?;
         }
         Ok(texts)
+    }
+}
+
+/// A clone is the list itself.
+impl Clone for Texts {
+    ghost use Rattle.std.specs.Prelude.{◌≡◌};
+
+    ghost is_clone = { λ old copy. copy ≡ old };
+
+    fn clone(&self) -> Result<Texts, AllocError> {
+        Ok(Texts {
+            items: self.items.clone()?,
+        })
     }
 }
 

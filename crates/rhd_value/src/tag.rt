@@ -2,7 +2,7 @@
 
 ghost use Rattle.std.specs.Prelude.{◌≡◌, IfOk};
 ghost use Rattle.std.specs.Cmp.{partial_equiv_from_equiv};
-ghost use Rattle.rhd_value.specs.Kinds.{map_type, type_name};
+ghost use Rattle.rhd_value.specs.Kinds.{map_type, type_name, type_text};
 ghost use Rattle.rhd_value.specs.Sums.{plus_held};
 ghost use Rattle.rhd_value.specs.Same.{tag_number, tag_argument, tag_eq, tag_eq_equiv};
 
@@ -83,6 +83,20 @@ impl TypeTag {
             TypeTag::StdString => name.push("String")?,
         }
         Ok(name)
+    }
+
+    /// The type as keys and parameters show it: a text is an `ImmutableString` there.
+    pub fn type_text(self, alloc: Global) -> Result<Text, OutOfMemory>
+        ensures { IfOk result (λ text. text ≡ type_text self) }
+    {
+        match self {
+            TypeTag::Text => {
+                let mut text = Text::new(alloc);
+                text.push("ImmutableString")?;
+                Ok(text)
+            }
+            _ => self.type_name(alloc),
+        }
     }
 }
 

@@ -1,17 +1,17 @@
-//! What a module says of a function.
+//! A function of a module.
 
 ghost use Rattle.std.specs.Prelude.{◌≡◌, IfOk};
 
-use rhd_func::{FnAccess, FnNamespace, RhaiFunc};
+use crate::metadata::FuncMetadata;
+use rhd_func::RhaiFunc;
 use rhd_value::OutOfMemory;
 use std::alloc::Global;
 
-/// A function of a module, under its key.
+/// A function of a module, under its key, with what is said of it.
 #[derive(Drop)]
 pub struct Declaration {
     pub func: RhaiFunc,
-    pub namespace: FnNamespace,
-    pub access: FnAccess,
+    pub metadata: FuncMetadata,
 }
 
 impl Declaration {
@@ -21,8 +21,7 @@ impl Declaration {
     {
         Ok(Declaration {
             func: self.func.dup(alloc)?,
-            namespace: self.namespace,
-            access: self.access,
+            metadata: self.metadata.dup(alloc)?,
         })
     }
 }

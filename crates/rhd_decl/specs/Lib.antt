@@ -1,0 +1,3 @@
+pub mod Collisions
+pub mod CustomTypes
+pub mod Flags

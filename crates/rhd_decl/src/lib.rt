@@ -1,0 +1,15 @@
+//! What modules hold: declarations with what is said of them, custom types, flags; and why a declaration
+//! is refused.
+#![tactic(auto)]
+
+mod custom_types;
+mod declaration;
+mod fault;
+mod flags;
+mod metadata;
+
+pub use custom_types::{CustomTypeInfo, CustomTypesCollection};
+pub use declaration::Declaration;
+pub use fault::DeclFault;
+pub use flags::{ModuleFlags, Switches};
+pub use metadata::FuncMetadata;

@@ -1,0 +1,92 @@
+-- What the calls on a module's contents change and find.
+use Rattle.std.specs.Prelude.{ℕ, Bool, true, false, List, [], ◌∷◌, ◌==◌, ◌&&◌, length, if◌then◌else◌, Option, None, Some, is_some}
+use Rattle.std.specs.Option.{option_map, option_or}
+use Rattle.std.specs.Ordering.{match_ordering, nat_cmp}
+use Rattle.std.specs.Cmp.Lexicographic.{slice_cmp}
+use Rattle.std.specs.Map.{lookup}
+use Rattle.rhd_value.specs.Tree.{Bytes, Tree}
+use Rattle.rhd_value.specs.Entries.{put}
+use Rattle.rhd_value.specs.Firsts.{first_of, where_holds}
+use Rattle.rhd_value.specs.Same.{text_eq}
+use Rattle.rhd_hash.specs.declared.key.Key.{Key}
+use Rattle.rhd_hash.specs.declared.key.Key.TheVariants.{Script, Typed, Native}
+use Rattle.rhd_hash.specs.Keys.{key_eq}
+use Rattle.rhd_func.specs.declared.func.ScriptFuncDef.{ScriptFuncDef}
+use Rattle.rhd_func.specs.Funcs.{script_def_of}
+use Rattle.rhd_decl.specs.declared.declaration.Declaration.{Declaration}
+use Rattle.rhd_decl.specs.CustomTypes.{type_info, put_type}
+use Rattle.rhd_module.specs.Tree.{ModuleTree, Lists, Subs, no_subs, sub, Pairs}
+
+-- an empty id clears
+abbrev pub id_of : Bytes → Option Bytes
+id_of [] = None
+id_of (b ∷ bs) = Some (b ∷ bs)
+
+abbrev pub with_id : Bytes → ModuleTree → ModuleTree
+with_id id m = record m { own = record m.own { id = id_of id } }
+
+abbrev pub with_doc : Bytes → ModuleTree → ModuleTree
+with_doc doc m = record m { own = record m.own { doc = doc } }
+
+abbrev pub with_var : Bytes → Tree → ModuleTree → ModuleTree
+with_var name value m = record m { own = record m.own { vars = put name value m.own.vars } }
+
+-- a custom type of this type name is shown by this name
+abbrev pub with_type : Bytes → Bytes → List Bytes → ModuleTree → ModuleTree
+with_type type_name display comments m = record m { own = record m.own { types = put_type type_name (type_info type_name display comments) m.own.types } }
+
+-- all goes but the id, the seeds and the own flags; the module isn't indexed any more
+abbrev pub cleared : ModuleTree → ModuleTree
+cleared m = record { own = record m.own { doc = []; types = []; vars = []; eager = []; manifests = []; iterators = []; indexed = false }; subs = no_subs }
+
+-- sub-modules with one more, which replaces one of its name and else goes to its place in the order of names
+abbrev pub put_sub : Bytes → ModuleTree → Subs → Subs
+put_sub name m no_subs = sub name m.own m.subs no_subs
+put_sub name m (sub n own below later) = match_ordering (slice_cmp nat_cmp name n) (sub name m.own m.subs (sub n own below later)) (sub n m.own m.subs later) (sub n own below (put_sub name m later))
+
+abbrev pub with_sub : Bytes → ModuleTree → ModuleTree → ModuleTree
+with_sub name child m = record { own = record m.own { indexed = false }; subs = put_sub name child m.subs }
+
+-- the sub-module of a name
+abbrev pub find_sub : Bytes → Subs → Option ModuleTree
+find_sub name no_subs = None
+find_sub name (sub n own below later) = if text_eq name n then Some (record { own = own; subs = below }) else find_sub name later
+
+-- no variable, sub-module, declaration, iterator or manifest
+abbrev pub is_none_of : {A : Type 0} → List A → Bool
+is_none_of [] = true
+is_none_of (a ∷ more) = false
+
+abbrev pub has_no_subs : Subs → Bool
+has_no_subs no_subs = true
+has_no_subs (sub name own below later) = false
+
+abbrev pub is_empty : ModuleTree → Bool
+is_empty m = is_none_of m.own.vars && (has_no_subs m.subs && (is_none_of m.own.eager && (is_none_of m.own.iterators && is_none_of m.own.manifests)))
+
+-- variables, declarations and iterators
+abbrev pub counts : ModuleTree → ℕ × (ℕ × ℕ)
+counts m = (length m.own.vars, (length m.own.eager, length m.own.iterators))
+
+-- a typed script's key of this name and number of parameters
+abbrev pub is_typed_of : Bytes → ℕ → Key → Bool
+is_typed_of name params (Script path n c) = false
+is_typed_of name params (Typed path n c this_type) = text_eq n name && (c == params)
+is_typed_of name params (Native path n types) = false
+
+-- the script of a name and number of parameters: the untyped one, else the first typed one in order
+abbrev pub script_of : Bytes → ℕ → ModuleTree → Option ScriptFuncDef
+script_of name params m =
+    option_or (first_of (λ p. if key_eq (Script None name params) p.0 then script_def_of p.1.func else None) m.own.eager)
+    (first_of (λ p. if is_typed_of name params p.0 then script_def_of p.1.func else None) m.own.eager)
+
+-- the comments of the declaration under a key, if there is one
+abbrev pub commented : List Bytes → Declaration → Declaration
+commented comments d = record d { metadata = record d.metadata { comments = comments } }
+
+abbrev pub comment_on : Key → List Bytes → Pairs → Pairs
+comment_on key comments [] = []
+comment_on key comments (p ∷ ps) = if key_eq key p.0 then (p.0, commented comments p.1) ∷ ps else p ∷ comment_on key comments ps
+
+abbrev pub with_comments : Key → List Bytes → ModuleTree → ModuleTree
+with_comments key comments m = record m { own = record m.own { eager = comment_on key comments m.own.eager } }

@@ -1,0 +1,222 @@
+//! How functions are put into a module.
+
+ghost use Rattle.std.specs.Prelude.{◌≡◌, None, IfOk, codes, is_some};
+ghost use Rattle.std.specs.Option.{option_copied};
+ghost use Rattle.std.specs.Map.{lookup};
+ghost use Rattle.rhd_hash.specs.Keys.{key_eq};
+ghost use Rattle.rhd_hash.specs.Parts.{mixed};
+ghost use Rattle.rhd_func.specs.Infos.{infos_of};
+ghost use Rattle.rhd_func.specs.Funcs.{is_method};
+ghost use Rattle.rhd_module.specs.Contents.{script_of, with_comments};
+ghost use Rattle.rhd_module.specs.Registered.{Puts, Registers, RegistersRaw, native_at, native_key, native_decl, registered_decl, registered_hash, raw_cause, script_key, script_decl, new_registration, global_registration, setter_registration, pure_registration, getter_name, setter_name};
+
+use crate::module::Module;
+use crate::registration::{FuncRegistration, is_banned, native_key, script_declaration, script_key};
+use rhd_decl::{DeclFault, FuncMetadata};
+use rhd_func::{EnvId, Natives, RhaiFunc, SharedDef};
+use rhd_hash::Key;
+use rhd_value::{FnId, Text, Texts, TypeTag};
+use std::alloc::Global;
+
+/// The refusal of a native's number that isn't held.
+fn unknown(natives: &Natives, id: FnId) -> DeclFault {
+    DeclFault::UnknownNumber {
+        number: u64::from(id.0),
+        length: natives.len() as u64,
+    }
+}
+
+impl FuncRegistration {
+    /// Registers the native of a number in a module: in the place of one of an equal key, else last.
+    /// Answers what is said of it.
+    pub fn set_into_module(
+        self,
+        alloc: Global,
+        target: &mut Module,
+        natives: &Natives,
+        id: FnId,
+    ) -> Result<FuncMetadata, DeclFault>
+        ensures registers { Registers (infos_of info natives.now) self id target.old result target.new }
+        ensures metadata { IfOk result (λ metadata. metadata ≡ (registered_decl target.old.own.seeds self (native_at (infos_of info natives.now) id) id).metadata) }
+    {
+        let Some(native) = natives.get(id) else {
+            return Err(unknown(natives, id));
+        };
+        let is_method = native.is_method_call();
+        let types = native.param_types();
+        if is_banned(&self.name, types) {
+            let key = native_key(alloc, &self.name, is_method, types)?;
+            return Err(DeclFault::IndexerNotAllowed { key });
+        }
+        let func = self.func_of(native, id);
+        target.put_native(alloc, self, is_method, types, func)
+    }
+
+    /// Registers a function that isn't defined by a script and doesn't iterate, with these types: in the
+    /// place of one of an equal key, else last. Answers what is said of it.
+    pub fn set_into_module_raw(
+        self,
+        alloc: Global,
+        target: &mut Module,
+        natives: &Natives,
+        types: &[TypeTag],
+        func: RhaiFunc,
+    ) -> Result<FuncMetadata, DeclFault>
+        requires purity { self.purity ≡ None }
+        requires volatility { self.volatility ≡ None }
+        ensures registers { RegistersRaw (infos_of info natives.now) self types.now func target.old result target.new }
+        ensures metadata { IfOk result (λ metadata. metadata ≡ (native_decl target.old.own.seeds self (is_method (infos_of info natives.now) func) types.now func).metadata) }
+    {
+        if let Some(id) = func.native_id() {
+            if natives.get(id).is_none() {
+                return Err(unknown(natives, id));
+            }
+        }
+        if func.is_iter() || func.is_script() {
+            return Err(DeclFault::NotCallable);
+        }
+        let is_method = func.is_method(natives);
+        if is_banned(&self.name, types) {
+            let key = native_key(alloc, &self.name, is_method, types)?;
+            return Err(DeclFault::IndexerNotAllowed { key });
+        }
+        target.put_native(alloc, self, is_method, types, func)
+    }
+}
+
+impl Module {
+    /// Puts a function of these types under a registration.
+    fn put_native(
+        &mut self,
+        alloc: Global,
+        reg: FuncRegistration,
+        is_method: bool,
+        types: &[TypeTag],
+        func: RhaiFunc,
+    ) -> Result<FuncMetadata, DeclFault>
+        ensures puts { Puts None (native_key is_method reg.name types.now) (native_decl self.old.own.seeds reg is_method types.now func) self.old result self.new }
+        ensures metadata { IfOk result (λ metadata. metadata ≡ (native_decl self.old.own.seeds reg is_method types.now func).metadata) }
+    {
+        let key = native_key(alloc, &reg.name, is_method, types)?;
+        let declaration = reg.into_declaration(alloc, self.seeds(), is_method, types, func)?;
+        let metadata = declaration.metadata.dup(alloc)?;
+        self.put_fn(alloc, key, declaration)?;
+        Ok(metadata)
+    }
+
+    /// Does what `FuncRegistration::set_into_module_raw` does.
+    pub fn set_fn_raw_with_options(
+        &mut self,
+        alloc: Global,
+        reg: FuncRegistration,
+        natives: &Natives,
+        types: &[TypeTag],
+        func: RhaiFunc,
+    ) -> Result<FuncMetadata, DeclFault>
+        requires purity { reg.purity ≡ None }
+        requires volatility { reg.volatility ≡ None }
+        ensures registers { RegistersRaw (infos_of info natives.now) reg types.now func self.old result self.new }
+        ensures metadata { IfOk result (λ metadata. metadata ≡ (native_decl self.old.own.seeds reg (is_method (infos_of info natives.now) func) types.now func).metadata) }
+    {
+        reg.set_into_module_raw(alloc, self, natives, types, func)
+    }
+
+    /// Registers the native of a number under a name: found under the module's name alone, and pure whatever
+    /// the name says. Answers the hash of its key.
+    pub fn set_native_fn(
+        &mut self,
+        alloc: Global,
+        natives: &Natives,
+        name: Text,
+        id: FnId,
+    ) -> Result<u64, DeclFault>
+        ensures registers { Registers (infos_of info natives.now) (pure_registration (new_registration name)) id self.old result self.new }
+        ensures hash { IfOk result (λ hash. hash ≡ registered_hash (infos_of info natives.now) (pure_registration (new_registration name)) id self.old) }
+    {
+        let reg = FuncRegistration::new(alloc, name)?.with_purity(true);
+        Ok(reg.set_into_module(alloc, self, natives, id)?.hash)
+    }
+
+    /// Registers the native of a number as the getter of a property. Answers the hash of its key.
+    pub fn set_getter_fn(
+        &mut self,
+        alloc: Global,
+        natives: &Natives,
+        prop: &Text,
+        id: FnId,
+    ) -> Result<u64, DeclFault>
+        ensures registers { Registers (infos_of info natives.now) (pure_registration (global_registration (getter_name prop.now))) id self.old result self.new }
+        ensures hash { IfOk result (λ hash. hash ≡ registered_hash (infos_of info natives.now) (pure_registration (global_registration (getter_name prop.now))) id self.old) }
+    {
+        let reg = FuncRegistration::new_getter(alloc, prop)?.with_purity(true);
+        Ok(reg.set_into_module(alloc, self, natives, id)?.hash)
+    }
+
+    /// Registers the native of a number as the setter of a property. Answers the hash of its key.
+    pub fn set_setter_fn(
+        &mut self,
+        alloc: Global,
+        natives: &Natives,
+        prop: &Text,
+        id: FnId,
+    ) -> Result<u64, DeclFault>
+        ensures registers { Registers (infos_of info natives.now) (setter_registration (setter_name prop.now)) id self.old result self.new }
+        ensures hash { IfOk result (λ hash. hash ≡ registered_hash (infos_of info natives.now) (setter_registration (setter_name prop.now)) id self.old) }
+    {
+        let reg = FuncRegistration::new_setter(alloc, prop)?;
+        Ok(reg.set_into_module(alloc, self, natives, id)?.hash)
+    }
+
+    /// Registers the native of a number as the indexer that reads. Answers the hash of its key.
+    pub fn set_indexer_get_fn(
+        &mut self,
+        alloc: Global,
+        natives: &Natives,
+        id: FnId,
+    ) -> Result<u64, DeclFault>
+        ensures registers { Registers (infos_of info natives.now) (pure_registration (global_registration (codes "index$get$"))) id self.old result self.new }
+        ensures hash { IfOk result (λ hash. hash ≡ registered_hash (infos_of info natives.now) (pure_registration (global_registration (codes "index$get$"))) id self.old) }
+    {
+        let reg = FuncRegistration::new_index_getter(alloc)?.with_purity(true);
+        Ok(reg.set_into_module(alloc, self, natives, id)?.hash)
+    }
+
+    /// Registers the native of a number as the indexer that writes. Answers the hash of its key.
+    pub fn set_indexer_set_fn(
+        &mut self,
+        alloc: Global,
+        natives: &Natives,
+        id: FnId,
+    ) -> Result<u64, DeclFault>
+        ensures registers { Registers (infos_of info natives.now) (setter_registration (codes "index$set$")) id self.old result self.new }
+        ensures hash { IfOk result (λ hash. hash ≡ registered_hash (infos_of info natives.now) (setter_registration (codes "index$set$")) id self.old) }
+    {
+        let reg = FuncRegistration::new_index_setter(alloc)?;
+        Ok(reg.set_into_module(alloc, self, natives, id)?.hash)
+    }
+
+    /// Declares a script: in the place of one of an equal key, else last. Answers the hash of its key.
+    pub fn set_script_fn(&mut self, alloc: Global, def: SharedDef) -> Result<u64, DeclFault>
+        ensures puts { Puts None (script_key def) (script_decl self.old.own.seeds def None) self.old result self.new }
+        ensures hash { IfOk result (λ hash. hash ≡ mixed self.old.own.seeds (script_key def)) }
+    {
+        self.put_script(alloc, def, None)
+    }
+
+    /// Declares a script with its environment, if it has one.
+    fn put_script(
+        &mut self,
+        alloc: Global,
+        def: SharedDef,
+        env: Option<EnvId>,
+    ) -> Result<u64, DeclFault>
+        ensures puts { Puts None (script_key def) (script_decl self.old.own.seeds def env) self.old result self.new }
+        ensures hash { IfOk result (λ hash. hash ≡ mixed self.old.own.seeds (script_key def)) }
+    {
+        let key = script_key(alloc, def.def())?;
+        let declaration = script_declaration(alloc, self.seeds(), def, env)?;
+        let hash = declaration.metadata.hash;
+        self.put_fn(alloc, key, declaration)?;
+        Ok(hash)
+    }
+}
