@@ -1,5 +1,5 @@
 -- Lists of pairs and of slots: what is found by a hash, and what a slot that is put in changes. The keys, their hash and their test are any.
-use Rattle.std.proofs.Common.{◌≡◌, ℕ, zero, suc, ◌<◌, length, get_or, arith, Bool, true, false, cond, List, [], ◌∷◌, map, nat_eq, ◌==◌, Option, None, Some, Result, Ok, Err}
+use Rattle.std.proofs.Common.{◌≡◌, ℕ, zero, suc, ◌<◌, length, get_or, arith, Bool, true, false, cond, List, [], ◌∷◌, map, take, nat_eq, ◌==◌, Option, None, Some, Result, Ok, Err}
 use Rattle.std.proofs.Common.{refl, sym, ap, ◌∙◌, subst, true≢false, eq-eqb, eqb-true}
 use Rattle.std.specs.Result.{OnErr}
 use Rattle.std.specs.Bool.{Decides}
@@ -55,6 +55,12 @@ module _ {K V : Type 0} (hash : K → ℕ) where
   pub pairs-hashed : (ps : List (K × V)) → map (λ e. e.1) (hashed hash ps) ≡ ps
   pairs-hashed [] = refl
   pairs-hashed (p ∷ ps) = ap (λ t. p ∷ t) (pairs-hashed ps)
+
+  -- the first slots are those of the first pairs
+  pub take-hashed : (n : ℕ) (ps : List (K × V)) → take n (hashed hash ps) ≡ hashed hash (take n ps)
+  take-hashed zero ps = refl
+  take-hashed (suc n) [] = refl
+  take-hashed (suc n) (p ∷ ps) = ap (λ t. (hash p.0, p) ∷ t) (take-hashed n ps)
 
   module _ (eq : K → K → Bool) (same : (a b : K) → Decides (eq a b) (a ≡ b)) where
     -- no pair with this hash, so none with this key
