@@ -104,6 +104,11 @@ impl Module {
         })
     }
 
+    /// Where its memory comes from.
+    pub(crate) fn allocator(&self) -> Global {
+        self.natives.allocator()
+    }
+
     /// The seeds under which its keys are hashed.
     pub fn seeds(&self) -> Seeds
         ensures { result ≡ self.now.own.seeds }
@@ -240,8 +245,7 @@ impl Clone for Module {
     ghost is_clone = { λ old copy. copy ≡ old };
 
     fn clone(&self) -> Result<Module, AllocError> {
-        let alloc = *self.subs.allocator();
-        match self.dup(alloc) {
+        match self.dup(self.allocator()) {
             Ok(module) => Ok(module),
             Err(OutOfMemory) => Err(AllocError),
         }

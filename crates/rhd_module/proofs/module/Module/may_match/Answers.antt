@@ -14,5 +14,5 @@ loop-place-init c =
     let kinds = c.args.kinds.now in
     let places = c.places-place-items.result.now in
     let P : ModuleTree → Type 0 = λ m. list_any (matches_at m exact name kinds) places ≡ may_match m exact name kinds in
-    let seen : ModuleTree = record { own = record { eager = inside.declarations.entries } } in
-    subst P c.self.view_is (ap (list_any (matches_at seen exact name kinds)) c.places-place-items.ensures ∙ matches_at_places inside.natives inside.declarations.entries exact name kinds c.self.invariant.0)
+    let seen : ModuleTree = record { own = record { eager = inside.eager.pairs } } in
+    subst P c.self.view_is (ap (list_any (matches_at seen exact name kinds)) c.places-place-items.ensures ∙ matches_at_places inside.natives inside.eager.pairs exact name kinds c.self.invariant.0)
