@@ -1,5 +1,5 @@
 -- Lists of pairs and of slots: what is found by a hash, and what a slot that is put in changes. The keys, their hash and their test are any.
-use Rattle.std.proofs.Common.{◌≡◌, ℕ, zero, suc, ◌<◌, length, get_or, arith, Bool, true, false, cond, List, [], ◌∷◌, map, nat_eq, ◌==◌, Option, None, Some, Result, Ok, Err}
+use Rattle.std.proofs.Common.{◌≡◌, ℕ, zero, suc, ◌<◌, length, get_or, arith, Bool, true, false, cond, List, [], ◌∷◌, map, take, nat_eq, ◌==◌, Option, None, Some, Result, Ok, Err}
 use Rattle.std.proofs.Common.{refl, sym, ap, ◌∙◌, subst, true≢false, eq-eqb, eqb-true}
 use Rattle.std.specs.Result.{OnErr}
 use Rattle.std.specs.Bool.{Decides}
@@ -175,6 +175,12 @@ module _ {K V : Type 0} (hash : K → ℕ) where
   -- slots that are pairs behind their hashes, with distinct hashes
   pub behind-hashed : (slots : List (ℕ × (K × V))) (qs : List (K × V)) → slots ≡ hashed hash qs → slots ≡ hashed hash (map (λ e. e.1) slots)
   behind-hashed slots qs e = e ∙ ap (hashed hash) (sym (ap (map (λ e. e.1)) e ∙ pairs-hashed qs))
+
+  -- the first of the slots are the slots of the first pairs
+  pub take-hashed : (n : ℕ) (ps : List (K × V)) → take n (hashed hash ps) ≡ hashed hash (take n ps)
+  take-hashed zero ps = refl
+  take-hashed (suc n) [] = refl
+  take-hashed (suc n) (p ∷ ps) = ap (λ t. (hash p.0, p) ∷ t) (take-hashed n ps)
 
   pub apart-hashed : (slots : List (ℕ × (K × V))) → slots ≡ hashed hash (map (λ e. e.1) slots) → IsDistinct nat_eq (keys_of slots) → IsDistinct nat_eq (map hash (keys_of (map (λ e. e.1) slots)))
   apart-hashed slots e u = subst (IsDistinct nat_eq) (ap keys_of e ∙ keys-hashed (map (λ e. e.1) slots)) u
