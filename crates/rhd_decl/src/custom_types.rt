@@ -153,7 +153,7 @@ impl CustomTypesCollection {
 
     /// The types, in ascending order of type name.
     pub fn iter(&self) -> Iter<'_, Text, CustomTypeInfo>
-        ensures { result.iter ≡ self.now }
+        ensures { result ≡ self.now }
     {
         self.types.iter()
     }
