@@ -56,6 +56,12 @@ module _ {K V : Type 0} (hash : K → ℕ) where
   pairs-hashed [] = refl
   pairs-hashed (p ∷ ps) = ap (λ t. p ∷ t) (pairs-hashed ps)
 
+  -- the first slots are those of the first pairs
+  pub take-hashed : (n : ℕ) (ps : List (K × V)) → take n (hashed hash ps) ≡ hashed hash (take n ps)
+  take-hashed zero ps = refl
+  take-hashed (suc n) [] = refl
+  take-hashed (suc n) (p ∷ ps) = ap (λ t. (hash p.0, p) ∷ t) (take-hashed n ps)
+
   module _ (eq : K → K → Bool) (same : (a b : K) → Decides (eq a b) (a ≡ b)) where
     -- no pair with this hash, so none with this key
     pub lookup-none : (k : K) (ps : List (K × V)) → first_hashed hash (hash k) ps ≡ None → lookup (eq k) ps ≡ None
@@ -175,12 +181,6 @@ module _ {K V : Type 0} (hash : K → ℕ) where
   -- slots that are pairs behind their hashes, with distinct hashes
   pub behind-hashed : (slots : List (ℕ × (K × V))) (qs : List (K × V)) → slots ≡ hashed hash qs → slots ≡ hashed hash (map (λ e. e.1) slots)
   behind-hashed slots qs e = e ∙ ap (hashed hash) (sym (ap (map (λ e. e.1)) e ∙ pairs-hashed qs))
-
-  -- the first of the slots are the slots of the first pairs
-  pub take-hashed : (n : ℕ) (ps : List (K × V)) → take n (hashed hash ps) ≡ hashed hash (take n ps)
-  take-hashed zero ps = refl
-  take-hashed (suc n) [] = refl
-  take-hashed (suc n) (p ∷ ps) = ap (λ t. (hash p.0, p) ∷ t) (take-hashed n ps)
 
   pub apart-hashed : (slots : List (ℕ × (K × V))) → slots ≡ hashed hash (map (λ e. e.1) slots) → IsDistinct nat_eq (keys_of slots) → IsDistinct nat_eq (map hash (keys_of (map (λ e. e.1) slots)))
   apart-hashed slots e u = subst (IsDistinct nat_eq) (ap keys_of e ∙ keys-hashed (map (λ e. e.1) slots)) u

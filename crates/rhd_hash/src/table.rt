@@ -126,6 +126,7 @@ impl<V> KeyTable<V> {
         ensures unchanged { OnErr result (self.new ≡ self.old) }
         ensures absent { OnErr result (lookup (key_eq key) self.old.pairs ≡ None) }
         ensures refused { IfErr result (IsRefusal self.old key) }
+        ensures apart { OnOk result (HasOwnHashes self.new.seeds (keys_of self.new.pairs)) }
         ensures refuses { (held : _) → Contains (keys_of self.old.pairs) held → Clashes self.old.seeds held key → IsErr result }
     {
         if let Some(held) = self.clash_with(&key)? {
@@ -173,6 +174,7 @@ impl<V> KeyTable<V> {
         ensures unchanged { OnErr result (self.new ≡ self.old) }
         ensures absent { OnErr result (lookup (key_eq key) self.old.pairs ≡ None) }
         ensures refused { IfErr result (λ fault. fault ≡ no_memory) }
+        ensures apart { OnOk result (HasOwnHashes self.new.seeds (keys_of self.new.pairs)) }
     {
         let hash = key.mixed(self.seeds);
         match self.slots.insert(hash, (key, value)) {

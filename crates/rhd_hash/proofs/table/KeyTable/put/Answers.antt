@@ -50,3 +50,9 @@ returns-clause-absent g c =
     let ps = map (λ e. e.1) c.self.inside.slots.entries in
     let unfound = sym (lookup-hashed hash (hash c.args.key) ps) ∙ sym (λ i. lookup (nat_eq (c.mixed-hash.ensures i)) (c.self.invariant.behind i)) ∙ c.in-Err.ensures.absent in
     ap (λ t. lookup (key_eq c.args.key) t.pairs) (sym c.self.view_is) ∙ lookup-none hash key_eq key_eq-Decides c.args.key ps unfound
+
+pub returns-in-Ok-clause-apart : goal.returns-in-Ok-clause-apart
+unfolding HasOwnHashes
+returns-in-Ok-clause-apart g c =
+    let hash = mixed c.self.inside.seeds in
+    apart-hashed hash _ (behind-hashed hash _ _ (slots_after g c)) c.in-Ok.ensures.unique
