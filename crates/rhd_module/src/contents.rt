@@ -285,7 +285,10 @@ impl Module {
     pub fn is_empty(&self) -> bool
         ensures { result ≡ is_empty self.now }
     {
-        self.vars.len() == 0 && self.subs.is_empty() && self.eager.len() == 0
+        let no_vars = self.vars.len() == 0;
+        let no_subs = self.subs.len() == 0;
+        let no_fns = self.eager.len() == 0;
+        no_vars & (no_subs & no_fns)
     }
 
     /// How many variables, declarations and functions that iterate it has.
