@@ -228,12 +228,8 @@ impl Module {
     pub fn dup(&self, alloc: Global) -> Result<Module, OutOfMemory>
         ensures { IfOk result (λ copy. copy ≡ self.now) }
     {
-        let id = match &self.id {
-            Some(id) => Some(id.dup(alloc)?),
-            None => None,
-        };
         Ok(Module {
-            id,
+            id: self.share_id(alloc)?,
             doc: self.doc.dup(alloc)?,
             types: self.types.dup(alloc)?,
             vars: self.vars.dup(alloc)?,
