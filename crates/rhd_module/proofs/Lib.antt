@@ -2,3 +2,4 @@ pub mod Puts
 pub mod Noted
 pub mod Places
 pub mod Scripts
+pub mod Refusals
