@@ -3,3 +3,4 @@ pub mod Noted
 pub mod Places
 pub mod Scripts
 pub mod Refusals
+pub mod SubModules

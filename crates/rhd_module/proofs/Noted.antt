@@ -2,7 +2,8 @@
 use Rattle.std.proofs.Common.{◌≡◌, ℕ, Bool, true, false, cond, List, [], ◌∷◌, ◌++◌, Option, Some, Result, Ok, Err, refl, sym, ap, append-nil, ◌∙◌}
 use Rattle.std.specs.Option.{option_map_or}
 use Rattle.std.specs.Result.{OnErr}
-use Rattle.std.specs.Map.{update}
+use Rattle.std.specs.List.{AllZip}
+use Rattle.std.specs.Map.{lookup, update}
 use Rattle.std.proofs.lemmas.Slice.Eq.{bytes_eq-Decides}
 use Rattle.rhd_value.specs.Same.{text_eq}
 
@@ -60,3 +61,25 @@ module _ {X : Type 0} (items : X → List ℕ) (m n : List ℕ → Option X) (na
 pub on_err : {A E : Type 0} {P : Type 0} (r : Result A E) → P → OnErr r P
 on_err (Ok x) p = tt
 on_err (Err e) p = p
+
+-- equal places, one by one
+pub same_places : (xs ys : List ℕ) → AllZip (λ x y. y ≡ x) xs ys → ys ≡ xs
+same_places [] [] h = refl
+same_places [] (y ∷ ys) h = absurd h
+same_places (x ∷ xs) [] h = absurd h
+same_places (x ∷ xs) (y ∷ ys) h = λ i. h.0 i ∷ same_places xs ys h.1 i
+
+-- under each name of a copy stands what stood there
+module _ {S X : Type 0} (bytes : S → List ℕ) (items : X → List ℕ) (R : X → X → Type 0) (alike : (v w : X) → R v w → items w ≡ items v) where
+  pub copy_noted : (es fs : List (S × X)) → AllZip (λ p q. (bytes q.0 ≡ bytes p.0) × R p.1 q.1) es fs → (name : List ℕ)
+      → option_map_or items (lookup (λ k. text_eq name (bytes k)) fs) [] ≡ option_map_or items (lookup (λ k. text_eq name (bytes k)) es) []
+  copy_noted [] [] h name = refl
+  copy_noted [] (f ∷ fs) h name = absurd h
+  copy_noted (e ∷ es) [] h name = absurd h
+  copy_noted (e ∷ es) (f ∷ fs) h name =
+      (λ i. option_map_or items (cond (text_eq name (h.0.0 i)) (Some f.1) (lookup (λ k. text_eq name (bytes k)) fs)) []) ∙ by (copy_noted es fs h.1 name) (text_eq name (bytes e.0))
+    where
+      by : option_map_or items (lookup (λ k. text_eq name (bytes k)) fs) [] ≡ option_map_or items (lookup (λ k. text_eq name (bytes k)) es) []
+          → (b : Bool) → option_map_or items (cond b (Some f.1) (lookup (λ k. text_eq name (bytes k)) fs)) [] ≡ option_map_or items (cond b (Some e.1) (lookup (λ k. text_eq name (bytes k)) es)) []
+      by later true = alike e.1 f.1 h.0.1
+      by later false = later

@@ -76,7 +76,7 @@ impl Module {
     pub fn clear_doc(&mut self)
         ensures { self.new ≡ with_doc [] self.old }
     {
-        self.doc = Text::new(*self.subs.allocator());
+        self.doc = Text::new(self.allocator());
     }
 
     /// Whether its index is that of its declarations and of those below.
@@ -138,7 +138,7 @@ impl Module {
 
     /// The variables in ascending order of name.
     pub fn iter_var(&self) -> Iter<'_, Text, Dynamic>
-        ensures { result.iter ≡ self.now.own.vars }
+        ensures { result ≡ self.now.own.vars }
     {
         self.vars.iter()
     }
@@ -240,7 +240,7 @@ impl Module {
 
     /// The custom types in ascending order of type name.
     pub fn iter_custom_types(&self) -> Iter<'_, Text, CustomTypeInfo>
-        ensures { result.iter ≡ self.now.own.types }
+        ensures { result ≡ self.now.own.types }
     {
         self.types.iter()
     }
@@ -276,7 +276,7 @@ impl Module {
 
     /// The sub-modules in ascending order of name.
     pub fn iter_sub_modules(&self) -> Iter<'_, Text, Rc<Module>>
-        ensures { subs_of result.iter ≡ self.now.subs }
+        ensures { subs_of result ≡ self.now.subs }
     {
         self.subs.iter()
     }
@@ -285,7 +285,10 @@ impl Module {
     pub fn is_empty(&self) -> bool
         ensures { result ≡ is_empty self.now }
     {
-        self.vars.len() == 0 && self.subs.is_empty() && self.eager.len() == 0
+        let no_vars = self.vars.len() == 0;
+        let no_subs = self.subs.len() == 0;
+        let no_fns = self.eager.len() == 0;
+        no_vars & (no_subs & no_fns)
     }
 
     /// How many variables, declarations and functions that iterate it has.
@@ -299,7 +302,7 @@ impl Module {
     pub fn clear(&mut self)
         ensures { self.new ≡ cleared self.old }
     {
-        let alloc = *self.subs.allocator();
+        let alloc = self.allocator();
         self.doc = Text::new(alloc);
         self.types.clear();
         self.vars = Entries::new(alloc);

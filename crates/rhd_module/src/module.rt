@@ -8,6 +8,9 @@ ghost use Rattle.rhd_hash.specs.Keys.{key_eq};
 ghost use Rattle.rhd_hash.specs.Parts.{mixed};
 ghost use Rattle.rhd_hash.specs.Steps.{raised};
 ghost use Rattle.rhd_hash.specs.Table.{HasOwnHashes};
+ghost use Rattle.rhd_hash.specs.Refusal.{IsRefusal};
+ghost use Rattle.rhd_hash.specs.declared.fault.TableFault.{TableFault};
+ghost use Rattle.rhd_decl.specs.Collisions.{collision};
 ghost use Rattle.rhd_module.specs.Tree.{empty_module};
 ghost use Rattle.rhd_module.specs.Shown.{own_decl};
 ghost use Rattle.rhd_module.specs.Registered.{put, with_decl, Puts};
@@ -84,6 +87,24 @@ fn note_place(
     }
 }
 
+/// Puts a declaration under a key of a table. Answers whether one stood there.
+fn put_pair(
+    table: &mut KeyTable<Declaration>,
+    key: Key,
+    declaration: Declaration,
+) -> Result<bool, DeclFault>
+    ensures replaced { IfOk result (λ replaced. replaced ≡ is_some (lookup (key_eq key) table.old.pairs)) }
+    ensures pairs { OnOk result (table.new ≡ record table.old { pairs = put key declaration table.old.pairs }) }
+    ensures apart { OnOk result (HasOwnHashes table.old.seeds (keys_of (put key declaration table.old.pairs))) }
+    ensures unchanged { OnErr result (table.new ≡ table.old) }
+    ensures refused { IfErr result (λ fault. (clash : TableFault) × (fault ≡ collision clash) × IsRefusal table.old key clash) }
+{
+    match table.insert(key, declaration) {
+        Ok(old) => Ok(old.is_some()),
+        Err(fault) => Err(DeclFault::from(fault)),
+    }
+}
+
 impl Module {
     /// A module in which nothing is. It is indexed.
     pub fn new(alloc: Global, seeds: Seeds) -> Result<Module, OutOfMemory>
@@ -104,6 +125,11 @@ impl Module {
         })
     }
 
+    /// Where its memory comes from.
+    pub(crate) fn allocator(&self) -> Global {
+        self.natives.allocator()
+    }
+
     /// The seeds under which its keys are hashed.
     pub fn seeds(&self) -> Seeds
         ensures { result ≡ self.now.own.seeds }
@@ -122,9 +148,13 @@ impl Module {
     {
         let place = self.eager.len();
         self.scripts |= key.is_script();
-        if self.eager.insert(key, declaration)?.is_some() {
-            self.flags.set_indexed(false);
-            return Ok(());
+        match put_pair(&mut self.eager, key, declaration) {
+            Err(fault) => return Err(fault),
+            Ok(true) => {
+                self.flags.set_indexed(false);
+                return Ok(());
+            }
+            Ok(false) => {}
         }
         match note_place(&mut self.natives, alloc, &self.eager, place) {
             Ok(()) => {
@@ -225,12 +255,26 @@ fn dup_declarations(
 {
     let mut copy = KeyTable::new(alloc, table.seeds());
     for (key, declaration) in table.iter() {
-        let declaration = declaration.dup(alloc)?;
-        if copy.insert(key.dup(alloc)?, declaration).is_err() {
-            return Err(OutOfMemory);
-        }
+        copy_pair(alloc, &mut copy, key, declaration)?;
     }
     Ok(copy)
+}
+
+/// Puts an equal declaration under an equal key.
+fn copy_pair(
+    alloc: Global,
+    copy: &mut KeyTable<Declaration>,
+    key: &Key,
+    declaration: &Declaration,
+) -> Result<(), OutOfMemory>
+    ensures { OnOk result (copy.new ≡ record copy.old { pairs = put key.now declaration.now copy.old.pairs }) }
+{
+    let declaration = declaration.dup(alloc)?;
+    let key = key.dup(alloc)?;
+    match put_pair(copy, key, declaration) {
+        Ok(_replaced) => Ok(()),
+        Err(_fault) => Err(OutOfMemory),
+    }
 }
 
 /// A clone is the module itself.
@@ -240,8 +284,7 @@ impl Clone for Module {
     ghost is_clone = { λ old copy. copy ≡ old };
 
     fn clone(&self) -> Result<Module, AllocError> {
-        let alloc = *self.subs.allocator();
-        match self.dup(alloc) {
+        match self.dup(self.allocator()) {
             Ok(module) => Ok(module),
             Err(OutOfMemory) => Err(AllocError),
         }

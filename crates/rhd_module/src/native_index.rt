@@ -23,6 +23,11 @@ impl NativeIndex {
         }
     }
 
+    /// Where its memory comes from.
+    pub fn allocator(&self) -> Global {
+        *self.places.allocator()
+    }
+
     /// An equal index.
     pub fn dup(&self, _alloc: Global) -> Result<NativeIndex, OutOfMemory>
         ensures { IfOk result (λ copy. (name : List ℕ) → noted copy name ≡ noted self.now name) }

@@ -23,8 +23,11 @@ pub struct SharedModule {
 
 impl Model for SharedModule {
     ghost use Rattle.rhd_module.specs.Tree.{ModuleTree};
+    ghost use Rattle.rhd_module.specs.Codes.{tree_code};
 
     ghost Value = { ModuleTree };
+
+    ghost coded = { tree_code };
 
     ghost view = { λ m. m.module.value };
 }

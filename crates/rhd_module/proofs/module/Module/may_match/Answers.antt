@@ -1,5 +1,7 @@
-use Rattle.std.proofs.Common.{◌≡◌, ap, subst, ◌∙◌}
+use Rattle.std.proofs.Common.{◌≡◌, slice_get, false, ap, subst, ◌∙◌}
 use Rattle.std.specs.List.{list_any}
+use Rattle.std.specs.Option.{option_map_or}
+use Rattle.rhd_hash.specs.Matching.{key_matches}
 use Rattle.rhd_module.specs.Tree.{ModuleTree}
 use Rattle.rhd_module.specs.Matching.{may_match}
 use Rattle.rhd_module.specs.NativeIndex.{matches_at}
@@ -14,5 +16,6 @@ loop-place-init c =
     let kinds = c.args.kinds.now in
     let places = c.places-place-items.result.now in
     let P : ModuleTree → Type 0 = λ m. list_any (matches_at m exact name kinds) places ≡ may_match m exact name kinds in
-    let seen : ModuleTree = record { own = record { eager = inside.declarations.entries } } in
-    subst P c.self.view_is (ap (list_any (matches_at seen exact name kinds)) c.places-place-items.ensures ∙ matches_at_places inside.natives inside.declarations.entries exact name kinds c.self.invariant.0)
+    subst P c.self.view_is (
+      ap (list_any (λ place. option_map_or (λ p. key_matches exact name kinds p.0) (slice_get inside.eager.pairs place) false)) c.places-place-items.ensures
+      ∙ matches_at_places inside.natives inside.eager.pairs exact name kinds c.self.invariant.0)

@@ -1,0 +1,70 @@
+use Rattle.std.proofs.Common.{◌≡◌, ℕ, ◌++◌, true, false, None, Err, length, take, sym, ap, subst, ◌∙◌}
+use Rattle.std.specs.Map.{lookup}
+use Rattle.rhd_value.specs.Tree.{Bytes}
+use Rattle.rhd_hash.specs.Keys.{key_eq}
+use Rattle.rhd_hash.specs.Table.{Table}
+use Rattle.rhd_decl.specs.declared.declaration.Declaration.{Declaration}
+use Rattle.rhd_module.specs.Tree.{Pairs, ModuleTree}
+use Rattle.rhd_module.specs.Registered.{put, Puts}
+use Rattle.rhd_module.specs.NativeIndex.{IsIndex, noted, place_at}
+use Rattle.rhd_module.specs.contracts.module.Module.{the_view}
+use Rattle.rhd_module.proofs.Places.{index_put_there, index_put_last, take_put}
+use Rattle.rhd_module.proofs.Puts.{refused, is_there, is_absent}
+use Rattle.rhd_module.proofs.Scripts.{noted_put, noted_still}
+use Rattle.rhd_module.proofs.module.Module.put_fn.Goals as goal
+use Rattle.rhd_module.proofs.module.Module.put_fn.Goals.{After-truncate}
+
+pub returns-in-Err : goal.returns-in-Err
+returns-in-Err c =
+    let inside = c.self.inside in
+    let seen : Table Declaration → ModuleTree = λ t. the_view (record inside { eager = t }) in
+    let why = c.in-Err.ensures.refused in
+    let P : ModuleTree → Type 0 = λ m. Puts {A = Unit {0}} None c.args.key c.args.declaration m (Err c.in-Err.fault) (seen c.put_pair.new.table) in
+    subst P c.self.view_is (refused (the_view inside) (seen c.put_pair.new.table) c.args.key c.args.declaration (ap seen c.in-Err.ensures.unchanged) why.0 c.in-Err.fault why.1 why.2)
+
+pub invariant_of-self-in-Ok-true : goal.invariant_of-self-in-Ok-true
+invariant_of-self-in-Ok-true c =
+    let es = c.self.inside.eager.pairs in
+    let key = c.args.key in
+    let puts : c.put_pair.new.table.pairs ≡ put key c.args.declaration es = ap (λ (t : Table Declaration). t.pairs) c.in-Ok-true.ensures.pairs in
+    let there = is_there (lookup (key_eq key) es) (sym c.in-Ok-true.ensures.replaced ∙ c.in-Ok-true.field-0-test) in
+    let index = index_put_there c.self.inside.natives key c.args.declaration es c.self.invariant.0 there in
+    let scripts = noted_put c.self.inside.scripts c.is_script.result key c.args.declaration es c.put_pair.new.table.pairs c.self.invariant.1 c.is_script.ensures puts in
+    (subst (λ (ps : Pairs). IsIndex c.self.inside.natives ps) (sym puts) index, scripts)
+
+pub invariant_of-self-in-Ok : goal.invariant_of-self-in-Ok
+invariant_of-self-in-Ok c =
+    let es = c.self.inside.eager.pairs in
+    let key = c.args.key in
+    let d = c.args.declaration in
+    let old = c.self.inside.natives in
+    let new = c.note_place.new.natives in
+    let puts : c.put_pair.new.table.pairs ≡ put key d es = ap (λ (t : Table Declaration). t.pairs) c.in-Ok-false.ensures.pairs in
+    let absent = is_absent (lookup (key_eq key) es) (sym c.in-Ok-false.ensures.replaced ∙ c.in-Ok-false.field-0-test) in
+    let P : Pairs → ℕ → Type 0 = λ ps place. (name : Bytes) → noted new name ≡ noted old name ++ place_at name ps place in
+    let notes : P (put key d es) (length es) = subst (λ (ps : Pairs). P ps (length es)) puts (subst (λ (place : ℕ). P c.put_pair.new.table.pairs place) c.len-place.ensures c.in-Ok.ensures.ok) in
+    let scripts = noted_put c.self.inside.scripts c.is_script.result key d es c.put_pair.new.table.pairs c.self.invariant.1 c.is_script.ensures puts in
+    (subst (λ (ps : Pairs). IsIndex new ps) (sym puts) (index_put_last old new key d es c.self.invariant.0 absent notes), scripts)
+
+-- what was put last is taken out again
+as_before : (c : After-truncate) → c.truncate.new.self ≡ c.self.inside.eager
+as_before c =
+    let es = c.self.inside.eager.pairs in
+    let key = c.args.key in
+    let absent = is_absent (lookup (key_eq key) es) (sym c.in-Ok-false.ensures.replaced ∙ c.in-Ok-false.field-0-test) in
+    let table : Pairs → Table Declaration = λ ps. record { seeds = c.self.inside.eager.seeds; pairs = ps } in
+    c.truncate.ensures ∙ (λ i. record (c.in-Ok-false.ensures.pairs i) { pairs = take (c.len-place.ensures i) (c.in-Ok-false.ensures.pairs i).pairs })
+    ∙ ap table (take_put key c.args.declaration es absent)
+
+pub invariant_of-self-in-Err-note_place : goal.invariant_of-self-in-Err-note_place
+invariant_of-self-in-Err-note_place c =
+    let es = c.self.inside.eager.pairs in
+    let same = ap (λ (t : Table Declaration). t.pairs) (as_before c) in
+    let index : IsIndex c.note_place.new.natives es = λ name. c.in-Err-note_place.ensures.err name ∙ c.self.invariant.0 name in
+    let scripts = noted_still c.self.inside.scripts c.is_script.result es c.truncate.new.self.pairs c.self.invariant.1 same in
+    (subst (λ (ps : Pairs). IsIndex c.note_place.new.natives ps) (sym same) index, scripts)
+
+pub returns-in-Err-note_place : goal.returns-in-Err-note_place
+returns-in-Err-note_place c =
+    let inside = c.self.inside in
+    ap (λ (t : Table Declaration). the_view (record inside { eager = t })) (as_before c) ∙ c.self.view_is
