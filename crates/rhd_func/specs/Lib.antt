@@ -4,3 +4,4 @@ pub mod Funcs
 pub mod Shapes
 pub mod GivenBack
 pub mod Infos
+pub mod Shown

@@ -4,6 +4,7 @@
 
 mod access;
 mod bodies;
+mod display;
 mod func;
 mod host;
 mod native;

@@ -2,4 +2,5 @@ pub mod Puts
 pub mod Noted
 pub mod Places
 pub mod Scripts
+pub mod Refusals
 pub mod SubModules

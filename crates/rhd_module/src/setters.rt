@@ -1,29 +1,54 @@
 //! How functions are put into a module.
 
-ghost use Rattle.std.specs.Prelude.{◌≡◌, None, IfOk, codes, is_some};
+ghost use Rattle.std.specs.Prelude.{◌≡◌, ◌||◌, ◌∷◌, [], None, Some, IfOk, codes, is_some, length};
 ghost use Rattle.std.specs.Option.{option_copied};
 ghost use Rattle.std.specs.Map.{lookup};
 ghost use Rattle.rhd_hash.specs.Keys.{key_eq};
 ghost use Rattle.rhd_hash.specs.Parts.{mixed};
 ghost use Rattle.rhd_func.specs.Infos.{infos_of};
-ghost use Rattle.rhd_func.specs.Funcs.{is_method};
+ghost use Rattle.rhd_value.specs.Firsts.{first_some, where_holds};
+ghost use Rattle.rhd_func.specs.Funcs.{is_method, is_iter, is_script, native_of};
+ghost use Rattle.rhd_decl.specs.declared.fault.DeclFault.TheVariants.{NotCallable, UnknownNumber};
 ghost use Rattle.rhd_module.specs.Contents.{script_of, with_comments};
-ghost use Rattle.rhd_module.specs.Registered.{Puts, Registers, RegistersRaw, native_at, native_key, native_decl, registered_decl, registered_hash, raw_cause, script_key, script_decl, new_registration, global_registration, setter_registration, pure_registration, getter_name, setter_name};
+ghost use Rattle.rhd_module.specs.Registered.{Puts, Registers, RegistersRaw, unheld, banned, native_at, native_key, native_decl, registered_decl, registered_hash, raw_cause, script_key, script_decl, new_registration, global_registration, setter_registration, pure_registration, getter_name, setter_name};
 
 use crate::module::Module;
 use crate::registration::{FuncRegistration, is_banned, native_key, script_declaration, script_key};
 use rhd_decl::{DeclFault, FuncMetadata};
-use rhd_func::{EnvId, Natives, RhaiFunc, SharedDef};
+use rhd_func::{EnvId, Natives, PluginFunc, RhaiFunc, SharedDef};
 use rhd_hash::Key;
 use rhd_value::{FnId, Text, Texts, TypeTag};
 use std::alloc::Global;
 
 /// The refusal of a native's number that isn't held.
-fn unknown(natives: &Natives, id: FnId) -> DeclFault {
+fn unknown(natives: &Natives, id: FnId) -> DeclFault
+    ensures { result ≡ UnknownNumber id.0 (length natives.now.items.items) }
+{
     DeclFault::UnknownNumber {
         number: u64::from(id.0),
         length: natives.len() as u64,
     }
+}
+
+/// Why the native of a number isn't found; none where it is held.
+fn unheld(natives: &Natives, id: FnId) -> Option<DeclFault>
+    ensures { result ≡ unheld (infos_of info natives.now) (Some id) }
+{
+    if (id.0 as usize) < natives.len() {
+        None
+    } else {
+        Some(unknown(natives, id))
+    }
+}
+
+/// Why a function isn't registered raw, whatever its types and its name.
+fn raw_refusal(natives: &Natives, func: &RhaiFunc) -> Option<DeclFault>
+    ensures { result ≡ first_some (unheld (infos_of info natives.now) (native_of func.now) ∷ where_holds (is_iter func.now || is_script func.now) NotCallable ∷ []) }
+{
+    if let Some(id) = func.native_id() {
+        return unheld(natives, id);
+    }
+    Some(DeclFault::NotCallable)
 }
 
 impl FuncRegistration {
@@ -39,17 +64,10 @@ impl FuncRegistration {
         ensures registers { Registers (infos_of info natives.now) self id target.old result target.new }
         ensures metadata { IfOk result (λ metadata. metadata ≡ (registered_decl target.old.own.seeds self (native_at (infos_of info natives.now) id) id).metadata) }
     {
-        let Some(native) = natives.get(id) else {
-            return Err(unknown(natives, id));
-        };
-        let is_method = native.is_method_call();
-        let types = native.param_types();
-        if is_banned(&self.name, types) {
-            let key = native_key(alloc, &self.name, is_method, types)?;
-            return Err(DeclFault::IndexerNotAllowed { key });
+        match natives.get(id) {
+            Some(native) => target.put_held(alloc, self, native, id),
+            None => Err(unknown(natives, id)),
         }
-        let func = self.func_of(native, id);
-        target.put_native(alloc, self, is_method, types, func)
     }
 
     /// Registers a function that isn't defined by a script and doesn't iterate, with these types: in the
@@ -67,20 +85,11 @@ impl FuncRegistration {
         ensures registers { RegistersRaw (infos_of info natives.now) self types.now func target.old result target.new }
         ensures metadata { IfOk result (λ metadata. metadata ≡ (native_decl target.old.own.seeds self (is_method (infos_of info natives.now) func) types.now func).metadata) }
     {
-        if let Some(id) = func.native_id() {
-            if natives.get(id).is_none() {
-                return Err(unknown(natives, id));
-            }
-        }
-        if func.is_iter() || func.is_script() {
-            return Err(DeclFault::NotCallable);
+        if let Some(fault) = raw_refusal(natives, &func) {
+            return Err(fault);
         }
         let is_method = func.is_method(natives);
-        if is_banned(&self.name, types) {
-            let key = native_key(alloc, &self.name, is_method, types)?;
-            return Err(DeclFault::IndexerNotAllowed { key });
-        }
-        target.put_native(alloc, self, is_method, types, func)
+        target.put_allowed(alloc, self, is_method, types, func)
     }
 }
 
@@ -102,6 +111,41 @@ impl Module {
         let metadata = declaration.metadata.dup(alloc)?;
         self.put_fn(alloc, key, declaration)?;
         Ok(metadata)
+    }
+
+    /// The same where it isn't an indexer of a type whose indexing has its meaning already.
+    fn put_allowed(
+        &mut self,
+        alloc: Global,
+        reg: FuncRegistration,
+        is_method: bool,
+        types: &[TypeTag],
+        func: RhaiFunc,
+    ) -> Result<FuncMetadata, DeclFault>
+        ensures puts { Puts (banned is_method reg.name types.now) (native_key is_method reg.name types.now) (native_decl self.old.own.seeds reg is_method types.now func) self.old result self.new }
+        ensures metadata { IfOk result (λ metadata. metadata ≡ (native_decl self.old.own.seeds reg is_method types.now func).metadata) }
+    {
+        if is_banned(&reg.name, types) {
+            let key = native_key(alloc, &reg.name, is_method, types)?;
+            return Err(DeclFault::IndexerNotAllowed { key });
+        }
+        self.put_native(alloc, reg, is_method, types, func)
+    }
+
+    /// Puts a native under a registration, with its types.
+    fn put_held(
+        &mut self,
+        alloc: Global,
+        reg: FuncRegistration,
+        native: &Box<dyn PluginFunc>,
+        id: FnId,
+    ) -> Result<FuncMetadata, DeclFault>
+        ensures puts { Puts (banned (info native.now).is_method reg.name (info native.now).types) (native_key (info native.now).is_method reg.name (info native.now).types) (registered_decl self.old.own.seeds reg (info native.now) id) self.old result self.new }
+        ensures metadata { IfOk result (λ metadata. metadata ≡ (registered_decl self.old.own.seeds reg (info native.now) id).metadata) }
+    {
+        let func = reg.func_of(native, id);
+        let is_method = native.is_method_call();
+        self.put_allowed(alloc, reg, is_method, native.param_types(), func)
     }
 
     /// Does what `FuncRegistration::set_into_module_raw` does.
