@@ -109,11 +109,17 @@ pub enum RhaiFunc {
         is_volatile: bool,
     },
     /// A function that iterates. It isn't called.
-    Iterator { func: IterId },
+    Iterator {
+        func: IterId,
+    },
     /// A native, as it says of itself.
-    Plugin { func: FnId },
+    Plugin {
+        func: FnId,
+    },
     /// The same of a native that is listed.
-    StaticPlugin { func: FnId },
+    StaticPlugin {
+        func: FnId,
+    },
     /// A script, and the environment in which it was defined, if there is one.
     Script {
         fn_def: SharedDef,

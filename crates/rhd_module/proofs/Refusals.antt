@@ -1,9 +1,11 @@
 -- Why a native isn't registered: what is known beforehand, put before what the module says.
-use Rattle.std.proofs.Common.{◌≡◌, ◌<◌, ◌≤◌, ℕ, Bool, true, false, not, ◌||◌, nat_lt, List, [], ◌∷◌, length, refl, sym, ap, subst, ◌∙◌, inl, inr, arith}
+use Rattle.std.proofs.Common.{◌≡◌, ◌<◌, ◌≤◌, ℕ, Bool, true, false, not, ◌||◌, nat_lt, List, [], ◌∷◌, length, map, refl, sym, ap, subst, ◌∙◌, inl, inr, arith}
 use Rattle.std.specs.Prelude.{Option, Some, None, is_none, Result, Ok, Err, IfOk, slice_get, unwrap_or}
+use Rattle.std.specs.Prelude.{option_map}
 use Rattle.std.specs.Option.{option_or}
 use Rattle.std.proofs.lemmas.Bool.Decides.{nat_tests}
-use Rattle.std.proofs.lemmas.Option.{slice_get_cases}
+use Rattle.std.proofs.lemmas.Option.{slice_get_cases, slice_get-map}
+use Rattle.std.proofs.lemmas.List.{length-map}
 use Rattle.rhd_value.specs.Firsts.{first_some, where_holds}
 use Rattle.rhd_value.specs.Tree.{Bytes}
 use Rattle.rhd_value.specs.declared.tag.FnId.{FnId}
@@ -25,15 +27,6 @@ or_none : {A : Type 0} (o : Option A) → option_or o None ≡ o
 or_none None = refl
 or_none (Some x) = refl
 
--- a function that is no native's iterates or is a script
-pub callable : (f : RhaiFunc) → (is_iter f || is_script f) ≡ is_none (native_of f)
-callable (funcs.Pure id context pure volatile) = refl
-callable (funcs.Method id context pure volatile) = refl
-callable (funcs.Iterator id) = refl
-callable (funcs.Plugin id) = refl
-callable (funcs.StaticPlugin id) = refl
-callable (funcs.Script def env) = refl
-
 -- a test that doesn't hold refuses nothing
 pub where_not : {A : Type 0} (test : Bool) (x : A) → test ≡ false → where_holds test x ≡ None
 where_not test x e = ap (λ (b : Bool). where_holds b x) e
@@ -54,19 +47,22 @@ not_held items i none = elim (slice_get_cases items i).1 [
   | inr past ↦ grind (arith, nat_tests, past.0)
 ]
 
--- with no cause but that of a function that isn't callable
-pub raw_refused : (infos : List NativeInfo) (f : RhaiFunc) → native_of f ≡ None → Some NotCallable ≡ first_some (unheld infos (native_of f) ∷ where_holds (is_iter f || is_script f) NotCallable ∷ [])
-raw_refused infos f none = sym (
-  ap (λ (o : Option FnId). first_some (unheld infos o ∷ where_holds (is_iter f || is_script f) NotCallable ∷ [])) none
-  ∙ ap (λ (b : Bool). first_some (where_holds b NotCallable ∷ [])) (callable f ∙ ap is_none none)
-)
+-- the same of what the natives of a table say of themselves
+pub unheld_none : {N : Type 0} (view : N → NativeInfo) (items : List N) (id : FnId) → id.0 < length items → None ≡ unheld (map view items) (Some id)
+unheld_none view items id h =
+    let within : nat_lt id.0 (length items) ≡ true = grind (arith, nat_tests, h) in
+    sym (ap (λ (l : ℕ). where_holds (not (nat_lt id.0 l)) (UnknownNumber id.0 l)) (length-map items view) ∙ where_not (not (nat_lt id.0 (length items))) (UnknownNumber id.0 (length items)) (ap not within))
 
-pub raw_unheld : (infos : List NativeInfo) (f : RhaiFunc) (id : FnId) → native_of f ≡ Some id → unheld infos (Some id) ≡ first_some (unheld infos (native_of f) ∷ where_holds (is_iter f || is_script f) NotCallable ∷ [])
-raw_unheld infos f id some = sym (
-  ap (λ (o : Option FnId). first_some (unheld infos o ∷ where_holds (is_iter f || is_script f) NotCallable ∷ [])) some
-  ∙ ap (λ (b : Bool). option_or (unheld infos (Some id)) (first_some (where_holds b NotCallable ∷ []))) (callable f ∙ ap is_none some)
-  ∙ or_none (unheld infos (Some id))
-)
+pub unheld_some : {N : Type 0} (view : N → NativeInfo) (items : List N) (id : FnId) → length items ≤ id.0 → Some (UnknownNumber id.0 (length items)) ≡ unheld (map view items) (Some id)
+unheld_some view items id h =
+    let past : nat_lt id.0 (length items) ≡ false = grind (arith, nat_tests, h) in
+    sym (ap (λ (l : ℕ). where_holds (not (nat_lt id.0 l)) (UnknownNumber id.0 l)) (length-map items view) ∙ where_so (not (nat_lt id.0 (length items))) (UnknownNumber id.0 (length items)) (ap not past))
+
+pub says_itself : {N : Type 0} (view : N → NativeInfo) (items : List N) (i : ℕ) (native : N) → slice_get items i ≡ Some native → slice_get (map view items) i ≡ Some (view native)
+says_itself view items i native some = slice_get-map view items i ∙ ap (option_map view) some
+
+pub says_nothing : {N : Type 0} (view : N → NativeInfo) (items : List N) (i : ℕ) → slice_get items i ≡ None → slice_get (map view items) i ≡ None
+says_nothing view items i none = slice_get-map view items i ∙ ap (option_map view) none
 
 module _ {A : Type 0} (k : Key) (d : Declaration) (old new : ModuleTree) where
   -- the causes of the types come after others that don't hold
@@ -78,29 +74,6 @@ module _ {A : Type 0} (k : Key) (d : Declaration) (old new : ModuleTree) where
   pub puts_after_one : (a c : Option DeclFault) (r : Result A DeclFault) → a ≡ None → Puts c k d old r new → Puts (first_some (a ∷ c ∷ [])) k d old r new
   puts_after_one None c r e puts = subst (λ (o : Option DeclFault). Puts o k d old r new) (sym (or_none c)) puts
   puts_after_one (Some a) c r e puts = absurd cc
-
-  unheld_refuses : (b : Bool) (n l : ℕ) (rest : Bool) (more : Option DeclFault) (fault : DeclFault) → Some fault ≡ first_some (where_holds b (UnknownNumber n l) ∷ where_holds rest NotCallable ∷ [])
-      → new ≡ old → Puts (first_some (where_holds b (UnknownNumber n l) ∷ where_holds rest NotCallable ∷ more ∷ [])) k d old (Err {T = A} fault) new
-  unheld_refuses true n l rest more fault e same =
-      let is : fault ≡ UnknownNumber n l = cc in
-      subst (λ (f : DeclFault). Puts (Some (UnknownNumber n l)) k d old (Err {T = A} f) new) (sym is) (refl, same)
-  unheld_refuses false n l true more fault e same =
-      let is : fault ≡ NotCallable = cc in
-      subst (λ (f : DeclFault). Puts (Some NotCallable) k d old (Err {T = A} f) new) (sym is) (refl, same)
-  unheld_refuses false n l false more fault e same = absurd (let x : Some fault ≡ None = e in cc)
-
-  -- the refusal of a function that is registered raw
-  pub raw_refuses : (infos : List NativeInfo) (o : Option FnId) (b : Bool) (more : Option DeclFault) (fault : DeclFault) → Some fault ≡ first_some (unheld infos o ∷ where_holds b NotCallable ∷ [])
-      → new ≡ old → Puts (first_some (unheld infos o ∷ where_holds b NotCallable ∷ more ∷ [])) k d old (Err {T = A} fault) new
-  raw_refuses infos None b more fault e same = unheld_refuses false 0 0 b more fault e same
-  raw_refuses infos (Some id) b more fault e same = unheld_refuses (not (nat_lt id.0 (length infos))) id.0 (length infos) b more fault e same
-
-  -- an indexer that isn't allowed, and a function that is
-  pub banned_puts : (method : Bool) (name : Bytes) (types : List TypeTag) → is_banned name types ≡ true → new ≡ old → Puts (banned method name types) k d old (Err {T = A} (IndexerNotAllowed (native_key method name types))) new
-  banned_puts method name types e same = (where_so (is_banned name types) (IndexerNotAllowed (native_key method name types)) e, same)
-
-  pub allowed_puts : (method : Bool) (name : Bytes) (types : List TypeTag) (r : Result A DeclFault) → is_banned name types ≡ false → Puts None k d old r new → Puts (banned method name types) k d old r new
-  allowed_puts method name types r e puts = subst (λ (o : Option DeclFault). Puts o k d old r new) (sym (where_not (is_banned name types) (IndexerNotAllowed (native_key method name types)) e)) puts
 
 -- a native that is held is registered as it says of itself
 pub held_registers : {A : Type 0} (infos : List NativeInfo) (reg : FuncRegistration) (id : FnId) (old new : ModuleTree) (r : Result A DeclFault) (info : NativeInfo) → slice_get infos id.0 ≡ Some info
@@ -120,8 +93,29 @@ held_metadata infos reg id old r info held said =
     subst P is said
 
 -- of a number that isn't held, nothing is registered
-pub unheld_registers : {A : Type 0} (infos : List NativeInfo) (reg : FuncRegistration) (id : FnId) (old new : ModuleTree) → slice_get infos id.0 ≡ None → new ≡ old
-    → Registers infos reg id old (Err {T = A} (UnknownNumber id.0 (length infos))) new
-unheld_registers infos reg id old new none same =
+pub unheld_registers : (A : Type 0) (infos : List NativeInfo) (reg : FuncRegistration) (id : FnId) (old new : ModuleTree) → slice_get infos id.0 ≡ None → new ≡ old
+    → Registers {A = A} infos reg id old (Err (UnknownNumber id.0 (length infos))) new
+unheld_registers A infos reg id old new none same =
     let there : NativeInfo = native_at infos id in
     (ap (λ (o : Option DeclFault). first_some (o ∷ banned there.is_method reg.name there.types ∷ [])) (where_so (not (nat_lt id.0 (length infos))) (UnknownNumber id.0 (length infos)) (ap not (not_held infos id.0 none))), same)
+
+pub unheld_fault : (A : Type 0) {N : Type 0} (view : N → NativeInfo) (items : List N) (reg : FuncRegistration) (id : FnId) (old new : ModuleTree) (fault : DeclFault) → slice_get items id.0 ≡ None
+    → fault ≡ UnknownNumber id.0 (length items) → new ≡ old → Registers {A = A} (map view items) reg id old (Err fault) new
+unheld_fault A view items reg id old new fault none is same =
+    let P : DeclFault → Type 0 = λ f. Registers {A = A} (map view items) reg id old (Err f) new in
+    subst P (sym (is ∙ ap (UnknownNumber id.0) (sym (length-map items view)))) (unheld_registers A (map view items) reg id old new (says_nothing view items id.0 none) same)
+
+-- a function that is registered raw, and isn't refused beforehand
+pub raw_registers : {A : Type 0} (infos : List NativeInfo) (reg : FuncRegistration) (types : List TypeTag) (f : RhaiFunc) (old new : ModuleTree) (r : Result A DeclFault) (method : Bool) → method ≡ is_method infos f
+    → first_some (unheld infos (native_of f) ∷ where_holds (is_iter f || is_script f) NotCallable ∷ []) ≡ None
+    → Puts (banned method reg.name types) (native_key method reg.name types) (native_decl old.own.seeds reg method types f) old r new → RegistersRaw infos reg types f old r new
+raw_registers {A} infos reg types f old new r method is free puts =
+    let P : Bool → Type 0 = λ m. Puts (banned m reg.name types) (native_key m reg.name types) (native_decl old.own.seeds reg m types f) old r new in
+    let m : Bool = is_method infos f in
+    puts_after (native_key m reg.name types) (native_decl old.own.seeds reg m types f) old new (unheld infos (native_of f)) (where_holds (is_iter f || is_script f) NotCallable) (banned m reg.name types) r free (subst P is puts)
+
+pub raw_metadata : (infos : List NativeInfo) (reg : FuncRegistration) (types : List TypeTag) (f : RhaiFunc) (old : ModuleTree) (r : Result FuncMetadata DeclFault) (method : Bool) → method ≡ is_method infos f
+    → IfOk r (λ m. m ≡ (native_decl old.own.seeds reg method types f).metadata) → IfOk r (λ m. m ≡ (native_decl old.own.seeds reg (is_method infos f) types f).metadata)
+raw_metadata infos reg types f old r method is said =
+    let P : Bool → Type 0 = λ m. IfOk r (λ x. x ≡ (native_decl old.own.seeds reg m types f).metadata) in
+    subst P is said
