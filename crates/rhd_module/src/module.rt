@@ -18,6 +18,7 @@ ghost use Rattle.rhd_module.specs.Matching.{may_match};
 ghost use Rattle.rhd_module.specs.NativeIndex.{noted, place_at, matches_at};
 
 use crate::native_index::NativeIndex;
+use indexmap::map::Values;
 use rhd_decl::{CustomTypesCollection, DeclFault, Declaration, Switches};
 use rhd_func::{RhaiFunc, SharedText};
 use rhd_hash::{Key, KeyTable, Seeds, Steps};
@@ -199,6 +200,13 @@ impl Module {
         ensures { result ≡ is_some (own_decl self.now key.now) }
     {
         self.eager.get(key).is_some()
+    }
+
+    /// The declarations with their keys, in order.
+    pub fn iter_fn(&self) -> Values<'_, u64, (Key, Declaration)>
+        ensures { result ≡ self.now.own.eager }
+    {
+        self.eager.iter()
     }
 
     /// Whether a native is declared under this name each of whose types is the argument's kind, or,
