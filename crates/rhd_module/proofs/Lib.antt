@@ -4,3 +4,4 @@ pub mod Places
 pub mod Scripts
 pub mod Refusals
 pub mod SubModules
+pub mod Commented

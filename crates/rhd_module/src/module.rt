@@ -14,6 +14,7 @@ ghost use Rattle.rhd_decl.specs.Collisions.{collision};
 ghost use Rattle.rhd_module.specs.Tree.{empty_module};
 ghost use Rattle.rhd_module.specs.Shown.{own_decl};
 ghost use Rattle.rhd_module.specs.Registered.{put, with_decl, Puts};
+ghost use Rattle.rhd_module.specs.Contents.{commented, comment_on, with_comments};
 ghost use Rattle.rhd_module.specs.Matching.{may_match};
 ghost use Rattle.rhd_module.specs.NativeIndex.{noted, place_at, matches_at};
 
@@ -22,7 +23,7 @@ use indexmap::map::Values;
 use rhd_decl::{CustomTypesCollection, DeclFault, Declaration, Switches};
 use rhd_func::{RhaiFunc, SharedText};
 use rhd_hash::{Key, KeyTable, Seeds, Steps};
-use rhd_value::{Entries, OutOfMemory, Text, TypeTag};
+use rhd_value::{Entries, OutOfMemory, Text, Texts, TypeTag};
 use std::alloc::{AllocError, Global};
 use std::collections::BTreeMap;
 use std::marker::Model;
@@ -178,6 +179,21 @@ impl Module {
         self.scripts = false;
     }
 
+    /// Sets the comments of the declaration under a key. Answers whether there is one.
+    pub fn set_fn_comments(
+        &mut self,
+        alloc: Global,
+        key: &Key,
+        comments: Texts,
+    ) -> Result<bool, OutOfMemory>
+        ensures answer { IfOk result (λ found. found ≡ is_some (lookup (key_eq key.now) self.old.own.eager)) }
+        ensures ok { OnOk result (self.new ≡ with_comments key.now comments self.old) }
+        ensures err { OnErr result (self.new ≡ self.old) }
+    {
+        let found = comment_pair(&mut self.eager, alloc, key, comments)?;
+        Ok(found)
+    }
+
     /// The function that is declared under a key. It is one look-up more.
     #[tactic(auto, unfolding(crate::specs::Shown::own_decl))]
     pub fn get_fn(&self, key: &Key, steps: &mut Steps) -> Option<&RhaiFunc>
@@ -247,6 +263,41 @@ impl Module {
             natives: self.natives.dup(alloc)?,
             scripts: self.scripts,
         })
+    }
+}
+
+/// An equal declaration but for its comments.
+fn commented(
+    alloc: Global,
+    declaration: &Declaration,
+    comments: Texts,
+) -> Result<Declaration, OutOfMemory>
+    ensures { IfOk result (λ d. d ≡ commented comments declaration.now) }
+{
+    let mut copy = declaration.dup(alloc)?;
+    copy.metadata.comments = comments;
+    Ok(copy)
+}
+
+/// Sets the comments of the declaration under a key of a table. Answers whether there is one.
+fn comment_pair(
+    table: &mut KeyTable<Declaration>,
+    alloc: Global,
+    key: &Key,
+    comments: Texts,
+) -> Result<bool, OutOfMemory>
+    ensures answer { IfOk result (λ found. found ≡ is_some (lookup (key_eq key.now) table.old.pairs)) }
+    ensures ok { OnOk result (table.new ≡ record table.old { pairs = comment_on key.now comments table.old.pairs }) }
+    ensures err { OnErr result (table.new ≡ table.old) }
+{
+    let declaration = match table.get(key) {
+        Some(declaration) => commented(alloc, declaration, comments)?,
+        None => return Ok(false),
+    };
+    let key = key.dup(alloc)?;
+    match put_pair(table, key, declaration) {
+        Ok(_replaced) => Ok(true),
+        Err(_fault) => Err(OutOfMemory),
     }
 }
 
