@@ -1,5 +1,5 @@
 -- How the logic stores a module.
-use Rattle.std.specs.Prelude.{◌≡◌, ℕ, ◌+◌, ◌≤◌, Bool, List, [], ◌∷◌, map, refl, Option}
+use Rattle.std.specs.Prelude.{◌≡◌, ◌+◌, ◌≤◌, Bool, List, [], ◌∷◌, map, refl, Option}
 use Rattle.std.specs.Coded.{Coded, code_by, coded×, coded_ℕ, coded_bool, coded_list, coded_option}
 use Rattle.std.specs.declared.rc.Rc.{Rc}
 use Rattle.std.proofs.Common.{ap, arith}
@@ -9,7 +9,6 @@ use Rattle.rhd_value.specs.Tree.{Bytes, Tree}
 use Rattle.rhd_value.specs.Codes.{coded_entries}
 use Rattle.rhd_value.specs.declared.tag.TypeTag.{TypeTag}
 use Rattle.rhd_value.specs.contracts.tag.TypeTag as tag
-use Rattle.rhd_hash.specs.declared.key.Key.{Key}
 use Rattle.rhd_hash.specs.declared.mixer.Seeds.{Seeds}
 use Rattle.rhd_hash.specs.contracts.key.Key as key
 use Rattle.rhd_hash.specs.contracts.mixer.Seeds as seeds
@@ -17,7 +16,6 @@ use Rattle.rhd_func.specs.declared.access.IterId.{IterId}
 use Rattle.rhd_func.specs.declared.access.ManifestId.{ManifestId}
 use Rattle.rhd_func.specs.contracts.access.IterId as iterator
 use Rattle.rhd_func.specs.contracts.access.ManifestId as manifest
-use Rattle.rhd_decl.specs.declared.declaration.Declaration.{Declaration}
 use Rattle.rhd_decl.specs.contracts.declaration.Declaration as declaration
 use Rattle.rhd_decl.specs.declared.custom_types.CustomTypeInfo.{CustomTypeInfo}
 use Rattle.rhd_decl.specs.contracts.custom_types.CustomTypeInfo as info

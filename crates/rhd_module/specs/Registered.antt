@@ -1,6 +1,6 @@
 -- How natives and scripts are declared.
 use Rattle.std.specs.Prelude.{◌≡◌, ℕ, ◌-◌, Bool, true, false, not, nat_lt, ◌&&◌, ◌||◌, ◌==◌, List, [], ◌∷◌, ◌++◌, length, map, take, slice_get, nat_eq, if◌then◌else◌, Option, None, Some, unwrap_or, Result, Ok, Err, codes}
-use Rattle.std.specs.List.{starts_with, list_any, Contains}
+use Rattle.std.specs.List.{starts_with, list_any}
 use Rattle.std.specs.Map.{keys_of}
 use Rattle.rhd_value.specs.Tree.{Bytes}
 use Rattle.rhd_value.specs.Firsts.{first_some, where_holds}
@@ -29,7 +29,7 @@ use Rattle.rhd_decl.specs.declared.declaration.Declaration.{Declaration}
 use Rattle.rhd_decl.specs.declared.fault.DeclFault.{DeclFault}
 use Rattle.rhd_decl.specs.declared.fault.DeclFault.TheVariants.{HashCollision, IndexerNotAllowed, NotCallable, UnknownNumber, OutOfMemory}
 use Rattle.rhd_module.specs.declared.registration.FuncRegistration.{FuncRegistration}
-use Rattle.rhd_module.specs.Tree.{ModuleTree, Lists, Pairs}
+use Rattle.rhd_module.specs.Tree.{ModuleTree, Pairs}
 
 -- an equal key keeps its place and gets the new declaration; else the declaration goes last
 abbrev pub put : Key → Declaration → Pairs → Pairs

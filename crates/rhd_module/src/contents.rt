@@ -181,7 +181,8 @@ impl Module {
         ensures ok { OnOk result (self.new ≡ with_type (type_name (Custom kind)) name comments self.old) }
         ensures err { OnErr result (self.new ≡ self.old) }
     {
-        self.types.add_type_with_comments(alloc, kind, name, comments)
+        self.types
+            .add_type_with_comments(alloc, kind, name, comments)
     }
 
     /// The type of this type name is shown by this name, in the place of an earlier one.
@@ -208,7 +209,8 @@ impl Module {
         ensures ok { OnOk result (self.new ≡ with_type type_name display comments self.old) }
         ensures err { OnErr result (self.new ≡ self.old) }
     {
-        self.types.add_with_comments(alloc, type_name, display, comments)
+        self.types
+            .add_with_comments(alloc, type_name, display, comments)
     }
 
     /// The name by which the type of a type name is shown.

@@ -180,13 +180,14 @@ impl Module {
     }
 
     /// Sets the comments of the declaration under a key. Answers whether there is one.
+    #[tactic(auto, unfolding(crate::specs::Shown::own_decl))]
     pub fn set_fn_comments(
         &mut self,
         alloc: Global,
         key: &Key,
         comments: Texts,
     ) -> Result<bool, OutOfMemory>
-        ensures answer { IfOk result (λ found. found ≡ is_some (lookup (key_eq key.now) self.old.own.eager)) }
+        ensures answer { IfOk result (λ found. found ≡ is_some (own_decl self.old key.now)) }
         ensures ok { OnOk result (self.new ≡ with_comments key.now comments self.old) }
         ensures err { OnErr result (self.new ≡ self.old) }
     {

@@ -13,7 +13,9 @@ ghost use Rattle.rhd_module.specs.Contents.{script_of, with_comments};
 ghost use Rattle.rhd_module.specs.Registered.{Puts, Registers, RegistersRaw, unheld, banned, native_at, native_key, native_decl, registered_decl, registered_hash, raw_cause, script_key, script_decl, new_registration, global_registration, setter_registration, pure_registration, getter_name, setter_name};
 
 use crate::module::Module;
-use crate::registration::{FuncRegistration, is_banned, native_key, script_declaration, script_key};
+use crate::registration::{
+    FuncRegistration, is_banned, native_key, script_declaration, script_key,
+};
 use rhd_decl::{DeclFault, FuncMetadata};
 use rhd_func::{EnvId, Natives, PluginFunc, RhaiFunc, SharedDef};
 use rhd_hash::Key;

@@ -92,7 +92,12 @@ impl SharedModule {
     }
 
     /// The type of this type name is shown by this name in this owner's module. It is copied first where it has other owners.
-    pub fn set_custom_type_raw(&mut self, alloc: Global, type_name: Text, display: Text) -> Result<(), OutOfMemory>
+    pub fn set_custom_type_raw(
+        &mut self,
+        alloc: Global,
+        type_name: Text,
+        display: Text,
+    ) -> Result<(), OutOfMemory>
         ensures ok { OnOk result (self.new ≡ with_type type_name display [] self.old) }
         ensures err { OnErr result (self.new ≡ self.old) }
     {
@@ -101,7 +106,12 @@ impl SharedModule {
     }
 
     /// Puts a sub-module into this owner's module. It is copied first where it has other owners.
-    pub fn set_sub_module(&mut self, alloc: Global, name: Text, child: SharedModule) -> Result<(), OutOfMemory>
+    pub fn set_sub_module(
+        &mut self,
+        alloc: Global,
+        name: Text,
+        child: SharedModule,
+    ) -> Result<(), OutOfMemory>
         ensures ok { OnOk result (self.new ≡ with_sub name child self.old) }
         ensures err { OnErr result (self.new ≡ self.old) }
     {

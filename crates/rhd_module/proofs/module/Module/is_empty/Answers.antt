@@ -1,4 +1,4 @@
-use Rattle.std.proofs.Common.{◌≡◌, ◌&&◌, true, nat_eq, ap, subst, ◌∙◌, Global}
+use Rattle.std.proofs.Common.{◌≡◌, ◌&&◌, nat_eq, ap, subst, ◌∙◌, Global}
 use Rattle.rhd_module.specs.Tree.{ModuleTree}
 use Rattle.rhd_module.specs.Contents.{is_empty}
 use Rattle.rhd_module.proofs.SubModules.{none_of, subs_none, and_true}

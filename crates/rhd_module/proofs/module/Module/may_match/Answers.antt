@@ -17,5 +17,5 @@ loop-place-init c =
     let places = c.places-place-items.result.now in
     let P : ModuleTree → Type 0 = λ m. list_any (matches_at m exact name kinds) places ≡ may_match m exact name kinds in
     subst P c.self.view_is (
-      ap (list_any (λ place. option_map_or (λ p. key_matches exact name kinds p.0) (slice_get inside.eager.pairs place) false)) c.places-place-items.ensures
-      ∙ matches_at_places inside.natives inside.eager.pairs exact name kinds c.self.invariant.0)
+    ap (list_any (λ place. option_map_or (λ p. key_matches exact name kinds p.0) (slice_get inside.eager.pairs place) false)) c.places-place-items.ensures
+    ∙ matches_at_places inside.natives inside.eager.pairs exact name kinds c.self.invariant.0)

@@ -12,6 +12,7 @@ invariant_of-self-2 c =
     let es = c.self.inside.eager.pairs in
     let key = c.args.key.now in
     let comments = c.args.comments in
-    let is : c.comment_pair.new.table.pairs ≡ comment_on key comments es = ap (λ (t : Table Declaration). t.pairs) c.in_ok-found.ensures.ok in
-    (λ name. c.self.invariant.0 name ∙ sym (places_commented key comments 0 name es) ∙ ap (places_from 0 name) (sym is),
-    λ none. ap has_script is ∙ scripts_commented key comments es ∙ c.self.invariant.1 none)
+    let is : c.comment_pair.new.table.pairs ≡ comment_on key comments es = ap (λ (t : Table Declaration). t.pairs) c.in_ok-found.ensures.ok in (
+      λ name. c.self.invariant.0 name ∙ sym (places_commented key comments 0 name es) ∙ ap (places_from 0 name) (sym is),
+      λ none. ap has_script is ∙ scripts_commented key comments es ∙ c.self.invariant.1 none,
+    )
