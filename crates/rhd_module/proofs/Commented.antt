@@ -13,7 +13,8 @@ use Rattle.rhd_module.specs.Scripts.{has_script}
 
 module _ (k : Key) (comments : List Bytes) where
   put_step : (d : Declaration) (p : Key × Declaration) (ps : Pairs) (same : Bool) → key_eq k p.0 ≡ same → (lookup (key_eq k) ps ≡ Some d → put k (commented comments d) ps ≡ comment_on k comments ps)
-      → cond same (Some p.1) (lookup (key_eq k) ps) ≡ Some d → cond same ((p.0, commented comments d) ∷ ps) (p ∷ put k (commented comments d) ps) ≡ cond same ((p.0, commented comments p.1) ∷ ps) (p ∷ comment_on k comments ps)
+      → cond same (Some p.1) (lookup (key_eq k) ps) ≡ Some d
+      → cond same ((p.0, commented comments d) ∷ ps) (p ∷ put k (commented comments d) ps) ≡ cond same ((p.0, commented comments p.1) ∷ ps) (p ∷ comment_on k comments ps)
   put_step d p ps true s ih e = let is : p.1 ≡ d = cc in ap (λ (x : Declaration). (p.0, commented comments x) ∷ ps) (sym is)
   put_step d p ps false s ih e = ap (λ (qs : Pairs). p ∷ qs) (ih e)
 

@@ -21,10 +21,14 @@ not_zero n false e = e
 module _ {Z : Type 0} where
   pub subs_put : (es : List (Bytes × Rc ModuleTree Z)) (k : Bytes) (v : Rc ModuleTree Z) → subs_of (insert_entry (slice_cmp nat_cmp) es k v) ≡ put_sub k v.value (subs_of es)
   subs_put [] k v = refl
-  subs_put (e ∷ es) k v = by (slice_cmp nat_cmp k e.0) ∙ ap (λ r. match_ordering (slice_cmp nat_cmp k e.0) (sub k v.value.own v.value.subs (sub e.0 e.1.value.own e.1.value.subs (subs_of es))) (sub e.0 v.value.own v.value.subs (subs_of es)) (sub e.0 e.1.value.own e.1.value.subs r)) (subs_put es k v)
+  subs_put (e ∷ es) k v =
+      by (slice_cmp nat_cmp k e.0)
+      ∙ ap (λ r. match_ordering (slice_cmp nat_cmp k e.0) (sub k v.value.own v.value.subs (sub e.0 e.1.value.own e.1.value.subs (subs_of es)))
+      (sub e.0 v.value.own v.value.subs (subs_of es)) (sub e.0 e.1.value.own e.1.value.subs r)) (subs_put es k v)
     where
       by : (o : Ordering) → subs_of (match_ordering o ((k, v) ∷ e ∷ es) ((e.0, v) ∷ es) (e ∷ insert_entry (slice_cmp nat_cmp) es k v))
-          ≡ match_ordering o (sub k v.value.own v.value.subs (sub e.0 e.1.value.own e.1.value.subs (subs_of es))) (sub e.0 v.value.own v.value.subs (subs_of es)) (sub e.0 e.1.value.own e.1.value.subs (subs_of (insert_entry (slice_cmp nat_cmp) es k v)))
+          ≡ match_ordering o (sub k v.value.own v.value.subs (sub e.0 e.1.value.own e.1.value.subs (subs_of es)))
+          (sub e.0 v.value.own v.value.subs (subs_of es)) (sub e.0 e.1.value.own e.1.value.subs (subs_of (insert_entry (slice_cmp nat_cmp) es k v)))
       by Less = refl
       by Equal = refl
       by Greater = refl

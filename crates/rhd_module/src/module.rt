@@ -59,7 +59,19 @@ impl Model for Module {
     ghost coded = { tree_code };
 
     ghost view = { λ m. record {
-      own = record { id = m.id; doc = m.doc; types = m.types; vars = m.vars; eager = m.eager.pairs; manifests = []; iterators = []; internal = m.flags.internal; standard = m.flags.standard; indexed = m.flags.indexed; seeds = m.eager.seeds };
+      own = record {
+        id = m.id;
+        doc = m.doc;
+        types = m.types;
+        vars = m.vars;
+        eager = m.eager.pairs;
+        manifests = [];
+        iterators = [];
+        internal = m.flags.internal;
+        standard = m.flags.standard;
+        indexed = m.flags.indexed;
+        seeds = m.eager.seeds;
+      };
       subs = subs_of m.subs.entries;
     } };
 
