@@ -13,7 +13,7 @@ use Rattle.rhd_names.specs.declared.token.OpToken.{OpToken}
 use Rattle.rhd_func.specs.declared.request.CallShape.{CallShape}
 use Rattle.rhd_hash.specs.declared.key.Key.{Key}
 use Rattle.rhd_hash.specs.declared.key.Key.TheVariants as keys
-use Rattle.rhd_module.specs.declared.declaration.Declaration.{Declaration}
+use Rattle.rhd_decl.specs.declared.declaration.Declaration.{Declaration}
 use Rattle.rhd_hash.specs.Keys.{key_eq}
 use Rattle.rhd_module.specs.Tree.{ModuleTree}
 use Rattle.rhd_call.specs.declared.pick.Layer.{Layer}
@@ -56,9 +56,9 @@ pick_held n layer source None pick h e = absurd cc
 pick_held n layer source (Some d) pick h e = let same : record { layer = layer; func = d.func; source = source } ≡ pick = cc in ap (λ (p : Pick). func_held n p.func) (sym same) ∙ h d refl
 
 -- what a module at a place has is held
-place_held : (n : ℕ) (layer : Layer) (key : Key) (pick : Pick) (m : ModuleTree) → names_held n m ≡ true → pick_at key (record { layer = layer; source = None; pairs = m.own.eager }) ≡ Some pick → func_held n pick.func ≡ true
+place_held : (n : ℕ) (layer : Layer) (key : Key) (pick : Pick) (m : ModuleTree) → names_held n m ≡ true → pick_at key (record { layer = layer; source = m.own.id; pairs = m.own.eager }) ≡ Some pick → func_held n pick.func ≡ true
 unfolding pick_at
-place_held n layer key pick m all e = pick_held n layer None (lookup (key_eq key) m.own.eager) pick (λ d h. found_held n key m.own.eager d all h) e
+place_held n layer key pick m all e = pick_held n layer m.own.id (lookup (key_eq key) m.own.eager) pick (λ d h. found_held n key m.own.eager d all h) e
 
 first_held : (n : ℕ) (layer : ℕ → Layer) (key : Key) (pick : Pick) (ys : List (ℕ × ModuleTree)) (more : List Place) → numbered_held n ys ≡ true
     → (first_of (pick_at key) more ≡ Some pick → func_held n pick.func ≡ true)

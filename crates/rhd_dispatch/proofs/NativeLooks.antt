@@ -10,7 +10,7 @@ use Rattle.rhd_value.specs.Same.{text_eq}
 use Rattle.rhd_value.specs.declared.tag.TypeTag.{TypeTag}
 use Rattle.rhd_hash.specs.declared.key.Key.{Key}
 use Rattle.rhd_hash.specs.declared.key.Key.TheVariants.{Native}
-use Rattle.rhd_module.specs.declared.declaration.Declaration.{Declaration}
+use Rattle.rhd_decl.specs.declared.declaration.Declaration.{Declaration}
 use Rattle.rhd_hash.specs.Keys.{key_eq, key_eq-Decides}
 use Rattle.rhd_hash.specs.Matching.{types_match, key_matches}
 use Rattle.rhd_module.specs.Matching.{may_match}
@@ -50,7 +50,7 @@ no_entry n name kinds types (p ∷ ps) m h =
 
 no_own : (layer : Layer) (n : ℕ) (name : Bytes) (kinds types : List TypeTag) (k : ℕ) (m : ModuleTree) → types_match n types kinds ≡ true → may_match m n name kinds ≡ false → pick_at (Native None name types) (place_of (λ i. layer) (k, m)) ≡ None
 unfolding pick_at
-no_own layer n name kinds types k m matches h = ap (option_map (λ (d : Declaration). record { layer = layer; func = d.func; source = None })) (no_entry n name kinds types m.own.eager matches h)
+no_own layer n name kinds types k m matches h = ap (option_map (λ (d : Declaration). record { layer = layer; func = d.func; source = m.own.id })) (no_entry n name kinds types m.own.eager matches h)
 
 no_place : (layer : ℕ → Layer) (n : ℕ) (name : Bytes) (kinds types : List TypeTag) (k : ℕ) (ms : List ModuleTree) → types_match n types kinds ≡ true → list_any (λ m. may_match m n name kinds) ms ≡ false
     → first_of (λ y. pick_at (Native None name types) (place_of layer y)) (enumerate_from k ms) ≡ None

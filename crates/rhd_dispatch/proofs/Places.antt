@@ -8,7 +8,7 @@ use Rattle.std.proofs.lemmas.List.{reverse-append, take_more, length-take}
 use Rattle.rhd_value.specs.Firsts.{first_of}
 use Rattle.rhd_func.specs.declared.func.RhaiFunc.{RhaiFunc}
 use Rattle.rhd_hash.specs.declared.key.Key.{Key}
-use Rattle.rhd_module.specs.declared.declaration.Declaration.{Declaration}
+use Rattle.rhd_decl.specs.declared.declaration.Declaration.{Declaration}
 use Rattle.rhd_hash.specs.Keys.{key_eq}
 use Rattle.rhd_module.specs.Shown.{shown, own_decl}
 use Rattle.rhd_module.specs.Tree.{ModuleTree}
@@ -22,12 +22,12 @@ use Rattle.rhd_dispatch.proofs.Firsts.{of_append}
 
 -- what a module has for a key, at its place
 pub found_there : (layer : Layer) (m : ModuleTree) (key : Key) (func : Option RhaiFunc) → func ≡ option_map (λ d. d.func) (own_decl m key)
-    → option_map {U = Pick} (λ f. record { layer = layer; func = f; source = None }) func ≡ pick_at key (record { layer = layer; source = None; pairs = shown m.own })
+    → option_map {U = Pick} (λ f. record { layer = layer; func = f; source = m.own.id }) func ≡ pick_at key (record { layer = layer; source = m.own.id; pairs = shown m.own })
 unfolding pick_at own_decl
 found_there layer m key func is =
-    let by : (o : Option Declaration) → option_map {U = Pick} (λ f. record { layer = layer; func = f; source = None }) (option_map (λ d. d.func) o) ≡ option_map (λ d. record { layer = layer; func = d.func; source = None }) o =
+    let by : (o : Option Declaration) → option_map {U = Pick} (λ f. record { layer = layer; func = f; source = m.own.id }) (option_map (λ d. d.func) o) ≡ option_map (λ d. record { layer = layer; func = d.func; source = m.own.id }) o =
     elim [ None ↦ refl | Some d ↦ refl ]
-    in ap (option_map {U = Pick} (λ f. record { layer = layer; func = f; source = None })) is ∙ by (lookup (key_eq key) m.own.eager)
+    in ap (option_map {U = Pick} (λ f. record { layer = layer; func = f; source = m.own.id })) is ∙ by (lookup (key_eq key) m.own.eager)
 
 numbered_last : (k : ℕ) (ms : List ModuleTree) (m : ModuleTree) → enumerate_from k (ms ++ m ∷ []) ≡ enumerate_from k ms ++ (k + length ms, m) ∷ []
 numbered_last k [] m = let n : k ≡ k + 0 = omega arith in ap (λ (i : ℕ). (i, m) ∷ []) n

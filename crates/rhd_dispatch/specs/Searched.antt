@@ -1,5 +1,5 @@
 -- Where a key is found: the modules in which a call looks, in the order in which they are searched.
-use Rattle.std.specs.Prelude.{ℕ, List, ◌++◌, map, reverse, Option, None, option_map}
+use Rattle.std.specs.Prelude.{ℕ, List, ◌++◌, map, reverse, Option, option_map}
 use Rattle.std.specs.List.{enumerate_from}
 use Rattle.std.specs.Map.{lookup}
 use Rattle.rhd_value.specs.Tree.{Bytes}
@@ -19,9 +19,9 @@ pub record Place : Type 0 where
   pub source : Option Bytes
   pub pairs : Pairs
 
--- a module by its number; modules have no id yet, so their functions have no source
+-- a module by its number; its id is the source of its functions
 abbrev pub own_place : EngineLists → (ℕ → Layer) → ℕ × ModuleTree → Place
-own_place e layer (n, m) = record { layer = layer n; source = None; pairs = shown m.own }
+own_place e layer (n, m) = record { layer = layer n; source = m.own.id; pairs = shown m.own }
 
 abbrev pub libraries : EngineLists → List ModuleTree → List Place
 libraries e libs = map (own_place e Library) (reverse (enumerate_from 0 libs))

@@ -16,7 +16,7 @@ use Rattle.rhd_dispatch.specs.Searched.{Place, pick_at}
 
 -- a module by its number
 abbrev pub place_of : (ℕ → Layer) → ℕ × ModuleTree → Place
-place_of layer (n, m) = record { layer = layer n; source = None; pairs = shown m.own }
+place_of layer (n, m) = record { layer = layer n; source = m.own.id; pairs = shown m.own }
 
 -- libraries, latest first, and global modules in order
 abbrev pub library_places : List ModuleTree → List Place

@@ -10,3 +10,4 @@ mod patterns;
 mod search;
 
 pub use asks::resolve;
+pub use rhd_call::{Layer, Pick};

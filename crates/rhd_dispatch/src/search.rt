@@ -23,15 +23,19 @@ fn pick_at(
     key: &Key,
     steps: &mut Steps,
 ) -> Result<Option<Pick>, OutOfMemory>
-    ensures found { IfOk result (λ found. found ≡ pick_at key.now (record { layer = layer; source = None; pairs = shown place.now.own })) }
+    ensures found { IfOk result (λ found. found ≡ pick_at key.now (record { layer = layer; source = place.now.own.id; pairs = shown place.now.own })) }
     ensures steps { steps.new ≤ steps.old + 1 }
 {
     match place.get_fn(key, steps) {
-        Some(func) => Ok(Some(Pick {
-            layer,
-            func: func.dup(alloc)?,
-            source: None,
-        })),
+        Some(func) => {
+            let func = func.dup(alloc)?;
+            let source = place.share_id(alloc)?;
+            Ok(Some(Pick {
+                layer,
+                func,
+                source,
+            }))
+        }
         None => Ok(None),
     }
 }

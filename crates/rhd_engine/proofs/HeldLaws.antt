@@ -1,26 +1,33 @@
 -- The natives that modules name stay held, and what a module has is held.
-use Rattle.std.proofs.Common.{◌≡◌, ℕ, Bool, true, false, cond, ◌&&◌, List, [], ◌∷◌, length, map, refl, sym, ap, ◌∙◌}
-use Rattle.std.specs.Prelude.{zero, suc, Some, Result, Ok, Err, OnOk, OnErr, slice_get, slice_set, if◌then◌else◌}
+use Rattle.std.proofs.Common.{◌≡◌, ℕ, Bool, true, false, not, cond, ◌&&◌, List, [], ◌∷◌, length, map, refl, sym, ap, subst, ◌∙◌}
+use Rattle.std.specs.Prelude.{zero, suc, ◌||◌, Option, Some, None, unwrap_or, Result, Ok, Err, OnOk, OnErr, nat_lt, slice_get, slice_set, if◌then◌else◌}
 use Rattle.std.specs.List.{list_all}
 use Rattle.std.specs.Map.{lookup}
-use Rattle.std.proofs.lemmas.Option.{slice_get_within}
-use Rattle.std.proofs.lemmas.Bool.{lt-ltb}
-use Rattle.rhd_value.specs.declared.tag.FnId.{FnId}
-use Rattle.rhd_func.specs.declared.func.RhaiFunc.{RhaiFunc}
-use Rattle.rhd_func.specs.Funcs.{native_of}
-use Rattle.rhd_func.specs.Natives.{NativeInfo}
-use Rattle.rhd_func.specs.declared.func.RhaiFunc.TheVariants as funcs
-use Rattle.rhd_value.specs.Tree.{Bytes}
-use Rattle.rhd_hash.specs.declared.key.Key.{Key}
-use Rattle.rhd_module.specs.declared.declaration.Declaration.{Declaration}
-use Rattle.rhd_hash.specs.Keys.{key_eq}
-use Rattle.rhd_module.specs.Tree.{ModuleTree, Pairs}
-use Rattle.rhd_module.specs.Registered.{put, with_decl, native_key, native_decl, pure_by_name}
-use Rattle.rhd_module.specs.declared.fault.DeclFault.{DeclFault}
-use Rattle.rhd_module.specs.declared.fault.DeclFault.TheVariants.{UnknownNumber, OutOfMemory}
 use Rattle.std.proofs.lemmas.List.{length-map}
+use Rattle.rhd_value.specs.Tree.{Bytes}
+use Rattle.rhd_value.specs.Firsts.{first_some, where_holds}
+use Rattle.rhd_value.specs.declared.tag.FnId.{FnId}
+use Rattle.rhd_value.specs.declared.tag.TypeTag.{TypeTag}
+use Rattle.rhd_hash.specs.declared.key.Key.{Key}
+use Rattle.rhd_hash.specs.declared.mixer.Seeds.{Seeds}
+use Rattle.rhd_hash.specs.Keys.{key_eq}
+use Rattle.rhd_func.specs.declared.access.EnvId.{EnvId}
+use Rattle.rhd_func.specs.declared.func.RhaiFunc.{RhaiFunc}
+use Rattle.rhd_func.specs.declared.func.RhaiFunc.TheVariants as funcs
+use Rattle.rhd_func.specs.declared.func.ScriptFuncDef.{ScriptFuncDef}
+use Rattle.rhd_func.specs.declared.natives.Natives.{Natives}
+use Rattle.rhd_func.specs.Funcs.{native_of, is_method, is_iter, is_script}
+use Rattle.rhd_func.specs.Infos.{infos_of}
+use Rattle.rhd_func.specs.Natives.{NativeInfo}
+use Rattle.rhd_decl.specs.declared.declaration.Declaration.{Declaration}
+use Rattle.rhd_decl.specs.declared.fault.DeclFault.{DeclFault}
+use Rattle.rhd_decl.specs.declared.fault.DeclFault.TheVariants.{HashCollision, IndexerNotAllowed, NotCallable, UnknownNumber, OutOfMemory}
+use Rattle.rhd_module.specs.declared.registration.FuncRegistration.{FuncRegistration}
+use Rattle.rhd_module.specs.Contents.{with_type}
+use Rattle.rhd_module.specs.Tree.{ModuleTree, Pairs}
+use Rattle.rhd_module.specs.Registered.{put, with_decl, unheld, registered_func, pure_by_name, banned, registration_cause, raw_cause, native_at, script_key, script_decl, Puts, Registers, RegistersRaw}
 use Rattle.rhd_engine.specs.Held.{is_below, func_held, names_held, all_held}
-use Rattle.rhd_engine.specs.Registered.{in_first, native_in_first, RegisteredIn}
+use Rattle.rhd_engine.specs.Registered.{in_first, InFirst, RegistersFirst, RegistersRawFirst}
 
 abbrev is_held : ℕ → Declaration → Bool
 is_held n d = func_held n d.func
@@ -50,16 +57,7 @@ put_held n k d (p ∷ ps) h all = put_step n k d p ps (key_eq k p.0) h all (put_
 pub stays_held : (n : ℕ) (k : Key) (d : Declaration) (m : ModuleTree) → func_held n d.func ≡ true → names_held n m ≡ true → names_held n (with_decl k d m) ≡ true
 stays_held n k d m h all = put_held n k d m.own.eager h all
 
--- whether or not a held native is put in
-pub stays_either : {E : Type 0} (r : Result (Unit {0}) E) (n : ℕ) (k : Key) (d : Declaration) (old new : ModuleTree) → OnOk r (new ≡ with_decl k d old) → OnErr r (new ≡ old)
-    → func_held n d.func ≡ true → names_held n old ≡ true → names_held n new ≡ true
-stays_either (Ok u) n k d old new ok err h all = ap (names_held n) ok ∙ stays_held n k d old h all
-stays_either (Err e) n k d old new ok err h all = ap (names_held n) err ∙ all
-
--- the native of a number that is held is below the number of natives
-pub holds_number : {N : Type 0} (items : List N) (func : RhaiFunc) (id : FnId) (native : N) → native_of func ≡ Some id → slice_get items id.0 ≡ Some native → func_held (length items) func ≡ true
-holds_number items func id native e some = ap (is_below (length items)) e ∙ lt-ltb id.0 (length items) (slice_get_within items id.0 native some)
-
+-- what holds of a fault
 pub on_err : {T E : Type 0} (r : Result T E) (P : Type 0) → P → OnErr r P
 on_err (Ok x) P p = tt
 on_err (Err e) P p = p
@@ -76,38 +74,88 @@ all_set n [] i m all h = refl
 all_set n (x ∷ ms) zero m all h = both (names_held n m) (all_held n ms) h (parts (names_held n x) (all_held n ms) all).1
 all_set n (x ∷ ms) (suc i) m all h = both (names_held n x) (all_held n (slice_set ms i m)) (parts (names_held n x) (all_held n ms) all).0 (all_set n ms i m (parts (names_held n x) (all_held n ms) all).1 h)
 
--- a held native is put into the first module
-pub first_held : (n : ℕ) (k : Key) (d : Declaration) (ms : List ModuleTree) → func_held n d.func ≡ true → all_held n ms ≡ true → all_held n (in_first (with_decl k d) ms) ≡ true
-first_held n k d [] h all = refl
-first_held n k d (m ∷ ms) h all = let p = parts (names_held n m) (all_held n ms) all in both (names_held n (with_decl k d m)) (all_held n ms) (stays_held n k d m h p.0) p.1
+-- What a declaration that is put in leaves, or a refused one.
 
--- the native of a declaration that is registered
-native_number : (name : Bytes) (info : NativeInfo) (id : FnId) → native_of (native_decl name info id).func ≡ Some id
-native_number name info id =
-    let by : (b : Bool) → native_of (if b then funcs.Method id info.has_context (pure_by_name name (length info.types)) false else funcs.Pure id info.has_context (pure_by_name name (length info.types)) false) ≡ Some id = elim [ true ↦ refl | false ↦ refl ]
-    in by info.is_method
+-- a declaration of a held native leaves a module held; so does a refusal
+pub puts_held : {A : Type 0} (n : ℕ) (cause : Option DeclFault) (k : Key) (d : Declaration) (old new : ModuleTree) (r : Result A DeclFault) → Puts cause k d old r new → (cause ≡ None → func_held n d.func ≡ true) → names_held n old ≡ true → names_held n new ≡ true
+puts_held n cause k d old new (Ok answer) is h all = ap (names_held n) is.2 ∙ stays_held n k d old (h is.0) all
+puts_held n cause k d old new (Err OutOfMemory) is h all = ap (names_held n) is ∙ all
+puts_held n cause k d old new (Err (HashCollision held other)) is h all = ap (names_held n) is.2 ∙ all
+puts_held n cause k d old new (Err (IndexerNotAllowed key)) is h all = ap (names_held n) is.1 ∙ all
+puts_held n cause k d old new (Err NotCallable) is h all = ap (names_held n) is.1 ∙ all
+puts_held n cause k d old new (Err (UnknownNumber number count)) is h all = ap (names_held n) is.1 ∙ all
 
--- it is held
-info_held : {N : Type 0} (view : N → NativeInfo) (items : List N) (name : Bytes) (id : FnId) (info : NativeInfo) → slice_get (map view items) id.0 ≡ Some info → func_held (length items) (native_decl name info id).func ≡ true
-info_held view items name id info some =
-    ap (λ (n : ℕ). func_held n (native_decl name info id).func) (sym (length-map items view)) ∙ holds_number (map view items) (native_decl name info id).func id info (native_number name info id) some
+-- where no cause is known beforehand, the number is held
+refused_by : (natives : List NativeInfo) (id : FnId) (below : Bool) (more : List (Option DeclFault)) → first_some (where_holds (not below) (UnknownNumber id.0 (length natives)) ∷ more) ≡ None → below ≡ true
+refused_by natives id true more none = refl
+refused_by natives id false more none = absurd cc
 
--- it stays so in each module where a native is registered in the first of them, or refused
-pub registered_held : {N : Type 0} (view : N → NativeInfo) (items : List N) (name : Bytes) (id : FnId) (r : Result (Unit {0}) DeclFault) (old new : List ModuleTree) → RegisteredIn name id (map view items) old r new → all_held (length items) old ≡ true → all_held (length items) new ≡ true
-registered_held view items name id (Ok u) old new is all =
-    ap (all_held (length items)) is.2 ∙ first_held (length items) (native_key name is.0) (native_decl name is.0 id) old (info_held view items name id is.0 is.1) all
-registered_held view items name id (Err (UnknownNumber n h)) old new is all = ap (all_held (length items)) is.3 ∙ all
-registered_held view items name id (Err OutOfMemory) old new is all = ap (all_held (length items)) is ∙ all
+allowed_held : (natives : List NativeInfo) (native : Option FnId) (more : List (Option DeclFault)) → first_some (unheld natives native ∷ more) ≡ None → is_below (length natives) native ≡ true
+allowed_held natives None more none = refl
+allowed_held natives (Some id) more none = refused_by natives id (nat_lt id.0 (length natives)) more none
+
+-- the native of a function that is registered by its number
+number_either : (id : FnId) (context pure volatile is_method : Bool) → native_of (if is_method then funcs.Method id context pure volatile else funcs.Pure id context pure volatile) ≡ Some id
+number_either id context pure volatile true = refl
+number_either id context pure volatile false = refl
+
+registered_number : (reg : FuncRegistration) (info : NativeInfo) (id : FnId) → native_of (registered_func reg info id) ≡ Some id
+registered_number reg info id = number_either id info.has_context (unwrap_or reg.purity (pure_by_name reg.name (length info.types))) (unwrap_or reg.volatility false) info.is_method
+
+-- a module in which a native is registered by its number, or refused
+pub registers_held : {A : Type 0} (natives : List NativeInfo) (reg : FuncRegistration) (id : FnId) (old new : ModuleTree) (r : Result A DeclFault) → Registers natives reg id old r new → names_held (length natives) old ≡ true → names_held (length natives) new ≡ true
+registers_held natives reg id old new r is all =
+    puts_held (length natives) _ _ _ old new r is (λ none. ap (is_below (length natives)) (registered_number reg (native_at natives id) id) ∙ allowed_held natives (Some id) (banned (native_at natives id).is_method reg.name (native_at natives id).types ∷ []) none) all
+
+-- one in which a function is registered raw
+pub registers_raw_held : {A : Type 0} (natives : List NativeInfo) (reg : FuncRegistration) (types : List TypeTag) (func : RhaiFunc) (old new : ModuleTree) (r : Result A DeclFault) → RegistersRaw natives reg types func old r new → names_held (length natives) old ≡ true → names_held (length natives) new ≡ true
+registers_raw_held natives reg types func old new r is all = puts_held (length natives) _ _ _ old new r is (λ none. allowed_held natives (native_of func) (where_holds (is_iter func || is_script func) NotCallable ∷ banned (is_method natives func) reg.name types ∷ []) none) all
+
+-- and one in which a script is declared
+pub script_held : {A : Type 0} (n : ℕ) (seeds : Seeds) (def : ScriptFuncDef) (env : Option EnvId) (old new : ModuleTree) (r : Result A DeclFault) → Puts None (script_key def) (script_decl seeds def env) old r new → names_held n old ≡ true → names_held n new ≡ true
+script_held n seeds def env old new r is all = puts_held n None (script_key def) (script_decl seeds def env) old new r is (λ none. refl) all
+
+-- The first of some modules.
+
+-- where the first of some modules stays held, all do
+pub in_first_held : (n : ℕ) (goes : ModuleTree → ModuleTree → Type 0) (old new : List ModuleTree) → InFirst goes old new → ((m changed : ModuleTree) → goes m changed → names_held n m ≡ true → names_held n changed ≡ true) → all_held n old ≡ true → all_held n new ≡ true
+in_first_held n goes [] new is step all = absurd is
+in_first_held n goes (m ∷ ms) new is step all =
+    let p = parts (names_held n m) (all_held n ms) all in ap (all_held n) is.2 ∙ both (names_held n is.0) (all_held n ms) (step m is.0 is.1 p.0) p.1
 
 -- and there are as many modules as before
-pub registered_count : (name : Bytes) (id : FnId) (natives : List NativeInfo) (r : Result (Unit {0}) DeclFault) (old new : List ModuleTree) → RegisteredIn name id natives old r new → length new ≡ length old
-registered_count name id natives (Ok u) old new is = ap length is.2 ∙ same_count old
-  where
-    same_count : (ms : List ModuleTree) → length (native_in_first name id is.0 ms) ≡ length ms
-    same_count [] = refl
-    same_count (m ∷ ms) = refl
-registered_count name id natives (Err (UnknownNumber n h)) old new is = ap length is.3
-registered_count name id natives (Err OutOfMemory) old new is = ap length is
+pub in_first_count : (goes : ModuleTree → ModuleTree → Type 0) (old new : List ModuleTree) → InFirst goes old new → length new ≡ length old
+in_first_count goes [] new is = absurd is
+in_first_count goes (m ∷ ms) new is = ap length is.2
+
+pub registers_first_held : {A : Type 0} (natives : List NativeInfo) (reg : FuncRegistration) (id : FnId) (old new : List ModuleTree) (r : Result A DeclFault) → RegistersFirst natives reg id old r new → all_held (length natives) old ≡ true → all_held (length natives) new ≡ true
+registers_first_held natives reg id old new r is all = in_first_held (length natives) _ old new is (λ m changed goes held. registers_held natives reg id m changed r goes held) all
+
+pub registers_raw_first_held : {A : Type 0} (natives : List NativeInfo) (reg : FuncRegistration) (types : List TypeTag) (func : RhaiFunc) (old new : List ModuleTree) (r : Result A DeclFault) → RegistersRawFirst natives reg types func old r new → all_held (length natives) old ≡ true → all_held (length natives) new ≡ true
+registers_raw_first_held natives reg types func old new r is all = in_first_held (length natives) _ old new is (λ m changed goes held. registers_raw_held natives reg types func m changed r goes held) all
+
+pub registers_first_count : {A : Type 0} (natives : List NativeInfo) (reg : FuncRegistration) (id : FnId) (old new : List ModuleTree) (r : Result A DeclFault) → RegistersFirst natives reg id old r new → length new ≡ length old
+registers_first_count natives reg id old new r is = in_first_count _ old new is
+
+pub registers_raw_first_count : {A : Type 0} (natives : List NativeInfo) (reg : FuncRegistration) (types : List TypeTag) (func : RhaiFunc) (old new : List ModuleTree) (r : Result A DeclFault) → RegistersRawFirst natives reg types func old r new → length new ≡ length old
+registers_raw_first_count natives reg types func old new r is = in_first_count _ old new is
+
+-- how a type is shown changes no declaration
+pub type_held : (n : ℕ) (type_name display : Bytes) (comments : List Bytes) (m : ModuleTree) → names_held n (with_type type_name display comments m) ≡ names_held n m
+type_held n type_name display comments m = refl
+
+pub type_first_held : (n : ℕ) (type_name display : Bytes) (comments : List Bytes) (ms : List ModuleTree) → all_held n (in_first (with_type type_name display comments) ms) ≡ all_held n ms
+type_first_held n type_name display comments [] = refl
+type_first_held n type_name display comments (m ∷ ms) = refl
+
+pub first_count : (change : ModuleTree → ModuleTree) (ms : List ModuleTree) → length (in_first change ms) ≡ length ms
+first_count change [] = refl
+first_count change (m ∷ ms) = refl
+
+-- as many natives are held as say something of themselves
+pub infos_count : {X : Type 0} {F : X → Type 0} (info : (x : X) × F x → NativeInfo) (natives : Natives X F) → length (infos_of info natives) ≡ length natives.items.items
+unfolding infos_of
+infos_count info natives = length-map natives.items.items _
 
 -- What a key finds in a module.
 
@@ -119,3 +167,15 @@ found_step n key p ps d false all ih e = ih (parts (is_held n p.1) (pairs_held n
 pub found_held : (n : ℕ) (key : Key) (ps : Pairs) (d : Declaration) → pairs_held n ps ≡ true → lookup (key_eq key) ps ≡ Some d → is_held n d ≡ true
 found_held n key [] d all e = absurd cc
 found_held n key (p ∷ ps) d all e = found_step n key p ps d (key_eq key p.0) all (found_held n key ps d) e
+
+-- The same of a table of natives, by its length.
+
+pub registers_by_table : {X A : Type 0} {F : X → Type 0} (info : (x : X) × F x → NativeInfo) (natives : Natives X F) (reg : FuncRegistration) (id : FnId) (old new : List ModuleTree) (r : Result A DeclFault) → RegistersFirst (infos_of info natives) reg id old r new
+    → all_held (length natives.items.items) old ≡ true → all_held (length natives.items.items) new ≡ true
+registers_by_table info natives reg id old new r is =
+    subst (λ (n : ℕ). all_held n old ≡ true → all_held n new ≡ true) (infos_count info natives) (registers_first_held (infos_of info natives) reg id old new r is)
+
+pub registers_raw_by_table : {X A : Type 0} {F : X → Type 0} (info : (x : X) × F x → NativeInfo) (natives : Natives X F) (reg : FuncRegistration) (types : List TypeTag) (func : RhaiFunc) (old new : List ModuleTree) (r : Result A DeclFault) → RegistersRawFirst (infos_of info natives) reg types func old r new
+    → all_held (length natives.items.items) old ≡ true → all_held (length natives.items.items) new ≡ true
+registers_raw_by_table info natives reg types func old new r is =
+    subst (λ (n : ℕ). all_held n old ≡ true → all_held n new ≡ true) (infos_count info natives) (registers_raw_first_held (infos_of info natives) reg types func old new r is)

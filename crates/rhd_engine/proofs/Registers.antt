@@ -1,36 +1,44 @@
--- A registration in the global namespace.
-use Rattle.std.proofs.Common.{◌≡◌, ◌≤◌, ◌<◌, ℕ, true, false, List, [], ◌∷◌, length, map, get_or, sym, ap, ◌∙◌, inl, inr, arith}
-use Rattle.std.specs.Prelude.{Some, None, Result, Ok, Err, OnOk, OnErr, is_err, slice_get, slice_set, option_map}
-use Rattle.std.proofs.lemmas.Option.{slice_get_cases, slice_get-map}
+-- A change of the first of some modules.
+use Rattle.std.proofs.Common.{◌≡◌, ◌≤◌, ◌<◌, ℕ, true, false, List, [], ◌∷◌, length, get_or, refl, sym, ap, subst, ◌∙◌, arith}
+use Rattle.std.specs.Prelude.{Result, IfOk, slice_set}
+use Rattle.std.proofs.lemmas.Result.{IfOk-weaker}
+use Rattle.rhd_value.specs.declared.tag.FnId.{FnId}
+use Rattle.rhd_value.specs.declared.tag.TypeTag.{TypeTag}
+use Rattle.rhd_func.specs.declared.func.RhaiFunc.{RhaiFunc}
 use Rattle.rhd_func.specs.Natives.{NativeInfo}
+use Rattle.rhd_decl.specs.declared.fault.DeclFault.{DeclFault}
+use Rattle.rhd_module.specs.declared.registration.FuncRegistration.{FuncRegistration}
 use Rattle.rhd_module.specs.Tree.{ModuleTree}
-use Rattle.rhd_engine.specs.Registered.{in_first}
+use Rattle.rhd_decl.specs.declared.metadata.FuncMetadata.{FuncMetadata}
+use Rattle.rhd_module.specs.Registered.{Registers, RegistersRaw, native_at, registered_decl}
+use Rattle.rhd_engine.specs.Registered.{InFirst, RegistersFirst, RegistersRawFirst, FirstTells}
 
--- a number of which nothing is held is past the end
-pub past_end : {N : Type 0} (items : List N) (i : ℕ) → slice_get items i ≡ None → length items ≤ i
-past_end items i none = elim (slice_get_cases items i).1 [
-  | inl held ↦ absurd (let e : Some held.0 ≡ None = sym held.2 ∙ none in cc)
-  | inr past ↦ past.0
-]
+-- the first of some modules, set anew, goes as it is told
+goes_first : (goes : ModuleTree → ModuleTree → Type 0) (ms : List ModuleTree) (m new : ModuleTree) → 0 < length ms → m ≡ get_or ms 0 m → goes m new → InFirst goes ms (slice_set ms 0 new)
+goes_first goes [] m new h is e = absurd (omega arith)
+goes_first goes (x ∷ ms) m new h is e = (new, subst (λ (y : ModuleTree). goes y new) is e, refl)
 
--- what the native of a number says of itself
-pub says_itself : {N : Type 0} (view : N → NativeInfo) (items : List N) (i : ℕ) (native : N) → slice_get items i ≡ Some native → slice_get (map view items) i ≡ Some (view native)
-says_itself view items i native some = slice_get-map view items i ∙ ap (option_map view) some
+goes_first_in : (goes : ModuleTree → ModuleTree → Type 0) (ms all : List ModuleTree) (m new : ModuleTree) → ms ≡ all → 0 < length all → m ≡ get_or ms 0 m → goes m new → InFirst goes all (slice_set ms 0 new)
+goes_first_in goes ms all m new same h is e =
+    let n : length ms ≡ length all = ap length same in
+    let some : 0 < length ms = omega (arith, n, h) in
+    subst (λ (old : List ModuleTree). InFirst goes old (slice_set ms 0 new)) same (goes_first goes ms m new some is e)
 
--- what holds of an answer, and of a fault
-pub on_ok_of : {T E P : Type 0} (r : Result T E) → OnOk r P → is_err r ≡ false → P
-on_ok_of (Ok x) h e = h
-on_ok_of (Err x) h e = absurd cc
+pub registers_first : {A : Type 0} (natives : List NativeInfo) (reg : FuncRegistration) (id : FnId) (r : Result A DeclFault) (ms all : List ModuleTree) (m new : ModuleTree) → ms ≡ all → 0 < length all → m ≡ get_or ms 0 m → Registers natives reg id m r new → RegistersFirst natives reg id all r (slice_set ms 0 new)
+registers_first natives reg id r ms all m new = goes_first_in (λ m changed. Registers natives reg id m r changed) ms all m new
 
-pub on_err_of : {T E P : Type 0} (r : Result T E) → OnErr r P → is_err r ≡ true → P
-on_err_of (Ok x) h e = absurd cc
-on_err_of (Err x) h e = h
+pub registers_raw_first : {A : Type 0} (natives : List NativeInfo) (reg : FuncRegistration) (types : List TypeTag) (func : RhaiFunc) (r : Result A DeclFault) (ms all : List ModuleTree) (m new : ModuleTree) → ms ≡ all → 0 < length all → m ≡ get_or ms 0 m → RegistersRaw natives reg types func m r new
+    → RegistersRawFirst natives reg types func all r (slice_set ms 0 new)
+registers_raw_first natives reg types func r ms all m new = goes_first_in (λ m changed. RegistersRaw natives reg types func m r changed) ms all m new
 
--- the first of some modules, set anew
-pub set_first : (change : ModuleTree → ModuleTree) (ms : List ModuleTree) (m new : ModuleTree) → 0 < length ms → m ≡ get_or ms 0 m → new ≡ change m → slice_set ms 0 new ≡ in_first change ms
-set_first change [] m new h is e = absurd (omega arith)
-set_first change (x ∷ ms) m new h is e = ap (λ (y : ModuleTree). y ∷ ms) (e ∙ ap change is)
+-- what is told of it
+tells_at : (natives : List NativeInfo) (reg : FuncRegistration) (id : FnId) (ms : List ModuleTree) (m : ModuleTree) (metadata : FuncMetadata) → 0 < length ms → m ≡ get_or ms 0 m → metadata ≡ (registered_decl m.own.seeds reg (native_at natives id) id).metadata → FirstTells natives reg id ms metadata
+tells_at natives reg id [] m metadata h is e = absurd (omega arith)
+tells_at natives reg id (x ∷ ms) m metadata h is e = e ∙ ap (λ (y : ModuleTree). (registered_decl y.own.seeds reg (native_at natives id) id).metadata) is
 
-pub set_first_same : (ms : List ModuleTree) (m new : ModuleTree) → 0 < length ms → m ≡ get_or ms 0 m → new ≡ m → slice_set ms 0 new ≡ ms
-set_first_same [] m new h is e = absurd (omega arith)
-set_first_same (x ∷ ms) m new h is e = ap (λ (y : ModuleTree). y ∷ ms) (e ∙ is)
+pub first_tells : (natives : List NativeInfo) (reg : FuncRegistration) (id : FnId) (r : Result FuncMetadata DeclFault) (ms all : List ModuleTree) (m : ModuleTree) → ms ≡ all → 0 < length all → m ≡ get_or ms 0 m
+    → IfOk r (λ metadata. metadata ≡ (registered_decl m.own.seeds reg (native_at natives id) id).metadata) → IfOk r (FirstTells natives reg id all)
+first_tells natives reg id r ms all m same h is =
+    let n : length ms ≡ length all = ap length same in
+    let some : 0 < length ms = omega (arith, n, h) in
+    IfOk-weaker r _ (FirstTells natives reg id all) (λ metadata e. subst (λ (old : List ModuleTree). FirstTells natives reg id old metadata) same (tells_at natives reg id ms m metadata some is e))

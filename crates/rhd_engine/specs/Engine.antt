@@ -1,7 +1,8 @@
 -- An engine and the state of a run, as plain lists.
-use Rattle.std.specs.Prelude.{List}
+use Rattle.std.specs.Prelude.{◌≡◌, ℕ, List}
 use Rattle.rhd_value.specs.Tree.{Bytes}
 use Rattle.rhd_value.specs.declared.tag.FnId.{FnId}
+use Rattle.rhd_hash.specs.declared.mixer.Seeds.{Seeds}
 use Rattle.rhd_func.specs.Natives.{NativeInfo}
 use Rattle.rhd_module.specs.Tree.{ModuleTree}
 pub use Rattle.rhd_engine.specs.declared.builtins.Operator.{Operator}
@@ -12,9 +13,15 @@ use Rattle.rhd_engine.specs.declared.state.GlobalRuntimeState.{GlobalRuntimeStat
 pub record EngineLists : Type 0 where
   pub globals : List ModuleTree  -- whose functions all calls find; registration goes into the first
   pub natives : List NativeInfo  -- by number
+  pub iterators : ℕ  -- how many functions that iterate are held; none yet
   pub builtins : List (Operator × FnId)  -- the functions of operators between two kinds
+  pub seeds : Seeds  -- under which its modules hash their keys
   pub limits : Limits
   pub printers : Printers
+
+-- all but the global modules stays
+abbrev pub GlobalsAlone : EngineLists → EngineLists → Type 0
+GlobalsAlone old new = new ≡ record old { globals = new.globals }
 
 -- where a call is made: libraries and imports, oldest first, the source, the level and the tag
 abbrev pub Frame : Type 0

@@ -1,29 +1,59 @@
--- How natives are registered for all calls.
-use Rattle.std.specs.Prelude.{◌≡◌, ◌≤◌, List, [], ◌∷◌, length, Some, Result, Ok, Err}
+-- How natives and types are registered for all calls.
+use Rattle.std.specs.Prelude.{◌≡◌, ℕ, List, [], ◌∷◌, length, false, true, Option, None, Some, Result}
 use Rattle.rhd_value.specs.Tree.{Bytes}
 use Rattle.rhd_value.specs.declared.tag.FnId.{FnId}
-use Rattle.rhd_func.specs.Natives.{NativeInfo, info_of}
+use Rattle.rhd_value.specs.declared.tag.TypeTag.{TypeTag}
+use Rattle.rhd_value.specs.declared.tag.TypeTag.TheVariants.{Custom}
+use Rattle.rhd_value.specs.Kinds.{type_name}
+use Rattle.rhd_func.specs.Natives.{NativeInfo}
+use Rattle.rhd_func.specs.declared.access.FnNamespace.TheVariants.{Global}
+use Rattle.rhd_func.specs.declared.func.RhaiFunc.{RhaiFunc}
+use Rattle.rhd_func.specs.declared.func.RhaiFunc.TheVariants.{Method}
+use Rattle.rhd_decl.specs.declared.fault.DeclFault.{DeclFault}
+use Rattle.rhd_decl.specs.declared.metadata.FuncMetadata.{FuncMetadata}
+use Rattle.rhd_module.specs.declared.registration.FuncRegistration.{FuncRegistration}
 use Rattle.rhd_module.specs.Tree.{ModuleTree}
-use Rattle.rhd_module.specs.Registered.{with_decl, native_key, native_decl}
-use Rattle.rhd_module.specs.declared.fault.DeclFault.{DeclFault}
-use Rattle.rhd_module.specs.declared.fault.DeclFault.TheVariants.{UnknownNumber, OutOfMemory}
-use Rattle.rhd_engine.specs.Engine.{EngineLists}
+use Rattle.rhd_module.specs.Registered.{Registers, RegistersRaw, native_at, registered_decl, global_registration, params_by_type, pure_by_name}
 
 -- the first of some modules changed
 abbrev pub in_first : (ModuleTree → ModuleTree) → List ModuleTree → List ModuleTree
 in_first change [] = []
 in_first change (m ∷ ms) = change m ∷ ms
 
--- a native under a name in the first of some modules, in the place of an equal declaration's
-abbrev pub native_in_first : Bytes → FnId → NativeInfo → List ModuleTree → List ModuleTree
-native_in_first name id info ms = in_first (with_decl (native_key name info) (native_decl name info id)) ms
+-- the first of some modules goes from one to another, as told; all others stay
+abbrev pub InFirst : (ModuleTree → ModuleTree → Type 0) → List ModuleTree → List ModuleTree → Type 0
+InFirst goes [] new = ⊥
+InFirst goes (m ∷ ms) new = (changed : ModuleTree) × goes m changed × (new ≡ changed ∷ ms)
 
--- what a registration answers, and the modules that it leaves: a number that isn't held is refused, and then, or where memory ran out, all is as before
-abbrev pub RegisteredIn : Bytes → FnId → List NativeInfo → List ModuleTree → Result (Unit {0}) DeclFault → List ModuleTree → Type 0
-RegisteredIn name id natives old (Ok u) new = (info : NativeInfo) × (info_of natives id ≡ Some info) × (new ≡ native_in_first name id info old)
-RegisteredIn name id natives old (Err (UnknownNumber number held)) new = (number ≡ id.0) × (held ≡ length natives) × (held ≤ number) × (new ≡ old)
-RegisteredIn name id natives old (Err OutOfMemory) new = new ≡ old
+-- what a registration in the first of some modules answers, and the modules that it leaves
+abbrev pub RegistersFirst : {A : Type 0} → List NativeInfo → FuncRegistration → FnId → List ModuleTree → Result A DeclFault → List ModuleTree → Type 0
+RegistersFirst natives reg id old result new = InFirst (λ m changed. Registers natives reg id m result changed) old new
 
--- the same of the global namespace of an engine
-abbrev pub with_native : Bytes → FnId → NativeInfo → EngineLists → EngineLists
-with_native name id info e = record e { globals = native_in_first name id info e.globals }
+-- the same of a raw one
+abbrev pub RegistersRawFirst : {A : Type 0} → List NativeInfo → FuncRegistration → List TypeTag → RhaiFunc → List ModuleTree → Result A DeclFault → List ModuleTree → Type 0
+RegistersRawFirst natives reg types func old result new = InFirst (λ m changed. RegistersRaw natives reg types func m result changed) old new
+
+-- what is told of a registration in the first of some modules
+abbrev pub FirstTells : List NativeInfo → FuncRegistration → FnId → List ModuleTree → FuncMetadata → Type 0
+FirstTells natives reg id [] metadata = ⊥
+FirstTells natives reg id (m ∷ ms) metadata = metadata ≡ (registered_decl m.own.seeds reg (native_at natives id) id).metadata
+
+-- a native under a name for all calls: its parameters are told by their types
+abbrev pub fn_registration : List NativeInfo → Bytes → FnId → FuncRegistration
+fn_registration natives name id = record (global_registration name) { params_info = params_by_type (native_at natives id).types }
+
+-- a registration for all calls: where no parameter is told, each is by its type
+abbrev pub told_params : List Bytes → List Bytes → List Bytes
+told_params by_type [] = by_type
+told_params by_type (p ∷ ps) = p ∷ ps
+
+abbrev pub for_all_calls : List NativeInfo → FuncRegistration → FnId → FuncRegistration
+for_all_calls natives reg id = record reg { namespace = Global; params_info = told_params (params_by_type (native_at natives id).types) reg.params_info }
+
+-- a native that is registered raw is a volatile method with context
+abbrev pub raw_func : Bytes → List TypeTag → FnId → RhaiFunc
+raw_func name types id = Method id true (pure_by_name name (length types)) true
+
+-- the name of a custom type by its number, by which it is shown where no other is registered
+abbrev pub custom_name : ℕ → Bytes
+custom_name kind = type_name (Custom kind)

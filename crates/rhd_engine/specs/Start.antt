@@ -3,6 +3,7 @@ use Rattle.std.specs.Prelude.{List, [], ◌∷◌, None}
 use Rattle.rhd_value.specs.Tree.{unit}
 use Rattle.rhd_value.specs.Kinds.{plain}
 use Rattle.rhd_value.specs.declared.tag.FnId.{FnId}
+use Rattle.rhd_hash.specs.declared.mixer.Seeds.{Seeds}
 use Rattle.rhd_func.specs.Natives.{NativeInfo}
 use Rattle.rhd_module.specs.Tree.{empty_module}
 use Rattle.rhd_engine.specs.Engine.{EngineLists, Frame, Operator}
@@ -10,8 +11,8 @@ use Rattle.rhd_engine.specs.declared.limits.Limits.{Limits}
 use Rattle.rhd_engine.specs.declared.limits.Printers.{Printers}
 
 -- one empty global module
-abbrev pub start_lists : List NativeInfo → Limits → List (Operator × FnId) → Printers → EngineLists
-start_lists natives limits builtins printers = record { globals = empty_module ∷ []; natives = natives; builtins = builtins; limits = limits; printers = printers }
+abbrev pub start_lists : List NativeInfo → Seeds → Limits → List (Operator × FnId) → Printers → EngineLists
+start_lists natives seeds limits builtins printers = record { globals = empty_module seeds ∷ []; natives = natives; iterators = 0; builtins = builtins; seeds = seeds; limits = limits; printers = printers }
 
 -- no library, no import, no source, no open call, the tag unit
 abbrev pub start_frame : Frame

@@ -1,22 +1,65 @@
 //! How types and signatures are shown.
 
 ghost use Rattle.std.specs.Prelude.{◌≡◌, ◌++◌, ◌∷◌, IfOk, OnOk, codes};
-ghost use Rattle.std.specs.List.{flat_map, join_by};
+ghost use Rattle.std.specs.List.{flat_map, join_by, list_any};
+ghost use Rattle.std.specs.Option.{option_copied};
+ghost use Rattle.rhd_value.specs.Firsts.{first_of};
+ghost use Rattle.rhd_value.specs.Same.{text_eq};
 ghost use Rattle.rhd_func.specs.Shapes.{all_args};
-ghost use Rattle.rhd_engine.specs.Display.{display, in_signature, signature};
+ghost use Rattle.rhd_engine.specs.Display.{standard_names, display_in, map_type_name, display, in_signature, signature};
 ghost use Rattle.rhd_engine.specs.Of.{lists_of};
 
 use crate::engine::Engine;
 use rhd_func::CallShape;
-use rhd_value::{Dynamic, OutOfMemory, Text, Value};
+use rhd_module::SharedModule;
+use rhd_value::{Dynamic, OutOfMemory, Text, Value, Values};
 use std::alloc::Global;
 
+/// Whether a type name is one of the eight names of kinds that are no custom types.
+fn is_standard_name(name: &Text) -> bool
+    ensures { result ≡ list_any (text_eq name.now) standard_names }
+{
+    matches!(
+        name.as_str(),
+        "()" | "bool" | "i64" | "char" | "string" | "array" | "map" | "Fn"
+    )
+}
+
+/// The name by which the first module that has the type of this type name shows it.
+fn shown_in<'a>(modules: &'a [SharedModule], name: &Text) -> Option<&'a Text>
+    ensures { option_copied result ≡ first_of (display_in name.now) modules.now }
+{
+    for shared in modules {
+        let shown = shared.module().get_custom_type_display_by_name(name);
+        if shown.is_some() {
+            return shown;
+        }
+    }
+    None
+}
+
 impl Engine {
+    /// How the type of a type name is shown: a standard name as it is, else by the name that the first
+    /// global module has for it, and by its type name where none has one.
+    #[tactic(auto, unfolding(crate::specs::Display::map_type_name, crate::specs::Of::lists_of))]
+    pub fn map_type_name(&self, alloc: Global, name: &Text) -> Result<Text, OutOfMemory>
+        ensures { IfOk result (λ shown. shown ≡ map_type_name (lists_of info self.now) name.now) }
+    {
+        if is_standard_name(name) {
+            return name.dup(alloc);
+        }
+        match shown_in(self.globals.as_slice(), name) {
+            Some(shown) => shown.dup(alloc),
+            None => name.dup(alloc),
+        }
+    }
+
     /// The type of a value, as a text shows it.
     pub fn display_type(&self, alloc: Global, value: &Dynamic) -> Result<Text, OutOfMemory>
         ensures { IfOk result (λ name. name ≡ display (lists_of info self.now) value.now) }
     {
-        value.type_name(alloc)
+        let name = value.type_name(alloc)?;
+        self.map_type_name(alloc, &name)
     }
 
     /// Puts a value's type at the end, as a signature shows it.
@@ -109,6 +152,22 @@ impl Engine {
         let mut text = name.dup(alloc)?;
         text.push(" (")?;
         self.push_shape(alloc, &mut text, shape)?;
+        text.push(")")?;
+        Ok(text)
+    }
+
+    /// The same of a call with these arguments.
+    pub fn gen_fn_call_signature(
+        &self,
+        alloc: Global,
+        name: &Text,
+        args: &Values,
+    ) -> Result<Text, OutOfMemory>
+        ensures { IfOk result (λ text. text ≡ signature (lists_of info self.now) name.now args.now) }
+    {
+        let mut text = name.dup(alloc)?;
+        text.push(" (")?;
+        self.push_types(alloc, &mut text, args.as_slice())?;
         text.push(")")?;
         Ok(text)
     }

@@ -7,6 +7,7 @@ use crate::builtins::Builtins;
 use crate::limits::{Limits, Printers};
 use crate::lists::ModuleList;
 use rhd_func::Natives;
+use rhd_hash::Seeds;
 use rhd_module::{Module, SharedModule};
 use rhd_value::OutOfMemory;
 use std::alloc::Global;
@@ -20,6 +21,7 @@ pub struct Engine {
     /// are registered.
     pub globals: ModuleList,
     builtins: Builtins,
+    seeds: Seeds,
     limits: Limits,
     printers: Printers,
     ghost globals_held: { all_held (length natives.items.items) globals ≡ true },
@@ -33,27 +35,30 @@ impl Engine {
     ghost use Rattle.rhd_engine.specs.Of.{lists_of};
     ghost use Rattle.rhd_engine.specs.Start.{start_lists};
 
-    /// An engine with an empty global namespace. Its built-ins are held by the natives.
+    /// An engine with an empty global namespace. Its built-ins are held by the natives, and its modules hash
+    /// their keys under these seeds.
     pub fn new(
         alloc: Global,
         natives: Natives,
         builtins: Builtins,
+        seeds: Seeds,
         limits: Limits,
         printers: Printers,
     ) -> Result<Engine, OutOfMemory>
         requires level { limits.level ≤ 1000 }
         requires builtins { builtins_held (length natives.items.items) builtins ≡ true }
         ensures natives { IfOk result (λ engine. engine.natives ≡ natives) }
-        ensures lists { IfOk result (λ engine. lists_of info engine ≡ start_lists (infos_of info natives) limits builtins printers) }
+        ensures lists { IfOk result (λ engine. lists_of info engine ≡ start_lists (infos_of info natives) seeds limits builtins printers) }
     {
         let mut globals = ModuleList::new(alloc);
-        let empty = Module::new(alloc);
+        let empty = Module::new(alloc, seeds)?;
         let namespace = SharedModule::new(alloc, empty)?;
         globals.push(namespace)?;
         Ok(Engine {
             natives,
             globals,
             builtins,
+            seeds,
             limits,
             printers,
         })
@@ -78,6 +83,13 @@ impl Engine {
         ensures { result.now ≡ self.now.builtins }
     {
         &self.builtins
+    }
+
+    /// The seeds under which its modules hash their keys.
+    pub fn seeds(&self) -> Seeds
+        ensures { result ≡ self.now.seeds }
+    {
+        self.seeds
     }
 
     pub fn limits(&self) -> Limits

@@ -9,6 +9,7 @@ mod law;
 mod limits;
 mod lists;
 mod missing;
+mod registering;
 mod state;
 
 pub use builtins::{Builtins, Operator};
@@ -16,4 +17,7 @@ pub use engine::Engine;
 pub use law::a_builtin_leaves_the_others;
 pub use limits::{Limits, Printers};
 pub use lists::{ImportList, ModuleList};
+pub use registering::{
+    RegisterIntoEngine, fn_registration, for_all_calls, raw_func, raw_registration,
+};
 pub use state::GlobalRuntimeState;

@@ -1,11 +1,12 @@
 -- Words that may be left out.
-use Rattle.std.proofs.Common.{◌≡◌, ℕ, Bool, true, false, cond, List, Option, Some, None, refl, ap, subst}
+use Rattle.std.proofs.Common.{◌≡◌, ℕ, Bool, true, false, cond, List, Option, Some, None, refl, sym, ap, subst, ◌∙◌}
 use Rattle.std.specs.Str.{bytes_eq}
 use Rattle.std.proofs.lemmas.Slice.Eq.{bytes_eq-Decides}
 use Rattle.rhd_text.specs.Spans.{bare, optional}
 use Rattle.rhd_text.specs.Reading.{word_at, flag_of, flag_at}
-use Rattle.rhd_text.proofs.Agrees.{same_some}
+use Rattle.rhd_text.proofs.Agrees.{same_some, some_pair}
 use Rattle.rhd_text.proofs.WordLaws.{bare_agrees}
+use Rattle.rhd_text.proofs.ByteLaws.{not_both}
 
 other_word : (b : Bool) (w v after bytes : List ℕ) → word_at bytes ≡ Some (v, after) → bytes_eq v w ≡ b → ((r : List ℕ) → bare w bytes r → ⊥) → ◌≡◌ {A = Bool × List ℕ} (cond b (true, after) (false, bytes)) (false, bytes)
 other_word true w v after bytes h t n = absurd (n after (subst (λ (u : List ℕ). bare u bytes after) ((bytes_eq-Decides v w).0 t) (bare_agrees.sound v bytes after h)))
@@ -44,3 +45,9 @@ flag_there w bytes rest o = rw (bare_agrees.complete w bytes rest o, (bytes_eq-D
 pub flag_absent : (w bytes : List ℕ) → ((after : List ℕ) → bare w bytes after → ⊥) → flag_at w bytes ≡ (false, bytes)
 unfolding flag_at
 flag_absent w bytes n = flag_other (word_at bytes) w bytes refl n
+
+-- two words are not written at one place
+pub not_word : (w v after rest bytes : List ℕ) → bytes_eq v w ≡ false → bare v bytes rest → bare w bytes after → ⊥
+not_word w v after rest bytes f o u =
+    let e : ◌≡◌ {A = Option (List ℕ × List ℕ)} (Some (v, rest)) (Some (w, after)) = sym (bare_agrees.complete v bytes rest o) ∙ bare_agrees.complete w bytes after u in
+    not_both (bytes_eq v w) ((bytes_eq-Decides v w).1 (some_pair v w rest after e).0) f

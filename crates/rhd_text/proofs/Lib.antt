@@ -6,12 +6,15 @@ pub mod Agrees
 pub mod WordLaws
 pub mod ListLaws
 pub mod ByteLaws
+pub mod BracketLaws
 pub mod QuoteLaws
 pub mod FlagLaws
 pub mod HeadLaws
 pub mod MapLaws
 pub mod WantLaws
 pub mod ObjectLaws
+pub mod PurityLaws
+pub mod ParamLaws
 pub mod ValueLaws
 pub mod WholeLaws
 pub mod AgainWords

@@ -3,7 +3,7 @@ use Rattle.std.proofs.Common.{ℕ, List, Bool, true, false, cond, ◌≡◌, Som
 use Rattle.rhd_value.specs.declared.tag.TypeTag.{TypeTag}
 use Rattle.rhd_text.specs.declared.printers.Printer.{Printer}
 use Rattle.rhd_text.specs.Bytes.{num_of, value_kind_of, printer_of}
-use Rattle.rhd_text.specs.Rows.{Operand, NAME, WORD, WORDS, NUM, LONG, ARG, ARGS, OPTIONAL, WANT, THIS, VALUE, KIND, PRINTER, Meaning}
+use Rattle.rhd_text.specs.Rows.{Operand, NAME, WORD, WORDS, NUM, LONG, ARG, ARGS, OPTIONAL, WANT, THIS, PURITY, VALUE, KIND, KINDS, PRINTER, Meaning}
 use Rattle.rhd_text.specs.Spans.{bare, name, number, value_kind, printer}
 use Rattle.rhd_text.specs.Grammar.{operand}
 use Rattle.rhd_text.specs.Reading.{comes, word_at, wording_at, name_at, num_at, value_kind_at, printer_at}
@@ -14,6 +14,8 @@ use Rattle.rhd_text.proofs.QuoteLaws.{word_agrees, words_agree}
 use Rattle.rhd_text.proofs.FlagLaws.{flag_read}
 use Rattle.rhd_text.proofs.WantLaws.{no_colon, colon_absent, want_agrees}
 use Rattle.rhd_text.proofs.ObjectLaws.{this_sound}
+use Rattle.rhd_text.proofs.PurityLaws.{purity_sound}
+use Rattle.rhd_text.proofs.ParamLaws.{kinds_agree}
 use Rattle.rhd_text.proofs.ValueLaws.{value_agrees}
 use Rattle.rhd_text.proofs.ArgumentLaws.{argument_agrees, arguments_agree}
 
@@ -51,6 +53,8 @@ operand_sound (ARGS given) = (arguments_agree given).sound
 operand_sound (OPTIONAL w) = λ x bytes rest e. flag_read w bytes rest x e
 operand_sound WANT = want_agrees.sound
 operand_sound THIS = this_sound
+operand_sound PURITY = purity_sound
 operand_sound VALUE = value_agrees.sound
 operand_sound KIND = value_kind_agrees.sound
+operand_sound KINDS = kinds_agree.sound
 operand_sound PRINTER = printer_agrees.sound

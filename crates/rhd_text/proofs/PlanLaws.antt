@@ -1,16 +1,19 @@
--- What is read of a call, in a line of its own and in a body.
+-- What is read of a call, in a line of its own and in a body; and of the definition of a script.
 use Rattle.std.proofs.Common.{◌≡◌, ℕ, Bool, true, false, cond, List, [], ◌∷◌, Option, Some, None, refl}
 use Rattle.std.specs.Option.{option_map}
 use Rattle.rhd_value.specs.declared.tag.Position.{Position}
+use Rattle.rhd_func.specs.declared.access.FnNamespace.TheVariants.{Internal}
+use Rattle.rhd_func.specs.declared.func.RhaiFunc.TheVariants as funcs
 use Rattle.rhd_call.specs.declared.command.Command.TheVariants as commands
+use Rattle.rhd_text.specs.declared.keyword.Keyword.TheVariants as keywords
 use Rattle.rhd_text.specs.declared.keyword.CallWord.{CallWord}
 use Rattle.rhd_text.specs.declared.keyword.CallWord.TheVariants as words
 use Rattle.rhd_text.specs.declared.requests.Handing.TheVariants as handings
 use Rattle.rhd_text.specs.declared.part.Part.TheVariants as parts
 use Rattle.rhd_text.specs.declared.place.Place.{Place}
-use Rattle.rhd_text.specs.Rows.{Operand, From, from_then, position, nowhere, call_form, planned, called, step}
+use Rattle.rhd_text.specs.Rows.{Operand, From, from_then, position, nowhere, definition, defined, call_form, planned, called, step, form}
 use Rattle.rhd_text.specs.Reading.{◌>>=◌, is_end}
-use Rattle.rhd_text.specs.ReadRows.{operand_at, operands_at, row_at, plan_at, named_at}
+use Rattle.rhd_text.specs.ReadRows.{operand_at, operands_at, row_at, definition_at, plan_at, named_at}
 
 ended : {A B : Type 0} (f : A → B) (b : Bool) (o : Option A) → cond b (option_map f o) None ≡ option_map f (cond b o None)
 ended f true o = refl
@@ -32,6 +35,16 @@ call_row place w bytes = mapped (λ plan. parts.Command (commands.Call plan.requ
 pub step_row : (place : Place) (w : CallWord) (bytes : List ℕ) → row_at place (step w) bytes ≡ option_map (λ plan. parts.Do plan) (plan_at true w nowhere bytes)
 unfolding row_at plan_at
 step_row place w bytes = mapped (λ plan. parts.Do plan) ((call_form w).operands true) (planned (call_form w) true nowhere) bytes
+
+-- ---- definitions of scripts
+
+pub script_row : (place : Place) (bytes : List ℕ) → row_at place (form keywords.Script) bytes ≡ option_map (λ d. parts.Command (commands.Script (record { 0 = d.0 }) d.1)) (definition_at bytes)
+unfolding row_at definition_at
+script_row place bytes = mapped (λ d. parts.Command (commands.Script (record { 0 = d.0 }) d.1)) definition defined bytes
+
+pub raw_script_row : (place : Place) (bytes : List ℕ) → row_at place (form keywords.RawScript) bytes ≡ option_map (λ d. parts.Command (commands.RawNative (record { 0 = d.0 }) d.1.name Internal [] (funcs.Script d.1 None))) (definition_at bytes)
+unfolding row_at definition_at
+raw_script_row place bytes = mapped (λ d. parts.Command (commands.RawNative (record { 0 = d.0 }) d.1.name Internal [] (funcs.Script d.1 None))) definition defined bytes
 
 -- ---- what each word reads
 

@@ -4,12 +4,13 @@ use Rattle.std.specs.Str.{is_utf8}
 use Rattle.std.proofs.lemmas.Bool.{ne_eqb}
 use Rattle.std.proofs.lemmas.Bool.Decides.{eqb_tells}
 use Rattle.rhd_text.specs.Bytes.{is_blank, is_word_byte, may_end, begins, unescaped}
-use Rattle.rhd_text.specs.Spans.{Span, letter, letters_to, either, run, quotation, unquoted, word, bracket, each, words}
-use Rattle.rhd_text.specs.Reading.{◌>>=◌, run_at, put, text_at, text_of, quoted_at, plain_text_at, text_here, wording_at, Parse, comes, after_bracket, many, texts_at}
+use Rattle.rhd_text.specs.Spans.{Span, letter, letters_to, either, run, quotation, unquoted, word, words}
+use Rattle.rhd_text.specs.Reading.{◌>>=◌, run_at, put, text_at, text_of, quoted_at, plain_text_at, text_here, wording_at, comes, texts_at}
 use Rattle.rhd_text.proofs.Agrees.{Agrees, bind_some, some_pair, cond_some}
 use Rattle.rhd_text.proofs.WordLaws.{Stops, run_agrees, run_stops, skips_to, blanks_shrink, run_shrinks}
-use Rattle.rhd_text.proofs.ListLaws.{Goes, many_agrees}
-use Rattle.rhd_text.proofs.ByteLaws.{eqb_self, begins_is, begins_same, drops_to, run_begins, byte_stops, byte_shrinks, spaced, begins_other, bracket_sound, bracket_complete}
+use Rattle.rhd_text.proofs.ListLaws.{Goes}
+use Rattle.rhd_text.proofs.BracketLaws.{bracketed_agrees}
+use Rattle.rhd_text.proofs.ByteLaws.{eqb_self, begins_is, begins_same, drops_to, run_begins, byte_stops, byte_shrinks, spaced, begins_other}
 
 put_some : (o : Option ℕ) (read : Option (List ℕ × List ℕ)) (t r : List ℕ) → put o read ≡ Some (t, r) → (c : ℕ) × (u : List ℕ) × (o ≡ Some c) × (read ≡ Some (u, r)) × (t ≡ c ∷ u)
 put_some (Some c) (Some (u, s)) t r e = let p = some_pair (c ∷ u) t s r e in (c, u, refl, ap (λ (x : List ℕ). Some (u, x)) p.1, sym p.0)
@@ -161,29 +162,6 @@ words_go k dark other = record {
 word_goes : Goes (List ℕ) (comes 41) word
 word_goes = words_go 41 refl refl
 
-inner : Agrees (List (List ℕ)) (λ bytes. many (comes 41) wording_at [] (length bytes) bytes) (λ ws bytes rest. each word ws bytes rest × (comes 41 rest ≡ true))
-inner = many_agrees (List ℕ) (comes 41) wording_at word word_agrees word_goes
-
-abbrev some_texts_at : Parse (List (List ℕ))
-some_texts_at bytes = many (comes 41) wording_at [] (length bytes) bytes >>= λ x. Some (x.0, after_bracket x.1)
-
-texts_sound : (b : Bool) (ws : List (List ℕ)) (bytes rest : List ℕ) → comes 40 bytes ≡ b → cond b (some_texts_at (after_bracket bytes)) None ≡ Some (ws, rest) → words ws bytes rest
-texts_sound true ws bytes rest h e =
-    let a = bind_some (many (comes 41) wording_at [] (length (after_bracket bytes)) (after_bracket bytes)) (λ x. Some (x.0, after_bracket x.1)) (ws, rest) e in
-    let p = some_pair a.0.0 ws (after_bracket a.0.1) rest a.2 in
-    let w = inner.sound a.0.0 (after_bracket bytes) a.0.1 a.1 in (
-      after_bracket bytes,
-      bracket_sound 40 bytes (omega arith) h,
-      (a.0.1, subst (λ (xs : List (List ℕ)). each word xs (after_bracket bytes) a.0.1) p.0 w.0, subst (λ (r : List ℕ). bracket 41 a.0.1 r) p.1 (bracket_sound 41 a.0.1 (omega arith) w.1)),
-    )
-texts_sound false ws bytes rest h e = absurd cc
-
 pub words_agree : Agrees (List (List ℕ)) texts_at words
 unfolding texts_at
-words_agree = record {
-  sound = λ ws bytes rest e. texts_sound (comes 40 bytes) ws bytes rest refl e;
-  complete = λ ws bytes rest w.
-      let b = bracket_complete 40 bytes w.0 refl w.1 in
-      let d = bracket_complete 41 w.2.0 rest refl w.2.2 in
-      rw (b.0, b.1, inner.complete ws w.0 w.2.0 (w.2.1, d.0), d.1) refl;
-}
+words_agree = bracketed_agrees (List ℕ) wording_at word word_agrees word_goes

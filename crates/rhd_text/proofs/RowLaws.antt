@@ -6,18 +6,19 @@ use Rattle.std.proofs.lemmas.Slice.Eq.{bytes_eq-Decides}
 use Rattle.std.proofs.lemmas.Bool.{eqb-true}
 use Rattle.rhd_text.specs.declared.place.Place.{Place}
 use Rattle.rhd_text.specs.Bytes.{is_blank}
-use Rattle.rhd_text.specs.Rows.{Operand, NAME, WORD, WORDS, NUM, LONG, ARG, ARGS, OPTIONAL, WANT, THIS, VALUE, KIND, PRINTER, Meaning, From, Form, Table}
+use Rattle.rhd_text.specs.Rows.{Operand, NAME, WORD, WORDS, NUM, LONG, ARG, ARGS, OPTIONAL, WANT, THIS, PURITY, VALUE, KIND, KINDS, PRINTER, Meaning, From, Form, Table}
 use Rattle.rhd_text.specs.Spans.{blanks, bare}
 use Rattle.rhd_text.specs.Grammar.{operands, formed, WrittenLine, IsWritten}
-use Rattle.rhd_text.specs.Reading.{◌>>=◌, skip_blanks, is_end, word_at, flag_at, this_at}
+use Rattle.rhd_text.specs.Reading.{◌>>=◌, skip_blanks, is_end, word_at, flag_at, this_at, purity_at}
 use Rattle.rhd_text.specs.ReadRows.{operand_at, operands_at, row_at, keyword_in, form_of, form_at, begins_no_part, is_skipped, line_by}
-use Rattle.rhd_text.proofs.Agrees.{bind_some, same_some, some_pair, and_parts, not_true}
+use Rattle.rhd_text.proofs.Agrees.{bind_some, same_some, and_parts, not_true}
 use Rattle.rhd_text.proofs.WordLaws.{stops_nil, head_stop, skipped, skips_to, bare_agrees, bare_here, end_sound, end_complete, no_word}
-use Rattle.rhd_text.proofs.ByteLaws.{not_both}
 use Rattle.rhd_text.proofs.QuoteLaws.{word_agrees, words_agree}
-use Rattle.rhd_text.proofs.FlagLaws.{flag_there, flag_absent}
+use Rattle.rhd_text.proofs.FlagLaws.{not_word, flag_there, flag_absent}
 use Rattle.rhd_text.proofs.WantLaws.{want_agrees}
 use Rattle.rhd_text.proofs.ObjectLaws.{this_there, this_absent}
+use Rattle.rhd_text.proofs.PurityLaws.{purity_there, purity_absent}
+use Rattle.rhd_text.proofs.ParamLaws.{kinds_agree}
 use Rattle.rhd_text.proofs.ValueLaws.{value_agrees}
 use Rattle.rhd_text.proofs.ArgumentLaws.{argument_agrees, arguments_agree}
 use Rattle.rhd_text.proofs.OperandLaws.{name_agrees, number_agrees, value_kind_agrees, printer_agrees, operand_sound}
@@ -40,18 +41,15 @@ abbrev other_words : List ℕ → List Operand → Bool
 other_words w [] = true
 other_words w (OPTIONAL v ∷ os) = not (bytes_eq v w) && other_words w os
 other_words w (THIS ∷ os) = not (bytes_eq (codes "this") w) && other_words w os
+other_words w (PURITY ∷ os) = not (bytes_eq (codes "pure") w) && (not (bytes_eq (codes "impure") w) && other_words w os)
 other_words w (o ∷ os) = false
 
 abbrev pub well_placed : List Operand → Bool
 well_placed [] = true
 well_placed (OPTIONAL w ∷ os) = other_words w os && well_placed os
 well_placed (THIS ∷ os) = other_words (codes "this") os && well_placed os
+well_placed (PURITY ∷ os) = other_words (codes "pure") os && (other_words (codes "impure") os && well_placed os)
 well_placed (o ∷ os) = well_placed os
-
-not_word : (w v after rest bytes : List ℕ) → bytes_eq v w ≡ false → bare v bytes rest → bare w bytes after → ⊥
-not_word w v after rest bytes f o u =
-    let e : ◌≡◌ {A = Option (List ℕ × List ℕ)} (Some (v, rest)) (Some (w, after)) = sym (bare_agrees.complete v bytes rest o) ∙ bare_agrees.complete w bytes after u in
-    not_both (bytes_eq v w) ((bytes_eq-Decides v w).1 (some_pair v w rest after e).0) f
 
 no_other : {R : Type 0} (w : List ℕ) (os : List Operand) (says : From os (Option R)) (c : R) (bytes after : List ℕ) → other_words w os ≡ true → operands os says c bytes → bare w bytes after → ⊥
 no_other w [] says c bytes after p o u = no_word w bytes after o.0 u
@@ -59,6 +57,13 @@ no_other w (OPTIONAL v ∷ os) says c bytes after p (true, rest, o, more) u = no
 no_other w (OPTIONAL v ∷ os) says c bytes after p (false, rest, o, more) u = no_other w os (says false) c rest after (and_parts (not (bytes_eq v w)) (other_words w os) p).1 more (subst (λ (b : List ℕ). bare w b after) o u)
 no_other w (THIS ∷ os) says c bytes after p (Some s, rest, o, more) u = not_word w (codes "this") after o.0 bytes (not_true (bytes_eq (codes "this") w) (and_parts (not (bytes_eq (codes "this") w)) (other_words w os) p).0) o.1 u
 no_other w (THIS ∷ os) says c bytes after p (None, rest, o, more) u = no_other w os (says None) c rest after (and_parts (not (bytes_eq (codes "this") w)) (other_words w os) p).1 more (subst (λ (b : List ℕ). bare w b after) o u)
+no_other w (PURITY ∷ os) says c bytes after p (Some true, rest, o, more) u = not_word w (codes "pure") after rest bytes (not_true (bytes_eq (codes "pure") w) (and_parts (not (bytes_eq (codes "pure") w)) (not (bytes_eq (codes "impure") w) && other_words w os) p).0) o u
+no_other w (PURITY ∷ os) says c bytes after p (Some false, rest, o, more) u =
+    let a = and_parts (not (bytes_eq (codes "pure") w)) (not (bytes_eq (codes "impure") w) && other_words w os) p in
+    not_word w (codes "impure") after rest bytes (not_true (bytes_eq (codes "impure") w) (and_parts (not (bytes_eq (codes "impure") w)) (other_words w os) a.1).0) o u
+no_other w (PURITY ∷ os) says c bytes after p (None, rest, o, more) u =
+    let a = and_parts (not (bytes_eq (codes "pure") w)) (not (bytes_eq (codes "impure") w) && other_words w os) p in
+    no_other w os (says None) c rest after (and_parts (not (bytes_eq (codes "impure") w)) (other_words w os) a.1).1 more (subst (λ (b : List ℕ). bare w b after) o u)
 no_other w (NAME ∷ os) says c bytes after p o u = absurd cc
 no_other w (WORD ∷ os) says c bytes after p o u = absurd cc
 no_other w (WORDS ∷ os) says c bytes after p o u = absurd cc
@@ -69,6 +74,7 @@ no_other w (ARGS given ∷ os) says c bytes after p o u = absurd cc
 no_other w (WANT ∷ os) says c bytes after p o u = absurd cc
 no_other w (VALUE ∷ os) says c bytes after p o u = absurd cc
 no_other w (KIND ∷ os) says c bytes after p o u = absurd cc
+no_other w (KINDS ∷ os) says c bytes after p o u = absurd cc
 no_other w (PRINTER ∷ os) says c bytes after p o u = absurd cc
 
 first_read : {R : Type 0} (o : Operand) (os : List Operand) (says : From (o ∷ os) (Option R)) (c : R) (x : Meaning o) (bytes rest : List ℕ) → operand_at o bytes ≡ Some (x, rest) → operands_at os (says x) rest ≡ Some c → operands_at (o ∷ os) says bytes ≡ Some c
@@ -86,6 +92,15 @@ row_complete (THIS ∷ os) says c bytes p (None, rest, o, more) =
     let a = and_parts (other_words (codes "this") os) (well_placed os) p in
     let n : this_at rest ≡ Some (None, rest) = this_absent rest (λ after u. no_other (codes "this") os (says None) c rest after a.0 more u) in
     first_read THIS os says c None bytes rest (ap this_at o ∙ n) (row_complete os (says None) c rest a.1 more)
+row_complete (PURITY ∷ os) says c bytes p (Some pure, rest, o, more) =
+    let a = and_parts (other_words (codes "pure") os) (other_words (codes "impure") os && well_placed os) p in
+    let b = and_parts (other_words (codes "impure") os) (well_placed os) a.1 in
+    first_read PURITY os says c (Some pure) bytes rest (ap (λ (q : Option Bool × List ℕ). Some q) (purity_there pure bytes rest o)) (row_complete os (says (Some pure)) c rest b.1 more)
+row_complete (PURITY ∷ os) says c bytes p (None, rest, o, more) =
+    let a = and_parts (other_words (codes "pure") os) (other_words (codes "impure") os && well_placed os) p in
+    let b = and_parts (other_words (codes "impure") os) (well_placed os) a.1 in
+    let n : purity_at rest ≡ (None, rest) = purity_absent rest (λ after u. no_other (codes "pure") os (says None) c rest after a.0 more u) (λ after u. no_other (codes "impure") os (says None) c rest after b.0 more u) in
+    first_read PURITY os says c None bytes rest (ap (λ (b : List ℕ). Some (purity_at b)) o ∙ ap (λ (q : Option Bool × List ℕ). Some q) n) (row_complete os (says None) c rest b.1 more)
 row_complete (WANT ∷ os) says c bytes p w = first_read WANT os says c w.0 bytes w.1 (want_agrees.complete w.0 bytes w.1 w.2) (row_complete os (says w.0) c w.1 p w.3)
 row_complete (NAME ∷ os) says c bytes p w = first_read NAME os says c w.0 bytes w.1 (name_agrees.complete w.0 bytes w.1 w.2) (row_complete os (says w.0) c w.1 p w.3)
 row_complete (WORD ∷ os) says c bytes p w = first_read WORD os says c w.0 bytes w.1 (word_agrees.complete w.0 bytes w.1 w.2) (row_complete os (says w.0) c w.1 p w.3)
@@ -96,6 +111,7 @@ row_complete (ARG given ∷ os) says c bytes p w = first_read (ARG given) os say
 row_complete (ARGS given ∷ os) says c bytes p w = first_read (ARGS given) os says c w.0 bytes w.1 ((arguments_agree given).complete w.0 bytes w.1 w.2) (row_complete os (says w.0) c w.1 p w.3)
 row_complete (VALUE ∷ os) says c bytes p w = first_read VALUE os says c w.0 bytes w.1 (value_agrees.complete w.0 bytes w.1 w.2) (row_complete os (says w.0) c w.1 p w.3)
 row_complete (KIND ∷ os) says c bytes p w = first_read KIND os says c w.0 bytes w.1 (value_kind_agrees.complete w.0 bytes w.1 w.2) (row_complete os (says w.0) c w.1 p w.3)
+row_complete (KINDS ∷ os) says c bytes p w = first_read KINDS os says c w.0 bytes w.1 (kinds_agree.complete w.0 bytes w.1 w.2) (row_complete os (says w.0) c w.1 p w.3)
 row_complete (PRINTER ∷ os) says c bytes p w = first_read PRINTER os says c w.0 bytes w.1 (printer_agrees.complete w.0 bytes w.1 w.2) (row_complete os (says w.0) c w.1 p w.3)
 
 -- ---- any table

@@ -6,7 +6,8 @@ use Rattle.std.proofs.lemmas.Slice.Eq.{bytes_eq-Decides}
 use Rattle.rhd_text.specs.declared.part.Part.{Part}
 use Rattle.rhd_text.specs.declared.place.Place.{Place}
 use Rattle.rhd_text.specs.declared.keyword.Keyword.{Keyword}
-use Rattle.rhd_text.specs.declared.keyword.Keyword.TheVariants.{Limits, Printer, Builtin, Host, Body, Ret, Fail, Register, Module, Script, Lib, PopLib, Call}
+use Rattle.rhd_text.specs.declared.keyword.Keyword.TheVariants.{Seeds, Limits, Printer, Builtin, Host, Body, Ret, Fail, Register, RegisterRaw, RegisterType, Module}
+use Rattle.rhd_text.specs.declared.keyword.Keyword.TheVariants.{SetId, SetDoc, SetVar, SetType, Native, Raw, RawIter, RawScript, Script, Submodule, Clear, Count, HasNative, HasScript, Lib, PopLib, Call}
 use Rattle.rhd_text.specs.declared.keyword.CallWord.{CallWord}
 use Rattle.rhd_text.specs.declared.keyword.CallWord.TheVariants as words
 use Rattle.rhd_text.specs.Rows.{call_form, step, all_calls, form, all_keywords, line_forms, step_forms}
@@ -51,6 +52,7 @@ steps_sound = record { placed = λ w. call_placed true w; found = step_found; sh
 -- ---- lines
 
 line_placed : (k : Keyword) → well_placed (form k).operands ≡ true
+line_placed Seeds = refl
 line_placed Limits = refl
 line_placed Printer = refl
 line_placed Builtin = refl
@@ -59,14 +61,30 @@ line_placed Body = refl
 line_placed Ret = refl
 line_placed Fail = refl
 line_placed Register = refl
+line_placed RegisterRaw = refl
+line_placed RegisterType = refl
 line_placed Module = refl
+line_placed SetId = refl
+line_placed SetDoc = refl
+line_placed SetVar = refl
+line_placed SetType = refl
+line_placed Native = refl
+line_placed Raw = refl
+line_placed RawIter = refl
+line_placed RawScript = refl
 line_placed Script = refl
+line_placed Submodule = refl
+line_placed Clear = refl
+line_placed Count = refl
+line_placed HasNative = refl
+line_placed HasScript = refl
 line_placed Lib = refl
 line_placed PopLib = refl
 line_placed (Call w) = call_placed false w
 
 line_found : (k : Keyword) → keyword_in form all_keywords (form k).spelling ≡ Some k
 unfolding keyword_in
+line_found Seeds = refl
 line_found Limits = refl
 line_found Printer = refl
 line_found Builtin = refl
@@ -75,8 +93,23 @@ line_found Body = refl
 line_found Ret = refl
 line_found Fail = refl
 line_found Register = refl
+line_found RegisterRaw = refl
+line_found RegisterType = refl
 line_found Module = refl
+line_found SetId = refl
+line_found SetDoc = refl
+line_found SetVar = refl
+line_found SetType = refl
+line_found Native = refl
+line_found Raw = refl
+line_found RawIter = refl
+line_found RawScript = refl
 line_found Script = refl
+line_found Submodule = refl
+line_found Clear = refl
+line_found Count = refl
+line_found HasNative = refl
+line_found HasScript = refl
 line_found Lib = refl
 line_found PopLib = refl
 line_found (Call words.Call) = refl
@@ -87,6 +120,7 @@ line_found (Call words.Method) = refl
 line_found (Call words.MethodNative) = refl
 
 line_shows : (k : Keyword) (rest : List ℕ) → begins_no_part ((form k).spelling ++ rest) ≡ false
+line_shows Seeds rest = refl
 line_shows Limits rest = refl
 line_shows Printer rest = refl
 line_shows Builtin rest = refl
@@ -95,8 +129,23 @@ line_shows Body rest = refl
 line_shows Ret rest = refl
 line_shows Fail rest = refl
 line_shows Register rest = refl
+line_shows RegisterRaw rest = refl
+line_shows RegisterType rest = refl
 line_shows Module rest = refl
+line_shows SetId rest = refl
+line_shows SetDoc rest = refl
+line_shows SetVar rest = refl
+line_shows SetType rest = refl
+line_shows Native rest = refl
+line_shows Raw rest = refl
+line_shows RawIter rest = refl
+line_shows RawScript rest = refl
 line_shows Script rest = refl
+line_shows Submodule rest = refl
+line_shows Clear rest = refl
+line_shows Count rest = refl
+line_shows HasNative rest = refl
+line_shows HasScript rest = refl
 line_shows Lib rest = refl
 line_shows PopLib rest = refl
 line_shows (Call w) rest = call_shows w rest

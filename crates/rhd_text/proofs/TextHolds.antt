@@ -7,6 +7,7 @@ use Rattle.std.specs.Option.{is_none}
 use Rattle.std.proofs.lemmas.Bool.{leb-true}
 use Rattle.std.proofs.lemmas.List.{length_push}
 use Rattle.rhd_value.specs.declared.tag.FnId.{FnId}
+use Rattle.rhd_hash.specs.declared.mixer.Seeds.{Seeds}
 use Rattle.rhd_func.specs.Natives.{NativeInfo}
 use Rattle.rhd_engine.specs.declared.builtins.Operator.{Operator}
 use Rattle.rhd_engine.specs.declared.limits.Limits.{Limits}
@@ -17,7 +18,7 @@ use Rattle.rhd_text.specs.declared.session.SessionText.{SessionText}
 use Rattle.rhd_text.specs.declared.part.Part.{Part}
 use Rattle.rhd_text.specs.declared.part.Part.TheVariants as parts
 use Rattle.rhd_text.specs.declared.fault.TextFault.{TextFault}
-use Rattle.rhd_text.specs.Session.{empty_text, takes_headers, is_held, stepped, ended, in_latest, with_limits, with_printer, with_builtin, with_host, with_body, with_call, with_end, with_command, added, is_header, with_part, with_line, IsText, ReadsText}
+use Rattle.rhd_text.specs.Session.{empty_text, takes_headers, is_held, stepped, ended, in_latest, with_seeds, with_limits, with_printer, with_builtin, with_host, with_body, with_call, with_end, with_command, added, is_header, with_part, with_line, IsText, ReadsText}
 use Rattle.rhd_text.specs.Reading.{◌>>=◌}
 use Rattle.rhd_text.proofs.Agrees.{bind_some, cond_some, same_some, and_parts}
 
@@ -50,6 +51,12 @@ same_holds natives count t v l b c h = record {
   commands = omega (arith, ap length c, h.commands);
 }
 
+seeds_hold : (natives : List NativeInfo) (count : ℕ) (t v : SessionText) (s : Seeds) → with_seeds t s ≡ Some v → Holds natives count t → Holds natives (count + 1) v
+unfolding with_seeds
+seeds_hold natives count t v s e h =
+    let c = cond_some (is_none t.seeds) (record t { seeds = Some s }) v e in
+    subst (Holds natives (count + 1)) c.1 (same_holds natives count t (record t { seeds = Some s }) refl refl refl h)
+
 limits_hold : (natives : List NativeInfo) (count : ℕ) (t v : SessionText) (m : Limits) → with_limits t m ≡ Some v → Holds natives count t → Holds natives (count + 1) v
 unfolding with_limits
 limits_hold natives count t v m e h =
@@ -69,6 +76,7 @@ bodies_hold natives count t v o e h =
 
 part_holds : (natives : List NativeInfo) (count : ℕ) (t v : SessionText) (p : Part) → added natives t p ≡ Some v → Holds natives count t → Holds natives (count + 1) v
 unfolding with_printer with_host with_body with_call with_end with_command
+part_holds natives count t v (parts.Seeds s) e h = seeds_hold natives count t v s e h
 part_holds natives count t v (parts.Limits m) e h = limits_hold natives count t v m e h
 part_holds natives count t v (parts.Printer p) e h = subst (Holds natives (count + 1)) (same_some (with_printer t p) v e) (same_holds natives count t (with_printer t p) refl refl refl h)
 part_holds natives count t v (parts.Builtin op left right id) e h = builtin_holds natives count t v (record { token = op; left = left; right = right }) id e h

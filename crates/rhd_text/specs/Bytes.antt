@@ -80,6 +80,10 @@ value_kind_of w =
 unfoldable pub kind_of : List ℕ → Option TypeTag
 kind_of w = if bytes_eq w (codes "dynamic") then Some tags.Dynamic else value_kind_of w
 
+-- a kind of parameters: one of values, any, or a text in one of Rust's two forms
+unfoldable pub param_kind_of : List ℕ → Option TypeTag
+param_kind_of w = if bytes_eq w (codes "str") then Some tags.Str else (if bytes_eq w (codes "string") then Some tags.StdString else kind_of w)
+
 -- the printer of `print`, or that of `debug`
 unfoldable pub printer_of : List ℕ → Option Printer
 printer_of w = if bytes_eq w (codes "print") then Some printers.Print else (if bytes_eq w (codes "debug") then Some printers.Debug else None)

@@ -6,8 +6,8 @@ use Rattle.rhd_call.specs.declared.command.Command.TheVariants.{Call}
 use Rattle.rhd_text.specs.declared.part.Part.{Part}
 use Rattle.rhd_text.specs.declared.part.Part.TheVariants.{Command}
 use Rattle.rhd_text.specs.declared.place.Place.{Place}
-use Rattle.rhd_text.specs.Rows.{Operand, NAME, WORD, WORDS, NUM, LONG, ARG, ARGS, OPTIONAL, WANT, THIS, VALUE, KIND, PRINTER, Meaning, From, Table, line_forms, step_forms}
-use Rattle.rhd_text.specs.Spans.{Span, blanks, bare, name, word, words, optional, number, want, this, value, value_kind, printer, argument, arguments}
+use Rattle.rhd_text.specs.Rows.{Operand, NAME, WORD, WORDS, NUM, LONG, ARG, ARGS, OPTIONAL, WANT, THIS, PURITY, VALUE, KIND, KINDS, PRINTER, Meaning, From, Table, line_forms, step_forms}
+use Rattle.rhd_text.specs.Spans.{Span, blanks, bare, name, word, words, optional, number, want, this, purity, value, value_kind, kinds, printer, argument, arguments}
 
 -- how each kind of operand is written
 abbrev pub operand : (o : Operand) → Meaning o → Span
@@ -21,8 +21,10 @@ operand (ARGS given) = arguments given
 operand (OPTIONAL w) = optional w
 operand WANT = want
 operand THIS = this
+operand PURITY = purity
 operand VALUE = value
 operand KIND = value_kind
+operand KINDS = kinds
 operand PRINTER = printer
 
 -- the operands of a row, to the end of the line, where the row gives this of what they say

@@ -13,6 +13,7 @@ pub mod Answers
 pub mod PrintedTexts
 pub mod Runs
 pub mod PrintedValues
+pub mod PrintedKeys
 pub mod PrintedReplies
 pub mod TreeLines
 pub mod Proper

@@ -1,5 +1,5 @@
 -- How a reply is written: a line that ends with a line feed.
-use Rattle.std.specs.Prelude.{ℕ, ◌*◌, ◌-◌, replicate, List, [], ◌∷◌, ◌++◌, Option, Some, None, Result, Ok, Err, codes}
+use Rattle.std.specs.Prelude.{ℕ, Bool, true, false, ◌*◌, ◌-◌, replicate, List, [], ◌∷◌, ◌++◌, Option, Some, None, Result, Ok, Err, codes}
 use Rattle.std.specs.List.{flat_map}
 use Rattle.std.specs.Fmt.{decimal}
 use Rattle.rhd_value.specs.Tree.{Bytes, Tree}
@@ -12,8 +12,8 @@ use Rattle.rhd_func.specs.declared.func.RhaiFunc.{RhaiFunc}
 use Rattle.rhd_func.specs.declared.func.RhaiFunc.TheVariants as funcs
 use Rattle.rhd_func.specs.declared.request.CallRequest.{CallRequest}
 use Rattle.rhd_func.specs.declared.request.CallRequest.TheVariants.{Named}
-use Rattle.rhd_module.specs.declared.fault.DeclFault.{DeclFault}
-use Rattle.rhd_module.specs.declared.fault.DeclFault.TheVariants.{UnknownNumber, OutOfMemory}
+use Rattle.rhd_decl.specs.declared.fault.DeclFault.{DeclFault}
+use Rattle.rhd_decl.specs.declared.fault.DeclFault.TheVariants.{HashCollision, IndexerNotAllowed, NotCallable, UnknownNumber, OutOfMemory}
 use Rattle.rhd_call.specs.declared.pick.Layer.{Layer}
 use Rattle.rhd_call.specs.declared.pick.Layer.TheVariants.{Library, Global, Builtin}
 use Rattle.rhd_call.specs.declared.pick.Pick.{Pick}
@@ -22,9 +22,10 @@ use Rattle.rhd_call.specs.declared.node.Whose.TheVariants as whose
 use Rattle.rhd_call.specs.declared.node.CallNode.{CallNode, CallNode'}
 use Rattle.rhd_call.specs.declared.node.Nodes.{Nodes, Nodes', Row_of-CallNode, end_of-CallNode, more_of-CallNode}
 use Rattle.rhd_call.specs.declared.reply.Reply.{Reply}
-use Rattle.rhd_call.specs.declared.reply.Reply.TheVariants.{Done, Made, Refused, Called}
+use Rattle.rhd_call.specs.declared.reply.Reply.TheVariants.{Done, Made, Refused, Count, Truth, Called}
 use Rattle.rhd_text.specs.PrintedTexts.{quoted}
 use Rattle.rhd_text.specs.PrintedValues.{spelled}
+use Rattle.rhd_text.specs.PrintedKeys.{key_text}
 
 -- what is wrong with a name or with the arguments of an indexer or a property
 unfoldable pub spelled_error : ParseErrorType → List ℕ
@@ -48,6 +49,9 @@ spelled_fault (ErrorRuntime text pos) = codes "15 " ++ quoted text
 
 -- the number of a refusal and its parts
 unfoldable pub spelled_refusal : DeclFault → List ℕ
+spelled_refusal (HashCollision held new) = codes "1 " ++ key_text held ++ codes " " ++ key_text new
+spelled_refusal (IndexerNotAllowed key) = codes "2 " ++ key_text key
+spelled_refusal NotCallable = codes "3"
 spelled_refusal (UnknownNumber number length) = codes "4 " ++ decimal number ++ codes " " ++ decimal length
 spelled_refusal OutOfMemory = codes "5"
 
@@ -61,10 +65,13 @@ layer_text (Library n) = codes "lib" ++ decimal n
 layer_text (Global n) = codes "global" ++ decimal n
 layer_text Builtin = codes "builtin"
 
--- a native by its number, a script by that of its body
+-- a native by its number, a script by that of its body; a function that iterates by its number, though it is never picked
 unfoldable pub func_text : RhaiFunc → List ℕ
 func_text (funcs.Pure id context pure volatile) = codes "#" ++ decimal id.0
 func_text (funcs.Method id context pure volatile) = codes "#" ++ decimal id.0
+func_text (funcs.Iterator id) = codes "#" ++ decimal id.0
+func_text (funcs.Plugin id) = codes "#" ++ decimal id.0
+func_text (funcs.StaticPlugin id) = codes "#" ++ decimal id.0
 func_text (funcs.Script def env) = codes "@" ++ decimal def.body.0
 
 -- the function that was picked, if one was
@@ -114,11 +121,18 @@ abbrev mutual
   row_text end_of-CallNode = []
   row_text (more_of-CallNode node rest) = tree_text node ++ row_text rest
 
+-- whether something is so
+abbrev pub truth_text : Bool → List ℕ
+truth_text true = codes "true"
+truth_text false = codes "false"
+
 -- the line of a reply
 unfoldable pub printed : Reply → List ℕ
 printed Done = codes "ok" ++ 10 ∷ []
 printed (Made id) = codes "module " ++ decimal id.0 ++ 10 ∷ []
 printed (Refused fault) = codes "refused " ++ spelled_refusal fault ++ 10 ∷ []
+printed (Count vars functions iterators) = codes "count " ++ decimal vars ++ codes " " ++ decimal functions ++ codes " " ++ decimal iterators ++ 10 ∷ []
+printed (Truth b) = truth_text b ++ 10 ∷ []
 printed (Called node) = tree_text node
 
 -- the lines of replies

@@ -3,6 +3,7 @@ use Rattle.std.specs.Prelude.{ℕ, Bool, true, not, List, [], ◌∷◌, Option,
 use Rattle.std.specs.Str.{is_utf8, bytes_eq}
 use Rattle.rhd_value.specs.declared.tag.Position.{Position}
 use Rattle.rhd_func.specs.declared.request.CallRequest.{CallRequest}
+use Rattle.rhd_func.specs.declared.func.ScriptFuncDef.{ScriptFuncDef}
 use Rattle.rhd_call.specs.declared.command.Command.TheVariants as commands
 use Rattle.rhd_text.specs.declared.body.CallPlan.{CallPlan}
 use Rattle.rhd_text.specs.declared.requests.Handing.{Handing}
@@ -10,8 +11,9 @@ use Rattle.rhd_text.specs.declared.part.Part.{Part}
 use Rattle.rhd_text.specs.declared.part.Part.TheVariants as parts
 use Rattle.rhd_text.specs.declared.place.Place.{Place}
 use Rattle.rhd_text.specs.declared.keyword.CallWord.{CallWord}
-use Rattle.rhd_text.specs.Rows.{Operand, NAME, WORD, WORDS, NUM, LONG, ARG, ARGS, OPTIONAL, WANT, THIS, VALUE, KIND, PRINTER, Meaning, From, Form, Table, CallForm, by_name, call_form, planned, line_forms, step_forms}
-use Rattle.rhd_text.specs.Reading.{◌>>=◌, skip_blanks, is_end, word_at, name_at, wording_at, texts_at, flag_at, num_at, want_at, this_at, value_at, value_kind_at, printer_at, argument_at, arguments_at}
+use Rattle.rhd_text.specs.Rows.{Operand, NAME, WORD, WORDS, NUM, LONG, ARG, ARGS, OPTIONAL, WANT, THIS, PURITY, VALUE, KIND, KINDS, PRINTER}
+use Rattle.rhd_text.specs.Rows.{Meaning, From, Form, Table, CallForm, definition, defined, by_name, call_form, planned, line_forms, step_forms}
+use Rattle.rhd_text.specs.Reading.{◌>>=◌, skip_blanks, is_end, word_at, name_at, wording_at, texts_at, flag_at, num_at, want_at, this_at, purity_at, value_at, value_kind_at, kinds_at, printer_at, argument_at, arguments_at}
 
 -- how each kind of operand is read
 abbrev pub operand_at : (o : Operand) → List ℕ → Option (Meaning o × List ℕ)
@@ -25,8 +27,10 @@ operand_at (ARGS given) bytes = arguments_at given bytes
 operand_at (OPTIONAL w) bytes = Some (flag_at w bytes)
 operand_at WANT bytes = want_at bytes
 operand_at THIS bytes = this_at bytes
+operand_at PURITY bytes = Some (purity_at bytes)
 operand_at VALUE bytes = value_at bytes
 operand_at KIND bytes = value_kind_at bytes
+operand_at KINDS bytes = kinds_at bytes
 operand_at PRINTER bytes = printer_at bytes
 
 -- the operands of a row, to the end of the line
@@ -91,6 +95,10 @@ line_by read line = if not (is_utf8 line) then None else (if is_skipped line the
 -- what line n of a session text is
 abbrev pub line_of : ℕ → List ℕ → Option (Option Part)
 line_of n line = line_by (part_at (record { line = n })) line
+
+-- the definition of a script in a module
+unfoldable pub definition_at : List ℕ → Option (ℕ × ScriptFuncDef)
+definition_at bytes = operands_at definition defined bytes
 
 -- the request of a call line
 abbrev pub request_in : Option Part → Option CallRequest

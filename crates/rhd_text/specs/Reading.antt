@@ -13,7 +13,7 @@ use Rattle.rhd_text.specs.declared.heads.Head.TheVariants as heads
 use Rattle.rhd_text.specs.declared.heads.Sort.{Sort}
 use Rattle.rhd_text.specs.declared.heads.Sort.TheVariants as sorts
 use Rattle.rhd_text.specs.Maps.{put_new}
-use Rattle.rhd_text.specs.Bytes.{is_blank, is_word_byte, may_end, begins, unescaped, num_of, int_of, given_of, value_kind_of, kind_of, printer_of}
+use Rattle.rhd_text.specs.Bytes.{is_blank, is_word_byte, may_end, begins, unescaped, num_of, int_of, given_of, value_kind_of, kind_of, param_kind_of, printer_of}
 use Rattle.rhd_text.specs.declared.printers.Printer.{Printer}
 use Rattle.rhd_text.specs.declared.arguments.Argument.{Argument}
 use Rattle.rhd_text.specs.declared.arguments.Argument.TheVariants as argument
@@ -65,6 +65,13 @@ unfoldable pub value_kind_at : Parse TypeTag
 value_kind_at bytes = do
   w ← word_at bytes
   k ← value_kind_of w.0
+  Some (k, w.1)
+
+-- the kind of parameters that the next word says
+unfoldable pub param_kind_at : Parse TypeTag
+param_kind_at bytes = do
+  w ← word_at bytes
+  k ← param_kind_of w.0
   Some (k, w.1)
 
 -- the printer that the next word says
@@ -143,6 +150,13 @@ this_at bytes = if (flag_at (codes "this") bytes).0 then (do
   s ← wording_at (flag_at (codes "this") bytes).1
   Some (Some s.0, s.1)) else Some (None, bytes)
 
+-- whether `pure` or `impure` is the next word, and the bytes after it if one is
+unfoldable pub purity_at : List ℕ → Option Bool × List ℕ
+purity_at bytes =
+    if (flag_at (codes "pure") bytes).0 then (Some true, (flag_at (codes "pure") bytes).1)
+    else (if (flag_at (codes "impure") bytes).0 then (Some false, (flag_at (codes "impure") bytes).1)
+    else (None, bytes))
+
 -- ---- lists
 
 -- Elements until the bytes stop them. The number bounds the turns: the count of the bytes is always enough.
@@ -152,11 +166,19 @@ many stop one found (suc most) bytes = if stop bytes then Some (found, bytes) el
   x ← one bytes
   many stop one (found ++ x.0 ∷ []) most x.1)
 
+-- elements between round brackets
+abbrev pub bracketed_at : {A : Type 0} → Parse A → Parse (List A)
+bracketed_at one bytes = if comes 40 bytes then (do
+  x ← many (comes 41) one [] (length (after_bracket bytes)) (after_bracket bytes)
+  Some (x.0, after_bracket x.1)) else None
+
 -- texts between round brackets
 unfoldable pub texts_at : Parse (List (List ℕ))
-texts_at bytes = if comes 40 bytes then (do
-  x ← many (comes 41) wording_at [] (length (after_bracket bytes)) (after_bracket bytes)
-  Some (x.0, after_bracket x.1)) else None
+texts_at bytes = bracketed_at wording_at bytes
+
+-- kinds of parameters between round brackets
+unfoldable pub kinds_at : Parse (List TypeTag)
+kinds_at bytes = bracketed_at param_kind_at bytes
 
 -- ---- values
 

@@ -1,6 +1,5 @@
 -- THE TABLES: each line form, how it begins, its operands, and what it adds to the text; and each word of a call.
-use Rattle.std.specs.Prelude.{ℕ, Bool, true, false, not, List, [], ◌∷◌, Option, Some, None, ◌==◌, codes, if◌then◌else◌}
-use Rattle.std.specs.List.{list_all}
+use Rattle.std.specs.Prelude.{ℕ, Bool, true, false, not, List, [], ◌∷◌, Option, Some, None, codes, if◌then◌else◌}
 use Rattle.std.specs.Option.{option_map}
 use Rattle.rhd_names.specs.Tokens.{token_of}
 use Rattle.rhd_value.specs.Tree.{Tree}
@@ -12,7 +11,15 @@ use Rattle.rhd_func.specs.declared.request.CallRequest.{CallRequest}
 use Rattle.rhd_func.specs.declared.request.CallRequest.TheVariants.{Named}
 use Rattle.rhd_func.specs.declared.access.FnAccess.{FnAccess}
 use Rattle.rhd_func.specs.declared.access.FnAccess.TheVariants.{Private, Public}
+use Rattle.rhd_func.specs.declared.access.FnNamespace.{FnNamespace}
+use Rattle.rhd_func.specs.declared.access.FnNamespace.TheVariants.{Internal, Global}
 use Rattle.rhd_func.specs.declared.func.ScriptFuncDef.{ScriptFuncDef}
+use Rattle.rhd_func.specs.declared.func.RhaiFunc.{RhaiFunc}
+use Rattle.rhd_func.specs.declared.func.RhaiFunc.TheVariants as funcs
+use Rattle.rhd_hash.specs.declared.key.Key.TheVariants as keys
+use Rattle.rhd_module.specs.declared.registration.FuncRegistration.{FuncRegistration}
+use Rattle.rhd_module.specs.Registered.{new_registration}
+use Rattle.rhd_call.specs.declared.command.Command.{Command}
 use Rattle.rhd_call.specs.declared.command.Command.TheVariants as commands
 use Rattle.rhd_text.specs.declared.place.Place.{Place}
 use Rattle.rhd_text.specs.declared.arguments.Argument.{Argument}
@@ -35,8 +42,8 @@ use Rattle.rhd_text.specs.Operators.{operator_of}
 
 -- an operand of a line: the name of a call; a text, quoted or not; texts between brackets; a number of 32 or of 64 bits;
 -- one argument, or arguments up to the end of the line, which may be given ones or not; a word that may be left out; the
--- kind of the answer that is wanted; the type of a script's object, which may be left out like a word; a value; a kind of
--- values; a printer
+-- kind of the answer that is wanted; the type of a script's object, which may be left out like a word; whether a native may be
+-- called on a constant, which may be left out too; a value; a kind of values; kinds of parameters between brackets; a printer
 pub data Operand : Type 0 where
   NAME : Operand
   WORD : Operand
@@ -48,8 +55,10 @@ pub data Operand : Type 0 where
   OPTIONAL : List ℕ → Operand
   WANT : Operand
   THIS : Operand
+  PURITY : Operand
   VALUE : Operand
   KIND : Operand
+  KINDS : Operand
   PRINTER : Operand
 
 -- what an operand says
@@ -64,8 +73,10 @@ Meaning (ARGS given) = Arguments
 Meaning (OPTIONAL w) = Bool
 Meaning WANT = Option TypeTag
 Meaning THIS = Option (List ℕ)
+Meaning PURITY = Option Bool
 Meaning VALUE = Tree
 Meaning KIND = TypeTag
+Meaning KINDS = List TypeTag
 Meaning PRINTER = Printer
 
 -- a function of what these operands say
@@ -185,10 +196,6 @@ step w = record {
 abbrev pub built_in : List ℕ → TypeTag → TypeTag → ℕ → Option Part
 built_in w left right n = option_map (λ op. parts.Builtin op left right (record { 0 = n })) (operator_of w)
 
--- the native of a number under a name, which has no `$`
-abbrev pub registered : List ℕ → ℕ → Option Part
-registered f n = if list_all (λ b. not (b == 36)) f then Some (parts.Command (commands.RegisterFn f (record { 0 = n }))) else None
-
 -- the end of a body that answers this
 abbrev pub answered : Argument → BodyEnd
 answered (argument.Value t) = Ret t
@@ -203,8 +210,38 @@ access false = Public
 abbrev pub scripted : List ℕ → List (List ℕ) → ℕ → Option (List ℕ) → Bool → ScriptFuncDef
 scripted f params n type private = record { name = f; params = params; this_type = type; access = access private; body = record { 0 = n } }
 
+-- whether a function is found by all calls
+abbrev pub found_in : Bool → FnNamespace
+found_in true = Global
+found_in false = Internal
+
+-- how a native is registered under this name: nothing is said of its parameters, and there are no comments
+abbrev pub registration : List ℕ → Bool → Option Bool → Bool → FuncRegistration
+registration f global purity volatile = record (new_registration f) { namespace = found_in global; purity = purity; volatility = if volatile then Some true else None }
+
+-- the native of this number, which takes its first argument by reference where it is a method
+abbrev pub raw_func : Bool → ℕ → Bool → Bool → Bool → RhaiFunc
+raw_func true n impure context volatile = funcs.Method (record { 0 = n }) context (not impure) volatile
+raw_func false n impure context volatile = funcs.Pure (record { 0 = n }) context (not impure) volatile
+
+-- the operands of the definition of a script in a module, and what they are
+abbrev pub definition : List Operand
+definition = NUM ∷ WORD ∷ WORDS ∷ NUM ∷ THIS ∷ OPTIONAL (codes "private") ∷ []
+
+abbrev pub defined : From definition (Option (ℕ × ScriptFuncDef))
+defined m f params n type private = Some (m, scripted f params n type private)
+
+-- a line of such a definition
+abbrev pub defining : List ℕ → (ℕ → ScriptFuncDef → Command) → Form Part
+defining w command = record {
+  spelling = w;
+  operands = definition;
+  part = λ place. from_then definition defined (option_map (λ d. parts.Command (command d.0 d.1)));
+}
+
 -- THE ROWS
 abbrev pub form : Keyword → Form Part
+form keywords.Seeds = record { spelling = codes "seeds"; operands = LONG ∷ LONG ∷ LONG ∷ []; part = λ place a b m. Some (parts.Seeds (record { seed0 = a; seed1 = b; mask = m })) }
 form keywords.Limits = record { spelling = codes "limits"; operands = NUM ∷ NUM ∷ NUM ∷ NUM ∷ LONG ∷ []; part = λ place a m t l b. Some (parts.Limits (record { array = a; map = m; text = t; level = l; budget = b })) }
 form keywords.Printer = record { spelling = codes "printer"; operands = PRINTER ∷ []; part = λ place p. Some (parts.Printer p) }
 form keywords.Builtin = record { spelling = codes "builtin"; operands = WORD ∷ KIND ∷ KIND ∷ NUM ∷ []; part = λ place w left right n. built_in w left right n }
@@ -212,13 +249,32 @@ form keywords.Host = record { spelling = codes "host"; operands = WORD ∷ VALUE
 form keywords.Body = record { spelling = codes "body"; operands = []; part = λ place. Some parts.Body }
 form keywords.Ret = record { spelling = codes "ret"; operands = ARG true ∷ []; part = λ place x. Some (parts.End (answered x)) }
 form keywords.Fail = record { spelling = codes "fail"; operands = WORD ∷ []; part = λ place text. Some (parts.End (Fail text)) }
-form keywords.Register = record { spelling = codes "register"; operands = WORD ∷ NUM ∷ []; part = λ place f n. registered f n }
+form keywords.Register = record { spelling = codes "register"; operands = WORD ∷ NUM ∷ []; part = λ place f n. Some (parts.Command (commands.RegisterFn f (record { 0 = n }))) }
+form keywords.RegisterRaw = record { spelling = codes "register-raw"; operands = WORD ∷ KINDS ∷ NUM ∷ []; part = λ place f ks n. Some (parts.Command (commands.RegisterRaw f ks (record { 0 = n }))) }
+form keywords.RegisterType = record { spelling = codes "register-type"; operands = NUM ∷ WORD ∷ []; part = λ place n text. Some (parts.Command (commands.RegisterType n text)) }
 form keywords.Module = record { spelling = codes "module"; operands = []; part = λ place. Some (parts.Command commands.NewModule) }
-form keywords.Script = record {
-  spelling = codes "script";
-  operands = NUM ∷ WORD ∷ WORDS ∷ NUM ∷ THIS ∷ OPTIONAL (codes "private") ∷ [];
-  part = λ place m f params n type private. Some (parts.Command (commands.Script (record { 0 = m }) (scripted f params n type private)));
+form keywords.SetId = record { spelling = codes "id"; operands = NUM ∷ WORD ∷ []; part = λ place m text. Some (parts.Command (commands.SetId (record { 0 = m }) text)) }
+form keywords.SetDoc = record { spelling = codes "doc"; operands = NUM ∷ WORD ∷ []; part = λ place m text. Some (parts.Command (commands.SetDoc (record { 0 = m }) text)) }
+form keywords.SetVar = record { spelling = codes "var"; operands = NUM ∷ WORD ∷ VALUE ∷ []; part = λ place m f t. Some (parts.Command (commands.SetVar (record { 0 = m }) f t)) }
+form keywords.SetType = record { spelling = codes "type"; operands = NUM ∷ WORD ∷ WORD ∷ []; part = λ place m type text. Some (parts.Command (commands.SetType (record { 0 = m }) type text)) }
+form keywords.Native = record {
+  spelling = codes "native";
+  operands = NUM ∷ WORD ∷ NUM ∷ OPTIONAL (codes "global") ∷ PURITY ∷ OPTIONAL (codes "volatile") ∷ [];
+  part = λ place m f n global purity volatile. Some (parts.Command (commands.Native (record { 0 = m }) (registration f global purity volatile) (record { 0 = n })));
 }
+form keywords.Raw = record {
+  spelling = codes "raw";
+  operands = NUM ∷ WORD ∷ KINDS ∷ NUM ∷ OPTIONAL (codes "global") ∷ OPTIONAL (codes "method") ∷ OPTIONAL (codes "impure") ∷ OPTIONAL (codes "context") ∷ OPTIONAL (codes "volatile") ∷ [];
+  part = λ place m f ks n global method impure context volatile. Some (parts.Command (commands.RawNative (record { 0 = m }) f (found_in global) ks (raw_func method n impure context volatile)));
+}
+form keywords.RawIter = record { spelling = codes "raw-iter"; operands = NUM ∷ WORD ∷ NUM ∷ []; part = λ place m f n. Some (parts.Command (commands.RawNative (record { 0 = m }) f Internal [] (funcs.Iterator (record { 0 = n })))) }
+form keywords.RawScript = defining (codes "raw-script") (λ m def. commands.RawNative (record { 0 = m }) def.name Internal [] (funcs.Script def None))
+form keywords.Script = defining (codes "script") (λ m def. commands.Script (record { 0 = m }) def)
+form keywords.Submodule = record { spelling = codes "submodule"; operands = NUM ∷ WORD ∷ NUM ∷ []; part = λ place m f n. Some (parts.Command (commands.SubModule (record { 0 = m }) f (record { 0 = n }))) }
+form keywords.Clear = record { spelling = codes "clear"; operands = NUM ∷ []; part = λ place m. Some (parts.Command (commands.Clear (record { 0 = m }))) }
+form keywords.Count = record { spelling = codes "count"; operands = NUM ∷ []; part = λ place m. Some (parts.Command (commands.Count (record { 0 = m }))) }
+form keywords.HasNative = record { spelling = codes "has-native"; operands = NUM ∷ WORD ∷ KINDS ∷ []; part = λ place m f ks. Some (parts.Command (commands.Contains (record { 0 = m }) (keys.Native None f ks))) }
+form keywords.HasScript = record { spelling = codes "has-script"; operands = NUM ∷ WORD ∷ LONG ∷ []; part = λ place m f n. Some (parts.Command (commands.Contains (record { 0 = m }) (keys.Script None f n))) }
 form keywords.Lib = record { spelling = codes "lib"; operands = NUM ∷ []; part = λ place m. Some (parts.Command (commands.PushLib (record { 0 = m }))) }
 form keywords.PopLib = record { spelling = codes "pop-lib"; operands = []; part = λ place. Some (parts.Command commands.PopLib) }
 form (keywords.Call w) = called w
@@ -227,8 +283,10 @@ form (keywords.Call w) = called w
 abbrev pub all_keywords : List Keyword
 all_keywords =
     keywords.Call words.Call ∷ keywords.Call words.Ref ∷ keywords.Call words.Method ∷ keywords.Call words.CallNative ∷ keywords.Call words.RefNative ∷ keywords.Call words.MethodNative
-    ∷ keywords.Register ∷ keywords.Script ∷ keywords.Module ∷ keywords.Lib ∷ keywords.PopLib
-    ∷ keywords.Body ∷ keywords.Ret ∷ keywords.Fail ∷ keywords.Host ∷ keywords.Builtin ∷ keywords.Limits ∷ keywords.Printer ∷ []
+    ∷ keywords.Register ∷ keywords.RegisterRaw ∷ keywords.RegisterType ∷ keywords.Script ∷ keywords.Native ∷ keywords.Raw ∷ keywords.Module ∷ keywords.Lib ∷ keywords.PopLib
+    ∷ keywords.SetId ∷ keywords.SetDoc ∷ keywords.SetVar ∷ keywords.SetType ∷ keywords.Submodule ∷ keywords.Clear ∷ keywords.RawIter ∷ keywords.RawScript
+    ∷ keywords.Count ∷ keywords.HasNative ∷ keywords.HasScript
+    ∷ keywords.Body ∷ keywords.Ret ∷ keywords.Fail ∷ keywords.Host ∷ keywords.Builtin ∷ keywords.Seeds ∷ keywords.Limits ∷ keywords.Printer ∷ []
 
 -- THE LINES OF A SESSION TEXT, and those that stand after `do`
 abbrev pub line_forms : Table Keyword Part

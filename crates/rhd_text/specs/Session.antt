@@ -5,6 +5,7 @@ use Rattle.std.specs.List.{slice_get}
 use Rattle.rhd_value.specs.Tree.{Bytes, Tree}
 use Rattle.rhd_value.specs.Entries.{put}
 use Rattle.rhd_value.specs.declared.tag.FnId.{FnId}
+use Rattle.rhd_hash.specs.declared.mixer.Seeds.{Seeds}
 use Rattle.rhd_func.specs.Natives.{NativeInfo}
 use Rattle.rhd_engine.specs.declared.builtins.Operator.{Operator}
 use Rattle.rhd_engine.specs.Operators.{put_builtin}
@@ -26,11 +27,15 @@ use Rattle.rhd_text.specs.Grammar.{IsLine}
 
 -- what a text without lines says
 abbrev pub empty_text : SessionText
-empty_text = record { limits = None; printers = record { print = false; debug = false }; builtins = []; hosts = []; bodies = []; commands = [] }
+empty_text = record { seeds = None; limits = None; printers = record { print = false; debug = false }; builtins = []; hosts = []; bodies = []; commands = [] }
 
 -- whether headers may still stand: no command has come
 abbrev pub takes_headers : SessionText → Bool
 takes_headers t = length t.commands == 0
+
+-- seeds are set once at most
+unfoldable pub with_seeds : SessionText → Seeds → Option SessionText
+with_seeds t seeds = if is_none t.seeds then Some (record t { seeds = Some seeds }) else None
 
 -- limits are set once at most, and no level is above 1,000
 unfoldable pub with_limits : SessionText → Limits → Option SessionText
@@ -97,6 +102,7 @@ with_command t c = record t { commands = t.commands ++ c ∷ [] }
 
 -- what is said with a part more; none where the part is not allowed
 abbrev pub added : List NativeInfo → SessionText → Part → Option SessionText
+added natives t (parts.Seeds seeds) = with_seeds t seeds
 added natives t (parts.Limits limits) = with_limits t limits
 added natives t (parts.Printer printer) = Some (with_printer t printer)
 added natives t (parts.Builtin op left right id) = with_builtin natives t (record { token = op; left = left; right = right }) id

@@ -8,7 +8,7 @@ use Rattle.rhd_value.specs.declared.tag.FnPtrType.{FnPtrType}
 use Rattle.rhd_value.specs.declared.tag.FnPtrType.TheVariants.{Normal, Script, Native}
 use Rattle.rhd_value.specs.Tree.{Bytes, Kind, unit, boolean, integer, character, text, array, object, pointer, custom, Tree, list_of, entries_of}
 use Rattle.rhd_text.specs.Maps.{put_each}
-use Rattle.rhd_text.specs.Bytes.{is_blank, is_word_byte, may_end, unescaped, num_of, int_of, given_of, value_kind_of, kind_of, printer_of}
+use Rattle.rhd_text.specs.Bytes.{is_blank, is_word_byte, may_end, unescaped, num_of, int_of, given_of, value_kind_of, kind_of, param_kind_of, printer_of}
 use Rattle.rhd_text.specs.declared.printers.Printer.{Printer}
 use Rattle.rhd_text.specs.declared.arguments.Argument.{Argument}
 use Rattle.rhd_text.specs.declared.arguments.Argument.TheVariants as one
@@ -71,6 +71,10 @@ number bits = meant (num_of bits)
 abbrev pub value_kind : TypeTag → Span
 value_kind = meant value_kind_of
 
+-- the word of a kind of parameters
+abbrev pub param_kind : TypeTag → Span
+param_kind = meant param_kind_of
+
 -- the word of a printer
 abbrev pub printer : Printer → Span
 printer = meant printer_of
@@ -127,6 +131,12 @@ abbrev pub this : Option (List ℕ) → Span
 this (Some s) = bare (codes "this") ▸ word s
 this None = nothing
 
+-- `pure` or `impure`, or nothing
+abbrev pub purity : Option Bool → Span
+purity (Some true) = bare (codes "pure")
+purity (Some false) = bare (codes "impure")
+purity None = nothing
+
 -- ---- lists
 
 -- elements one after the other
@@ -134,9 +144,17 @@ abbrev pub each : {A : Type 0} → (A → Span) → List A → Span
 each span [] = nothing
 each span (x ∷ xs) = span x ▸ each span xs
 
+-- elements between round brackets
+abbrev pub bracketed : {A : Type 0} → (A → Span) → List A → Span
+bracketed one xs = bracket 40 ▸ (each one xs ▸ bracket 41)
+
 -- texts between round brackets
 abbrev pub words : List (List ℕ) → Span
-words ws = bracket 40 ▸ (each word ws ▸ bracket 41)
+words ws = bracketed word ws
+
+-- kinds of parameters between round brackets
+abbrev pub kinds : List TypeTag → Span
+kinds ks = bracketed param_kind ks
 
 -- ---- values
 

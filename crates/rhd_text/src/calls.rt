@@ -1,6 +1,7 @@
 //! One call line by itself.
 
-ghost use Rattle.std.specs.Prelude.{◌≡◌, IfOk};
+ghost use Rattle.std.specs.Prelude.{◌≡◌, IfOk, Some};
+ghost use Rattle.rhd_text.specs.declared.part.Part.TheVariants as parts;
 ghost use Rattle.rhd_text.specs.Grammar.{IsCallOrNone};
 ghost use Rattle.rhd_text.specs.ReadRows.{request_in};
 
@@ -13,12 +14,22 @@ use rhd_func::CallRequest;
 use rhd_value::OutOfMemory;
 use std::alloc::Global;
 
+/// The request of a command, where that is a call.
+fn requested(command: Command) -> Option<CallRequest>
+    ensures { result ≡ request_in (Some (parts.Command command)) }
+{
+    match command {
+        Command::Call(request) => Some(request),
+        _ => None,
+    }
+}
+
 /// The request of a line, where that is a call line.
 fn request_in(line: Option<Part>) -> Option<CallRequest>
     ensures { result ≡ request_in line }
 {
     match line {
-        Some(Part::Command(Command::Call(request))) => Some(request),
+        Some(Part::Command(command)) => requested(command),
         _ => None,
     }
 }

@@ -1,9 +1,8 @@
-//! One function for each row of the table.
+//! One function for each row of the table, and the rows by their keywords.
 
-ghost use Rattle.std.specs.Prelude.{◌≡◌, ◌==◌, not};
-ghost use Rattle.std.specs.List.{list_all};
+ghost use Rattle.std.specs.Prelude.{◌≡◌};
 ghost use Rattle.rhd_text.specs.declared.keyword.Keyword.TheVariants as keywords;
-ghost use Rattle.rhd_text.specs.Rows.{answered, access, built_in, registered, called, step, form, step_forms};
+ghost use Rattle.rhd_text.specs.Rows.{answered, built_in, called, step, form, step_forms};
 ghost use Rattle.rhd_text.specs.ReadRows.{row_at, form_at, part_at};
 ghost use Rattle.rhd_text.specs.Answers.{Gives};
 
@@ -11,8 +10,12 @@ use crate::arguments::{Argument, argument_at};
 use crate::body::BodyEnd;
 use crate::fault::Stop;
 use crate::keyword::{CallWord, Keyword, call_of, keyword_of};
+use crate::module_forms::{
+    clear_at, count_at, doc_at, has_native_at, has_script_at, id_at, native_at, raw_at,
+    raw_iter_at, raw_script_at, register_at, register_raw_at, register_type_at, script_at,
+    submodule_at, type_line_at, var_at,
+};
 use crate::numbers::{long_at, num_at};
-use crate::operands::{texts_at, this_at};
 use crate::operators::operator_of;
 use crate::part::Part;
 use crate::place::Place;
@@ -21,10 +24,10 @@ use crate::quoted::wording_at;
 use crate::requests::plan_at;
 use crate::values::value_at;
 use crate::wants::value_kind_at;
-use crate::words::{flag_at, is_end, word_at};
+use crate::words::{is_end, word_at};
 use rhd_call::{Command, ModuleId};
 use rhd_engine::Limits;
-use rhd_func::{BodyId, FnAccess, ScriptFuncDef, SharedDef};
+use rhd_hash::Seeds;
 use rhd_value::{FnId, Position, Text, TypeTag};
 use std::alloc::Global;
 
@@ -79,41 +82,6 @@ fn host_at(alloc: Global, bytes: &[u8], place: Place) -> Result<Part, Stop>
         return Err(Stop::Bad);
     }
     Ok(Part::Host { name, answer })
-}
-
-/// Whether a name has no `$`.
-fn has_no_dollar(name: &Text) -> bool
-    ensures { result ≡ list_all (λ b. not (b == 36)) name.now }
-{
-    name.as_str().as_bytes().iter().all(|b| *b != b'$')
-}
-
-/// The native of a number under a name, where that may be registered.
-fn registered(name: Text, number: u32) -> Option<Part>
-    ensures { result ≡ registered name number }
-{
-    if !has_no_dollar(&name) {
-        return None;
-    }
-    Some(Part::Command(Command::RegisterFn {
-        name,
-        id: FnId(number),
-    }))
-}
-
-#[tactic(auto, unfolding(crate::specs::ReadRows::row_at))]
-fn register_at(alloc: Global, bytes: &[u8], place: Place) -> Result<Part, Stop>
-    ensures { Gives (λ x. x) result (row_at place (form keywords.Register) bytes.now) }
-{
-    let (name, rest) = wording_at(alloc, bytes)?;
-    let (number, rest) = num_at(rest)?;
-    if !is_end(rest) {
-        return Err(Stop::Bad);
-    }
-    match registered(name, number) {
-        Some(part) => Ok(part),
-        None => Err(Stop::Bad),
-    }
 }
 
 #[tactic(auto, using(crate::proofs::PlanLaws::call_row))]
@@ -174,6 +142,19 @@ fn fail_at(alloc: Global, bytes: &[u8], place: Place) -> Result<Part, Stop>
 }
 
 #[tactic(auto, unfolding(crate::specs::ReadRows::row_at))]
+fn seeds_at(bytes: &[u8], place: Place) -> Result<Part, Stop>
+    ensures { Gives (λ x. x) result (row_at place (form keywords.Seeds) bytes.now) }
+{
+    let (seed0, rest) = long_at(bytes)?;
+    let (seed1, rest) = long_at(rest)?;
+    let (mask, rest) = long_at(rest)?;
+    if !is_end(rest) {
+        return Err(Stop::Bad);
+    }
+    Ok(Part::Seeds(Seeds { seed0, seed1, mask }))
+}
+
+#[tactic(auto, unfolding(crate::specs::ReadRows::row_at))]
 fn limits_at(bytes: &[u8], place: Place) -> Result<Part, Stop>
     ensures { Gives (λ x. x) result (row_at place (form keywords.Limits) bytes.now) }
 {
@@ -204,41 +185,6 @@ fn module_at(bytes: &[u8], place: Place) -> Result<Part, Stop>
     Ok(Part::Command(Command::NewModule))
 }
 
-fn access(private: bool) -> FnAccess
-    ensures { result ≡ access private }
-{
-    match private {
-        true => FnAccess::Private,
-        false => FnAccess::Public,
-    }
-}
-
-#[tactic(auto, unfolding(crate::specs::ReadRows::row_at))]
-fn script_at(alloc: Global, bytes: &[u8], place: Place) -> Result<Part, Stop>
-    ensures { Gives (λ x. x) result (row_at place (form keywords.Script) bytes.now) }
-{
-    let (module, rest) = num_at(bytes)?;
-    let (name, rest) = wording_at(alloc, rest)?;
-    let (params, rest) = texts_at(alloc, rest)?;
-    let (body, rest) = num_at(rest)?;
-    let (this_type, rest) = this_at(alloc, rest)?;
-    let (private, rest) = flag_at(rest, b"private");
-    if !is_end(rest) {
-        return Err(Stop::Bad);
-    }
-    let def = ScriptFuncDef {
-        name,
-        params,
-        this_type,
-        access: access(private),
-        body: BodyId(body),
-    };
-    Ok(Part::Command(Command::Script {
-        module: ModuleId(module),
-        def: SharedDef::new(alloc, def)?,
-    }))
-}
-
 #[tactic(auto, unfolding(crate::specs::ReadRows::row_at))]
 fn lib_at(bytes: &[u8], place: Place) -> Result<Part, Stop>
     ensures { Gives (λ x. x) result (row_at place (form keywords.Lib) bytes.now) }
@@ -267,6 +213,7 @@ fn row_at(alloc: Global, keyword: Keyword, bytes: &[u8], place: Place) -> Result
     ensures { Gives (λ x. x) result (row_at place (form keyword) bytes.now) }
 {
     match keyword {
+        Keyword::Seeds => seeds_at(bytes, place),
         Keyword::Limits => limits_at(bytes, place),
         Keyword::Printer => printer_line_at(bytes, place),
         Keyword::Builtin => builtin_at(alloc, bytes, place),
@@ -275,8 +222,23 @@ fn row_at(alloc: Global, keyword: Keyword, bytes: &[u8], place: Place) -> Result
         Keyword::Ret => ret_at(alloc, bytes, place),
         Keyword::Fail => fail_at(alloc, bytes, place),
         Keyword::Register => register_at(alloc, bytes, place),
+        Keyword::RegisterRaw => register_raw_at(alloc, bytes, place),
+        Keyword::RegisterType => register_type_at(alloc, bytes, place),
         Keyword::Module => module_at(bytes, place),
+        Keyword::SetId => id_at(alloc, bytes, place),
+        Keyword::SetDoc => doc_at(alloc, bytes, place),
+        Keyword::SetVar => var_at(alloc, bytes, place),
+        Keyword::SetType => type_line_at(alloc, bytes, place),
+        Keyword::Native => native_at(alloc, bytes, place),
+        Keyword::Raw => raw_at(alloc, bytes, place),
+        Keyword::RawIter => raw_iter_at(alloc, bytes, place),
+        Keyword::RawScript => raw_script_at(alloc, bytes, place),
         Keyword::Script => script_at(alloc, bytes, place),
+        Keyword::Submodule => submodule_at(alloc, bytes, place),
+        Keyword::Clear => clear_at(bytes, place),
+        Keyword::Count => count_at(bytes, place),
+        Keyword::HasNative => has_native_at(alloc, bytes, place),
+        Keyword::HasScript => has_script_at(alloc, bytes, place),
         Keyword::Lib => lib_at(bytes, place),
         Keyword::PopLib => pop_lib_at(bytes, place),
         Keyword::Call(call) => call_at(alloc, bytes, place, call),

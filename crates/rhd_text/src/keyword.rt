@@ -33,6 +33,7 @@ impl CallWord {
 /// The word that a line begins with.
 #[derive(Clone, Copy, Debug, PartialEq, Eq)]
 pub enum Keyword {
+    Seeds,
     Limits,
     Printer,
     Builtin,
@@ -41,8 +42,23 @@ pub enum Keyword {
     Ret,
     Fail,
     Register,
+    RegisterRaw,
+    RegisterType,
     Module,
+    SetId,
+    SetDoc,
+    SetVar,
+    SetType,
+    Native,
+    Raw,
+    RawIter,
+    RawScript,
     Script,
+    Submodule,
+    Clear,
+    Count,
+    HasNative,
+    HasScript,
     Lib,
     PopLib,
     Call(CallWord),
@@ -53,6 +69,7 @@ impl Keyword {
         ensures { result.now ≡ (form self).spelling }
     {
         match self {
+            Keyword::Seeds => b"seeds",
             Keyword::Limits => b"limits",
             Keyword::Printer => b"printer",
             Keyword::Builtin => b"builtin",
@@ -61,8 +78,23 @@ impl Keyword {
             Keyword::Ret => b"ret",
             Keyword::Fail => b"fail",
             Keyword::Register => b"register",
+            Keyword::RegisterRaw => b"register-raw",
+            Keyword::RegisterType => b"register-type",
             Keyword::Module => b"module",
+            Keyword::SetId => b"id",
+            Keyword::SetDoc => b"doc",
+            Keyword::SetVar => b"var",
+            Keyword::SetType => b"type",
+            Keyword::Native => b"native",
+            Keyword::Raw => b"raw",
+            Keyword::RawIter => b"raw-iter",
+            Keyword::RawScript => b"raw-script",
             Keyword::Script => b"script",
+            Keyword::Submodule => b"submodule",
+            Keyword::Clear => b"clear",
+            Keyword::Count => b"count",
+            Keyword::HasNative => b"has-native",
+            Keyword::HasScript => b"has-script",
             Keyword::Lib => b"lib",
             Keyword::PopLib => b"pop-lib",
             Keyword::Call(call) => call.spelling(),
@@ -111,31 +143,47 @@ fn keyword_in(keywords: &[Keyword], word: &[u8]) -> Option<Keyword>
     None
 }
 
+/// All keywords, the more frequent ones first.
+const ALL: [Keyword; 34] = [
+    Keyword::Call(CallWord::Call),
+    Keyword::Call(CallWord::Ref),
+    Keyword::Call(CallWord::Method),
+    Keyword::Call(CallWord::CallNative),
+    Keyword::Call(CallWord::RefNative),
+    Keyword::Call(CallWord::MethodNative),
+    Keyword::Register,
+    Keyword::RegisterRaw,
+    Keyword::RegisterType,
+    Keyword::Script,
+    Keyword::Native,
+    Keyword::Raw,
+    Keyword::Module,
+    Keyword::Lib,
+    Keyword::PopLib,
+    Keyword::SetId,
+    Keyword::SetDoc,
+    Keyword::SetVar,
+    Keyword::SetType,
+    Keyword::Submodule,
+    Keyword::Clear,
+    Keyword::RawIter,
+    Keyword::RawScript,
+    Keyword::Count,
+    Keyword::HasNative,
+    Keyword::HasScript,
+    Keyword::Body,
+    Keyword::Ret,
+    Keyword::Fail,
+    Keyword::Host,
+    Keyword::Builtin,
+    Keyword::Seeds,
+    Keyword::Limits,
+    Keyword::Printer,
+];
+
 /// The keyword that is spelled so.
 pub fn keyword_of(word: &[u8]) -> Option<Keyword>
     ensures { result ≡ keyword_in form all_keywords word.now }
 {
-    keyword_in(
-        &[
-            Keyword::Call(CallWord::Call),
-            Keyword::Call(CallWord::Ref),
-            Keyword::Call(CallWord::Method),
-            Keyword::Call(CallWord::CallNative),
-            Keyword::Call(CallWord::RefNative),
-            Keyword::Call(CallWord::MethodNative),
-            Keyword::Register,
-            Keyword::Script,
-            Keyword::Module,
-            Keyword::Lib,
-            Keyword::PopLib,
-            Keyword::Body,
-            Keyword::Ret,
-            Keyword::Fail,
-            Keyword::Host,
-            Keyword::Builtin,
-            Keyword::Limits,
-            Keyword::Printer,
-        ],
-        word,
-    )
+    keyword_in(&ALL, word)
 }

@@ -1,7 +1,7 @@
-//! Names of calls, lists of texts, and the type of an object.
+//! Names of calls, lists of texts, the type of an object, and whether a native may be called on a constant.
 
-ghost use Rattle.std.specs.Prelude.{[], length};
-ghost use Rattle.rhd_text.specs.Reading.{name_at, comes, wording_at, many, texts_at, this_at};
+ghost use Rattle.std.specs.Prelude.{◌≡◌, [], length};
+ghost use Rattle.rhd_text.specs.Reading.{name_at, comes, wording_at, many, texts_at, this_at, purity_at};
 ghost use Rattle.rhd_text.specs.Answers.{Gives};
 
 use crate::brackets::{after_bracket, comes};
@@ -69,4 +69,20 @@ pub fn this_at(alloc: Global, bytes: &[u8]) -> Result<(Option<Text>, &[u8]), Sto
     }
     let (text, rest) = wording_at(alloc, rest)?;
     Ok((Some(text), rest))
+}
+
+/// Whether `pure` or `impure` is the next word, and the bytes after it if one is.
+#[tactic(auto, unfolding(crate::specs::Reading::purity_at))]
+pub fn purity_at(bytes: &[u8]) -> (Option<bool>, &[u8])
+    ensures { (result.0, result.1.now) ≡ purity_at bytes.now }
+{
+    let (pure, rest) = flag_at(bytes, b"pure");
+    if pure {
+        return (Some(true), rest);
+    }
+    let (impure, rest) = flag_at(bytes, b"impure");
+    if impure {
+        return (Some(false), rest);
+    }
+    (None, bytes)
 }

@@ -7,12 +7,15 @@ use crate::body::{BodyEnd, CallPlan};
 use crate::printers::Printer;
 use rhd_call::Command;
 use rhd_engine::Limits;
+use rhd_hash::Seeds;
 use rhd_names::OpToken;
 use rhd_value::{Dynamic, FnId, Text, TypeTag};
 
 /// What one line adds to a session text.
 #[derive(Drop)]
 pub enum Part {
+    /// The seeds of the session.
+    Seeds(Seeds),
     /// The limits of the session.
     Limits(Limits),
     /// A printer that is set.

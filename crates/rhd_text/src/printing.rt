@@ -1,16 +1,21 @@
 //! Replies as text, one line for each.
 
-ghost use Rattle.std.specs.Prelude.{◌≡◌, ◌++◌, ◌≤◌, ℕ, length, take, OnOk, OnErr, IfOk};
+ghost use Rattle.std.specs.Prelude.{◌≡◌, ◌++◌, ◌∷◌, ◌≤◌, [], ℕ, length, take, OnOk, OnErr, IfOk, codes};
+ghost use Rattle.std.specs.Fmt.{decimal};
 ghost use Rattle.rhd_text.specs.PrintedValues.{spelled};
-ghost use Rattle.rhd_text.specs.PrintedReplies.{spelled_refusal, printed, all_printed};
+ghost use Rattle.rhd_text.specs.PrintedKeys.{key_text};
+ghost use Rattle.rhd_text.specs.PrintedReplies.{spelled_refusal, truth_text, printed, all_printed};
 
+mod keys;
 mod nodes;
 mod quotes;
 mod values;
 
+use keys::push_key;
 use nodes::push_tree;
 use quotes::push_number;
 use rhd_call::Reply;
+use rhd_hash::Key;
 use rhd_module::DeclFault;
 use rhd_value::{Dynamic, OutOfMemory};
 use std::alloc::Global;
@@ -29,12 +34,30 @@ pub fn print_value(alloc: Global, value: &Dynamic, out: &mut Vec<u8>) -> Result<
     Ok(out.extend_from_slice(&text)?)
 }
 
+/// Puts two keys at the end, with a space between.
+fn push_keys(alloc: Global, held: &Key, new: &Key, out: &mut Vec<u8>) -> Result<(), OutOfMemory>
+    ensures { OnOk result (out.new.items ≡ out.old.items ++ (key_text held.now ++ codes " " ++ key_text new.now)) }
+{
+    push_key(alloc, held, out)?;
+    out.push(b' ')?;
+    push_key(alloc, new, out)
+}
+
 /// Puts the number of a refusal and its parts at the end.
 #[tactic(auto, unfolding(crate::specs::PrintedReplies::spelled_refusal))]
-fn push_refusal(fault: &DeclFault, out: &mut Vec<u8>) -> Result<(), OutOfMemory>
+fn push_refusal(alloc: Global, fault: &DeclFault, out: &mut Vec<u8>) -> Result<(), OutOfMemory>
     ensures { OnOk result (out.new.items ≡ out.old.items ++ spelled_refusal fault.now) }
 {
     match fault {
+        DeclFault::HashCollision { held, new } => {
+            out.extend_from_slice(b"1 ")?;
+            push_keys(alloc, held, new, out)
+        }
+        DeclFault::IndexerNotAllowed { key } => {
+            out.extend_from_slice(b"2 ")?;
+            push_key(alloc, key, out)
+        }
+        DeclFault::NotCallable => Ok(out.extend_from_slice(b"3")?),
         DeclFault::UnknownNumber { number, length } => {
             out.extend_from_slice(b"4 ")?;
             push_number(*number, out)?;
@@ -42,6 +65,34 @@ fn push_refusal(fault: &DeclFault, out: &mut Vec<u8>) -> Result<(), OutOfMemory>
             push_number(*length, out)
         }
         DeclFault::OutOfMemory => Ok(out.extend_from_slice(b"5")?),
+    }
+}
+
+/// Puts three counts at the end, and the end of the line.
+fn push_counts(
+    vars: u64,
+    functions: u64,
+    iterators: u64,
+    out: &mut Vec<u8>,
+) -> Result<(), OutOfMemory>
+    ensures { OnOk result (out.new.items ≡ out.old.items ++ (codes "count " ++ decimal vars ++ codes " " ++ decimal functions ++ codes " " ++ decimal iterators ++ 10 ∷ [])) }
+{
+    out.extend_from_slice(b"count ")?;
+    push_number(vars, out)?;
+    out.push(b' ')?;
+    push_number(functions, out)?;
+    out.push(b' ')?;
+    push_number(iterators, out)?;
+    Ok(out.push(b'\n')?)
+}
+
+/// Whether something is so, and the end of the line.
+fn truth_line(truth: bool) -> &'static [u8]
+    ensures { result.now ≡ truth_text truth ++ 10 ∷ [] }
+{
+    match truth {
+        true => b"true\n",
+        false => b"false\n",
     }
 }
 
@@ -59,9 +110,13 @@ fn push_lines(alloc: Global, reply: &Reply, lines: &mut Vec<u8>) -> Result<(), O
         }
         Reply::Refused(fault) => {
             lines.extend_from_slice(b"refused ")?;
-            push_refusal(fault, lines)?;
+            push_refusal(alloc, fault, lines)?;
             lines.push(b'\n')?;
         }
+        Reply::Count(vars, functions, iterators) => push_counts(
+            *vars, *functions, *iterators, lines,
+        )?,
+        Reply::Truth(truth) => lines.extend_from_slice(truth_line(*truth))?,
         Reply::Called(node) => push_tree(alloc, node, lines)?,
     }
     Ok(())

@@ -2,7 +2,7 @@
 
 ghost use Rattle.std.specs.Prelude.{◌≡◌, IfOk, Some};
 ghost use Rattle.rhd_func.specs.Infos.{infos_of};
-ghost use Rattle.rhd_text.specs.Session.{empty_text, takes_headers, is_held, with_limits, with_printer, with_builtin, with_host, with_body, with_call, with_end, with_command, added, with_part};
+ghost use Rattle.rhd_text.specs.Session.{empty_text, takes_headers, is_held, with_seeds, with_limits, with_printer, with_builtin, with_host, with_body, with_call, with_end, with_command, added, with_part};
 ghost use Rattle.rhd_text.specs.Answers.{StepGives};
 
 use crate::body::{BodyEnd, BodyPlans, CallPlan};
@@ -12,6 +12,7 @@ use crate::printers::Printer;
 use rhd_call::{Command, Commands};
 use rhd_engine::{Builtins, Limits, Printers};
 use rhd_func::Natives;
+use rhd_hash::Seeds;
 use rhd_names::OpToken;
 use rhd_value::{Dynamic, Entries, FnId, OutOfMemory, Text, TypeTag};
 use std::alloc::Global;
@@ -27,6 +28,8 @@ fn is_held(natives: &Natives, id: FnId) -> bool
 /// What a session text says.
 #[derive(Drop)]
 pub struct SessionText {
+    /// The seeds of the session, where the text sets them.
+    pub seeds: Option<Seeds>,
     /// The limits of the session, where the text sets them.
     pub limits: Option<Limits>,
     /// The printers that are set.
@@ -47,6 +50,7 @@ impl SessionText {
         ensures { result ≡ empty_text }
     {
         SessionText {
+            seeds: None,
             limits: None,
             printers: Printers::NONE,
             builtins: Builtins::new(alloc),
@@ -61,6 +65,7 @@ impl SessionText {
         ensures { IfOk result (λ text. text ≡ self.now) }
     {
         Ok(SessionText {
+            seeds: self.seeds,
             limits: self.limits,
             printers: self.printers,
             builtins: self.builtins.dup(alloc)?,
@@ -75,6 +80,17 @@ impl SessionText {
         ensures { result ≡ takes_headers self.now }
     {
         self.commands.len() == 0
+    }
+
+    #[tactic(auto, unfolding(crate::specs::Session::with_seeds))]
+    fn set_seeds(&mut self, seeds: Seeds) -> Result<(), Stop>
+        ensures { StepGives result self.old self.new (with_seeds self.old seeds) }
+    {
+        if self.seeds.is_some() {
+            return Err(Stop::Bad);
+        }
+        self.seeds = Some(seeds);
+        Ok(())
     }
 
     #[tactic(auto, unfolding(crate::specs::Session::with_limits))]
@@ -156,6 +172,7 @@ impl SessionText {
         ensures { StepGives result self.old self.new (added (infos_of info natives.now) self.old part) }
     {
         match part {
+            Part::Seeds(seeds) => self.set_seeds(seeds),
             Part::Limits(limits) => self.set_limits(limits),
             Part::Printer(printer) => {
                 self.set_printer(printer);

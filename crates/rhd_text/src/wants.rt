@@ -54,7 +54,7 @@ fn value_kind_of(word: &[u8]) -> Option<TypeTag>
 
 /// The kind of values that a word says, or any.
 #[tactic(auto, unfolding(crate::specs::Bytes::kind_of))]
-fn kind_of(word: &[u8]) -> Option<TypeTag>
+pub fn kind_of(word: &[u8]) -> Option<TypeTag>
     ensures { result ≡ kind_of word.now }
 {
     if word == b"dynamic".as_slice() {

@@ -119,7 +119,7 @@ fn push_marked(mark: u8, number: u32, out: &mut Vec<u8>) -> Result<(), OutOfMemo
     push_number(u64::from(number), out)
 }
 
-/// A native by its number, a script by that of its body.
+/// A native or a function that iterates by its number, a script by that of its body.
 #[tactic(auto, unfolding(crate::specs::PrintedReplies::func_text))]
 fn push_func(func: &RhaiFunc, out: &mut Vec<u8>) -> Result<(), OutOfMemory>
     ensures { OnOk result (out.new.items ≡ out.old.items ++ func_text func.now) }
@@ -127,6 +127,9 @@ fn push_func(func: &RhaiFunc, out: &mut Vec<u8>) -> Result<(), OutOfMemory>
     match func {
         RhaiFunc::Pure { func, .. } => push_marked(b'#', func.0, out),
         RhaiFunc::Method { func, .. } => push_marked(b'#', func.0, out),
+        RhaiFunc::Iterator { func } => push_marked(b'#', func.0, out),
+        RhaiFunc::Plugin { func } => push_marked(b'#', func.0, out),
+        RhaiFunc::StaticPlugin { func } => push_marked(b'#', func.0, out),
         RhaiFunc::Script { fn_def, .. } => push_marked(b'@', fn_def.def().body.0, out),
     }
 }
