@@ -69,9 +69,11 @@ impl FuncRegistration {
         ensures { IfOk result (λ reg. reg ≡ setter_registration (setter_name prop.now)) }
     {
         let name = prefixed(alloc, "set$", prop)?;
-        Ok(FuncRegistration::new(alloc, name)?
-            .in_global_namespace()
-            .with_purity(false))
+        Ok(
+            FuncRegistration::new(alloc, name)?
+                .in_global_namespace()
+                .with_purity(false),
+        )
     }
 
     /// The indexer that reads, which all calls find.
@@ -87,9 +89,11 @@ impl FuncRegistration {
         ensures { IfOk result (λ reg. reg ≡ setter_registration (codes "index$set$")) }
     {
         let name = Text::from_string(String::from_str(alloc, "index$set$")?);
-        Ok(FuncRegistration::new(alloc, name)?
-            .in_global_namespace()
-            .with_purity(false))
+        Ok(
+            FuncRegistration::new(alloc, name)?
+                .in_global_namespace()
+                .with_purity(false),
+        )
     }
 
     pub fn with_namespace(self, namespace: FnNamespace) -> FuncRegistration
