@@ -1,5 +1,6 @@
 -- The sub-modules of a map, after one is put and in a search for one.
-use Rattle.std.proofs.Common.{◌≡◌, List, [], ◌∷◌, cond, Bool, true, false, ◌&&◌, ◌==◌, length, Option, None, Some, Bor, refl, ap, ◌∙◌}
+use Rattle.std.proofs.Common.{◌≡◌, ℕ, suc, eqb-true, arith, List, [], ◌∷◌, cond, Bool, true, false, ◌&&◌, ◌==◌, length, Option, None, Some, Bor, refl, ap, ◌∙◌}
+use Rattle.std.specs.List.{AllZip}
 use Rattle.std.specs.Option.{option_map, option_copied}
 use Rattle.std.specs.Ordering.{match_ordering, nat_cmp, is_eq}
 use Rattle.std.specs.declared.cmp.Ordering.{Ordering}
@@ -12,6 +13,10 @@ use Rattle.std.proofs.lemmas.Map.Text.{is_eq-slice_cmp}
 use Rattle.rhd_value.specs.Tree.{Bytes}
 use Rattle.rhd_module.specs.Tree.{ModuleTree, sub, subs_of}
 use Rattle.rhd_module.specs.Contents.{put_sub, find_sub, is_none_of, has_no_subs}
+
+not_zero : (n : ℕ) (b : Bool) → (suc n == 0) ≡ b → (suc n == 0) ≡ false
+not_zero n true e = let bad : suc n ≡ 0 = eqb-true (suc n) 0 e in absurd (omega (arith, bad))
+not_zero n false e = e
 
 module _ {Z : Type 0} where
   pub subs_put : (es : List (Bytes × Rc ModuleTree Z)) (k : Bytes) (v : Rc ModuleTree Z) → subs_of (insert_entry (slice_cmp nat_cmp) es k v) ≡ put_sub k v.value (subs_of es)
@@ -34,7 +39,7 @@ module _ {Z : Type 0} where
 
   pub subs_none : (es : List (Bytes × Rc ModuleTree Z)) → (length es == 0) ≡ has_no_subs (subs_of es)
   subs_none [] = refl
-  subs_none (e ∷ es) = refl
+  subs_none (e ∷ es) = not_zero (length es) (length (e ∷ es) == 0) refl
 
   pub seen_copied : (o : Option (Bor (Rc ModuleTree Z))) → option_map (λ m. m.now.value) o ≡ option_map (λ m. m.value) (option_copied o)
   seen_copied None = refl
@@ -42,8 +47,15 @@ module _ {Z : Type 0} where
 
 pub none_of : {A : Type 0} (xs : List A) → (length xs == 0) ≡ is_none_of xs
 none_of [] = refl
-none_of (x ∷ xs) = refl
+none_of (x ∷ xs) = not_zero (length xs) (length (x ∷ xs) == 0) refl
 
 pub and_true : (b : Bool) → b ≡ (b && true)
 and_true true = refl
 and_true false = refl
+
+-- shared sub-modules are the same ones
+pub subs_clone : {Z : Type 0} (es fs : List (Bytes × Rc ModuleTree Z)) → AllZip (λ p q. (q.0 ≡ p.0) × (q.1.value ≡ p.1.value)) es fs → subs_of fs ≡ subs_of es
+subs_clone [] [] h = refl
+subs_clone [] (f ∷ fs) h = absurd h
+subs_clone (e ∷ es) [] h = absurd h
+subs_clone (e ∷ es) (f ∷ fs) h = λ i. sub (h.0.0 i) (h.0.1 i).own (h.0.1 i).subs (subs_clone es fs h.1 i)

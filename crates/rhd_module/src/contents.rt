@@ -1,7 +1,7 @@
 //! What a module holds besides functions.
 
 ghost use Rattle.std.specs.Prelude.{◌≡◌, [], IfOk, OnOk, OnErr, None, true, false, is_some};
-ghost use Rattle.std.specs.Option.{option_copied, option_map};
+ghost use Rattle.std.specs.Option.{option_copied, option_map, option_and_then};
 ghost use Rattle.rhd_value.specs.Kinds.{type_name};
 ghost use Rattle.rhd_value.specs.Tree.{copied};
 ghost use Rattle.rhd_value.specs.Entries.{found};
@@ -13,7 +13,7 @@ ghost use Rattle.rhd_module.specs.Tree.{subs_of};
 use crate::module::Module;
 use rhd_decl::{CustomTypeInfo, CustomTypesCollection};
 use rhd_func::SharedText;
-use rhd_value::{Dynamic, Entries, OutOfMemory, Text, Texts, TypeTag};
+use rhd_value::{Dynamic, Entries, OutOfMemory, Text, Texts, TypeTag, Variant};
 use std::alloc::Global;
 use std::collections::BTreeMap;
 use std::collections::btree_map::Iter;
@@ -124,6 +124,20 @@ impl Module {
     {
         match self.vars.get(name) {
             Some(value) => Ok(Some(value.copy(alloc)?)),
+            None => Ok(None),
+        }
+    }
+
+    /// The same as a value of a Rust type, where it is one.
+    pub fn get_var_value<T: Variant>(
+        &self,
+        alloc: Global,
+        name: &Text,
+    ) -> Result<Option<T>, OutOfMemory>
+        ensures { IfOk result (λ value. value ≡ option_and_then (λ t. T.value_of (copied t)) (found name.now self.now.own.vars)) }
+    {
+        match self.vars.get(name) {
+            Some(value) => Ok(T::from_dynamic(value.copy(alloc)?)),
             None => Ok(None),
         }
     }

@@ -6,6 +6,7 @@ mod law;
 mod module;
 mod native_index;
 mod registration;
+mod script_search;
 mod setters;
 mod shared;
 

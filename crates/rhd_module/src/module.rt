@@ -18,6 +18,7 @@ ghost use Rattle.rhd_module.specs.Matching.{may_match};
 ghost use Rattle.rhd_module.specs.NativeIndex.{noted, place_at, matches_at};
 
 use crate::native_index::NativeIndex;
+use indexmap::map::Values;
 use rhd_decl::{CustomTypesCollection, DeclFault, Declaration, Switches};
 use rhd_func::{RhaiFunc, SharedText};
 use rhd_hash::{Key, KeyTable, Seeds, Steps};
@@ -201,6 +202,13 @@ impl Module {
         self.eager.get(key).is_some()
     }
 
+    /// The declarations with their keys, in order.
+    pub fn iter_fn(&self) -> Values<'_, u64, (Key, Declaration)>
+        ensures { result ≡ self.now.own.eager }
+    {
+        self.eager.iter()
+    }
+
     /// Whether a native is declared under this name each of whose types is the argument's kind, or,
     /// behind the first `exact` ones, `Dynamic`.
     pub fn may_match(&self, exact: usize, name: &Text, kinds: &[TypeTag]) -> bool
@@ -228,12 +236,8 @@ impl Module {
     pub fn dup(&self, alloc: Global) -> Result<Module, OutOfMemory>
         ensures { IfOk result (λ copy. copy ≡ self.now) }
     {
-        let id = match &self.id {
-            Some(id) => Some(id.dup(alloc)?),
-            None => None,
-        };
         Ok(Module {
-            id,
+            id: self.share_id(alloc)?,
             doc: self.doc.dup(alloc)?,
             types: self.types.dup(alloc)?,
             vars: self.vars.dup(alloc)?,
