@@ -300,10 +300,13 @@ impl Module {
     {
         refuse_pair(alloc, natives, &get_reg.name, get, &set_reg.name, set)?;
         let mut copy = self.dup(alloc)?;
-        let getter = get_reg.set_into_module(alloc, &mut copy, natives, get)?;
+        let getter = match get_reg.set_into_module(alloc, &mut copy, natives, get) {
+            Ok(metadata) => metadata.hash,
+            Err(fault) => return Err(fault),
+        };
         let setter = set_reg.set_into_module(alloc, &mut copy, natives, set)?;
         *self = copy;
-        Ok((getter.hash, setter.hash))
+        Ok((getter, setter.hash))
     }
 
     /// Registers the natives of two numbers as the getter and the setter of a property, both or none. The
