@@ -1,13 +1,11 @@
 -- Two natives that are registered, both or none.
-use Rattle.std.proofs.Common.{◌≡◌, ◌<◌, ◌≤◌, ℕ, Bool, true, false, not, nat_lt, List, [], ◌∷◌, length, refl, sym, ap, subst, ◌∙◌, arith}
-use Rattle.std.specs.Prelude.{Option, Some, None, Result, Ok, Err, slice_get, unwrap_or}
+use Rattle.std.proofs.Common.{◌≡◌, List, [], ◌∷◌, refl, sym, ap, subst, ◌∙◌}
+use Rattle.std.specs.Prelude.{Option, Some, None, Result, Err, slice_get, unwrap_or}
 use Rattle.rhd_value.specs.Tree.{Bytes}
-use Rattle.std.specs.Map.{keys_of}
-use Rattle.rhd_value.specs.Firsts.{first_some, where_holds}
+use Rattle.rhd_value.specs.Firsts.{first_some}
 use Rattle.rhd_value.specs.declared.tag.FnId.{FnId}
 use Rattle.rhd_hash.specs.declared.key.Key.{Key}
 use Rattle.rhd_hash.specs.declared.mixer.Seeds.{Seeds}
-use Rattle.rhd_hash.specs.Table.{HasOwnHashes, Clashing}
 use Rattle.rhd_func.specs.Natives.{NativeInfo}
 use Rattle.rhd_decl.specs.declared.declaration.Declaration.{Declaration}
 use Rattle.rhd_decl.specs.declared.fault.DeclFault.{DeclFault}

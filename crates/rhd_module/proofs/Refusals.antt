@@ -1,13 +1,12 @@
 -- Why a native isn't registered: what is known beforehand, put before what the module says.
 use Rattle.std.proofs.Common.{◌≡◌, ◌<◌, ◌≤◌, ℕ, Bool, true, false, not, ◌||◌, nat_lt, List, [], ◌∷◌, length, map, refl, sym, ap, subst, ◌∙◌, inl, inr, arith}
-use Rattle.std.specs.Prelude.{Option, Some, None, is_none, Result, Ok, Err, IfOk, slice_get, unwrap_or}
+use Rattle.std.specs.Prelude.{Option, Some, None, Result, Err, IfOk, slice_get, unwrap_or}
 use Rattle.std.specs.Prelude.{option_map}
 use Rattle.std.specs.Option.{option_or}
 use Rattle.std.proofs.lemmas.Bool.Decides.{nat_tests}
 use Rattle.std.proofs.lemmas.Option.{slice_get_cases, slice_get-map}
 use Rattle.std.proofs.lemmas.List.{length-map}
 use Rattle.rhd_value.specs.Firsts.{first_some, where_holds}
-use Rattle.rhd_value.specs.Tree.{Bytes}
 use Rattle.rhd_value.specs.declared.tag.FnId.{FnId}
 use Rattle.rhd_value.specs.declared.tag.TypeTag.{TypeTag}
 use Rattle.rhd_hash.specs.declared.key.Key.{Key}
@@ -18,10 +17,10 @@ use Rattle.rhd_func.specs.declared.func.RhaiFunc.TheVariants as funcs
 use Rattle.rhd_decl.specs.declared.declaration.Declaration.{Declaration}
 use Rattle.rhd_decl.specs.declared.metadata.FuncMetadata.{FuncMetadata}
 use Rattle.rhd_decl.specs.declared.fault.DeclFault.{DeclFault}
-use Rattle.rhd_decl.specs.declared.fault.DeclFault.TheVariants.{IndexerNotAllowed, NotCallable, UnknownNumber}
+use Rattle.rhd_decl.specs.declared.fault.DeclFault.TheVariants.{NotCallable, UnknownNumber}
 use Rattle.rhd_module.specs.declared.registration.FuncRegistration.{FuncRegistration}
 use Rattle.rhd_module.specs.Tree.{ModuleTree}
-use Rattle.rhd_module.specs.Registered.{Puts, Registers, RegistersRaw, unheld, banned, is_banned, no_info, native_at, native_key, native_decl, registered_decl}
+use Rattle.rhd_module.specs.Registered.{Puts, Registers, RegistersRaw, unheld, banned, no_info, native_at, native_key, native_decl, registered_decl}
 
 or_none : {A : Type 0} (o : Option A) → option_or o None ≡ o
 or_none None = refl
