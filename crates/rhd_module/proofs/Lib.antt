@@ -4,4 +4,5 @@ pub mod Places
 pub mod Scripts
 pub mod Refusals
 pub mod SubModules
+pub mod Both
 pub mod Commented

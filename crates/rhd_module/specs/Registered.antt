@@ -135,6 +135,34 @@ abbrev pub RegistersRaw : {A : Type 0} → List NativeInfo → FuncRegistration 
 RegistersRaw natives reg types func old result new =
     Puts (raw_cause natives reg.name types func) (native_key (is_method natives func) reg.name types) (native_decl old.own.seeds reg (is_method natives func) types func) old result new
 
+-- why two natives aren't registered as the two halves of a pair: the first that holds
+abbrev pub pair_cause : List NativeInfo → Bytes → FnId → Bytes → FnId → Option DeclFault
+pair_cause natives get_name get set_name set =
+    let getter = native_at natives get in
+    let setter = native_at natives set in
+    first_some (unheld natives (Some get) ∷ unheld natives (Some set) ∷ banned getter.is_method get_name getter.types ∷ banned setter.is_method set_name setter.types ∷ [])
+
+-- What putting two declarations under their keys answers, one after the other, and the module that it leaves: both or none are put.
+abbrev pub PutsBoth : {A : Type 0} → Option DeclFault → Key → Declaration → Key → Declaration → ModuleTree → Result A DeclFault → ModuleTree → Type 0
+PutsBoth cause k d l e old (Ok answer) new = (cause ≡ None) × HasOwnHashes old.own.seeds (keys_of (put l e (put k d old.own.eager))) × (new ≡ with_decl l e (with_decl k d old))
+PutsBoth cause k d l e old (Err OutOfMemory) new = new ≡ old
+PutsBoth cause k d l e old (Err (HashCollision held other)) new = (cause ≡ None) × Clashing old.own.seeds (keys_of (put l e (put k d old.own.eager))) held other × (new ≡ old)
+PutsBoth cause k d l e old (Err fault) new = (cause ≡ Some fault) × (new ≡ old)
+
+-- the same of two natives that are registered by their numbers
+abbrev pub RegistersBoth : {A : Type 0} → List NativeInfo → FuncRegistration → FnId → FuncRegistration → FnId → ModuleTree → Result A DeclFault → ModuleTree → Type 0
+RegistersBoth natives get_reg get set_reg set old result new =
+    let getter = native_at natives get in
+    let setter = native_at natives set in
+    PutsBoth (pair_cause natives get_reg.name get set_reg.name set) (native_key getter.is_method get_reg.name getter.types) (registered_decl old.own.seeds get_reg getter get)
+    (native_key setter.is_method set_reg.name setter.types) (registered_decl old.own.seeds set_reg setter set) old result new
+
+-- a refusal for a cause that is known beforehand; want of memory has none
+abbrev pub Refuses : {A : Type 0} → Option DeclFault → Result A DeclFault → Type 0
+Refuses cause (Ok answer) = cause ≡ None
+Refuses cause (Err OutOfMemory) = Unit {0}
+Refuses cause (Err fault) = cause ≡ Some fault
+
 -- the hash of the key under which a native is registered
 abbrev pub registered_hash : List NativeInfo → FuncRegistration → FnId → ModuleTree → ℕ
 registered_hash natives reg id m = (registered_decl m.own.seeds reg (native_at natives id) id).metadata.hash

@@ -10,7 +10,7 @@ ghost use Rattle.rhd_value.specs.Firsts.{first_some, where_holds};
 ghost use Rattle.rhd_func.specs.Funcs.{is_method, is_iter, is_script, native_of};
 ghost use Rattle.rhd_decl.specs.declared.fault.DeclFault.TheVariants.{NotCallable, UnknownNumber};
 ghost use Rattle.rhd_module.specs.Contents.{script_of, with_comments};
-ghost use Rattle.rhd_module.specs.Registered.{Puts, Registers, RegistersRaw, unheld, banned, native_at, native_key, native_decl, registered_decl, registered_hash, raw_cause, script_key, script_decl, new_registration, global_registration, setter_registration, pure_registration, getter_name, setter_name};
+ghost use Rattle.rhd_module.specs.Registered.{Puts, Registers, RegistersRaw, RegistersBoth, Refuses, unheld, banned, pair_cause, native_at, native_key, native_decl, registered_decl, registered_hash, raw_cause, script_key, script_decl, new_registration, global_registration, setter_registration, pure_registration, getter_name, setter_name};
 
 use crate::module::Module;
 use crate::registration::{
@@ -51,6 +51,49 @@ fn raw_refusal(natives: &Natives, func: &RhaiFunc) -> Option<DeclFault>
         return unheld(natives, id);
     }
     Some(DeclFault::NotCallable)
+}
+
+/// Refuses a native that would be an indexer of a type whose indexing has its meaning already.
+fn refuse_banned(alloc: Global, native: &Box<dyn PluginFunc>, name: &Text) -> Result<(), DeclFault>
+    ensures { Refuses (banned (info native.now).is_method name.now (info native.now).types) result }
+{
+    let types = native.param_types();
+    if is_banned(name, types) {
+        let key = native_key(alloc, name, native.is_method_call(), types)?;
+        return Err(DeclFault::IndexerNotAllowed { key });
+    }
+    Ok(())
+}
+
+/// The same of the native of a number; none is refused where it isn't held.
+fn refuse_indexer(alloc: Global, natives: &Natives, name: &Text, id: FnId) -> Result<(), DeclFault>
+    ensures { Refuses (banned (native_at (infos_of info natives.now) id).is_method name.now (native_at (infos_of info natives.now) id).types) result }
+{
+    match natives.get(id) {
+        Some(native) => refuse_banned(alloc, native, name),
+        None => Ok(()),
+    }
+}
+
+/// Refuses two natives as the halves of a pair, whatever the module has.
+fn refuse_pair(
+    alloc: Global,
+    natives: &Natives,
+    get_name: &Text,
+    get: FnId,
+    set_name: &Text,
+    set: FnId,
+) -> Result<(), DeclFault>
+    ensures { Refuses (pair_cause (infos_of info natives.now) get_name.now get set_name.now set) result }
+{
+    if let Some(fault) = unheld(natives, get) {
+        return Err(fault);
+    }
+    if let Some(fault) = unheld(natives, set) {
+        return Err(fault);
+    }
+    refuse_indexer(alloc, natives, get_name, get)?;
+    refuse_indexer(alloc, natives, set_name, set)
 }
 
 impl FuncRegistration {
@@ -239,6 +282,68 @@ impl Module {
     {
         let reg = FuncRegistration::new_index_setter(alloc)?;
         Ok(reg.set_into_module(alloc, self, natives, id)?.hash)
+    }
+
+    /// Registers the natives of two numbers, both or none. Answers the hashes of their keys.
+    fn put_both(
+        &mut self,
+        alloc: Global,
+        natives: &Natives,
+        get_reg: FuncRegistration,
+        get: FnId,
+        set_reg: FuncRegistration,
+        set: FnId,
+    ) -> Result<(u64, u64), DeclFault>
+        ensures registers { RegistersBoth (infos_of info natives.now) get_reg get set_reg set self.old result self.new }
+        ensures get { IfOk result (λ hashes. hashes.0 ≡ registered_hash (infos_of info natives.now) get_reg get self.old) }
+        ensures set { IfOk result (λ hashes. hashes.1 ≡ registered_hash (infos_of info natives.now) set_reg set self.old) }
+    {
+        refuse_pair(alloc, natives, &get_reg.name, get, &set_reg.name, set)?;
+        let mut copy = self.dup(alloc)?;
+        let getter = match get_reg.set_into_module(alloc, &mut copy, natives, get) {
+            Ok(metadata) => metadata.hash,
+            Err(fault) => return Err(fault),
+        };
+        let setter = set_reg.set_into_module(alloc, &mut copy, natives, set)?;
+        *self = copy;
+        Ok((getter, setter.hash))
+    }
+
+    /// Registers the natives of two numbers as the getter and the setter of a property, both or none. The
+    /// getter is pure, and the setter isn't. Answers the hashes of their keys.
+    pub fn set_getter_setter_fn(
+        &mut self,
+        alloc: Global,
+        natives: &Natives,
+        prop: &Text,
+        get: FnId,
+        set: FnId,
+    ) -> Result<(u64, u64), DeclFault>
+        ensures registers { RegistersBoth (infos_of info natives.now) (pure_registration (global_registration (getter_name prop.now))) get (setter_registration (setter_name prop.now)) set self.old result self.new }
+        ensures get { IfOk result (λ hashes. hashes.0 ≡ registered_hash (infos_of info natives.now) (pure_registration (global_registration (getter_name prop.now))) get self.old) }
+        ensures set { IfOk result (λ hashes. hashes.1 ≡ registered_hash (infos_of info natives.now) (setter_registration (setter_name prop.now)) set self.old) }
+    {
+        let get_reg = FuncRegistration::new_getter(alloc, prop)?.with_purity(true);
+        let set_reg = FuncRegistration::new_setter(alloc, prop)?;
+        self.put_both(alloc, natives, get_reg, get, set_reg, set)
+    }
+
+    /// Registers the natives of two numbers as the indexers that read and write, both or none. The first is
+    /// pure, and the second isn't. Answers the hashes of their keys.
+    pub fn set_indexer_get_set_fn(
+        &mut self,
+        alloc: Global,
+        natives: &Natives,
+        get: FnId,
+        set: FnId,
+    ) -> Result<(u64, u64), DeclFault>
+        ensures registers { RegistersBoth (infos_of info natives.now) (pure_registration (global_registration (codes "index$get$"))) get (setter_registration (codes "index$set$")) set self.old result self.new }
+        ensures get { IfOk result (λ hashes. hashes.0 ≡ registered_hash (infos_of info natives.now) (pure_registration (global_registration (codes "index$get$"))) get self.old) }
+        ensures set { IfOk result (λ hashes. hashes.1 ≡ registered_hash (infos_of info natives.now) (setter_registration (codes "index$set$")) set self.old) }
+    {
+        let get_reg = FuncRegistration::new_index_getter(alloc)?.with_purity(true);
+        let set_reg = FuncRegistration::new_index_setter(alloc)?;
+        self.put_both(alloc, natives, get_reg, get, set_reg, set)
     }
 
     /// Declares a script: in the place of one of an equal key, else last. Answers the hash of its key.

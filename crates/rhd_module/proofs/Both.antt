@@ -1,0 +1,52 @@
+-- Two natives that are registered, both or none.
+use Rattle.std.proofs.Common.{◌≡◌, List, [], ◌∷◌, refl, sym, ap, subst, ◌∙◌}
+use Rattle.std.specs.Prelude.{Option, Some, None, Result, Err, slice_get, unwrap_or}
+use Rattle.rhd_value.specs.Tree.{Bytes}
+use Rattle.rhd_value.specs.Firsts.{first_some}
+use Rattle.rhd_value.specs.declared.tag.FnId.{FnId}
+use Rattle.rhd_hash.specs.declared.key.Key.{Key}
+use Rattle.rhd_hash.specs.declared.mixer.Seeds.{Seeds}
+use Rattle.rhd_func.specs.Natives.{NativeInfo}
+use Rattle.rhd_decl.specs.declared.declaration.Declaration.{Declaration}
+use Rattle.rhd_decl.specs.declared.fault.DeclFault.{DeclFault}
+use Rattle.rhd_decl.specs.declared.fault.DeclFault.TheVariants.{HashCollision, IndexerNotAllowed, NotCallable, UnknownNumber, OutOfMemory}
+use Rattle.rhd_module.specs.Tree.{ModuleTree}
+use Rattle.rhd_module.specs.declared.registration.FuncRegistration.{FuncRegistration}
+use Rattle.rhd_module.specs.Registered.{put, Puts, PutsBoth, Registers, RegistersBoth, Refuses, banned, no_info, native_at, native_key, registered_decl, registration_cause, pair_cause}
+use Rattle.rhd_module.proofs.Puts.{kept}
+
+-- where nothing refuses a pair, nothing refuses its first half
+pub pair_first : (u v b c : Option DeclFault) → first_some (u ∷ v ∷ b ∷ c ∷ []) ≡ None → first_some (u ∷ b ∷ []) ≡ None
+pair_first None None None c e = refl
+pair_first None None (Some x) c e = absurd cc
+pair_first None (Some x) b c e = absurd cc
+pair_first (Some x) v b c e = absurd cc
+
+module _ (k l : Key) (d : Declaration) (e : Seeds → Declaration) (old new : ModuleTree) where
+  -- what refuses the first of two
+  pub first_refused : (A B : Type 0) (cause first : Option DeclFault) (fault : DeclFault) (between : ModuleTree) → cause ≡ None → first ≡ None → Puts {A = A} first k d old (Err fault) between → new ≡ old
+      → PutsBoth {A = B} cause k d l (e old.own.seeds) old (Err fault) new
+  first_refused A B cause first (HashCollision held other) between none free (told, clashing, back) same =
+      let table = put k d old.own.eager in
+      (none, record { held_there = kept l held (e old.own.seeds) table clashing.held_there; new_there = kept l other (e old.own.seeds) table clashing.new_there; clash = clashing.clash }, same)
+  first_refused A B cause first (IndexerNotAllowed key) between none free (is, back) same = absurd (let x : None ≡ Some (IndexerNotAllowed key) = sym free ∙ is in cc)
+  first_refused A B cause first NotCallable between none free (is, back) same = absurd (let x : None ≡ Some NotCallable = sym free ∙ is in cc)
+  first_refused A B cause first (UnknownNumber n m) between none free (is, back) same = absurd (let x : None ≡ Some (UnknownNumber n m) = sym free ∙ is in cc)
+  first_refused A B cause first OutOfMemory between none free puts same = same
+
+pub getter_refused : (A B : Type 0) (infos : List NativeInfo) (get_reg : FuncRegistration) (get : FnId) (set_reg : FuncRegistration) (set : FnId) (old copy between new : ModuleTree) (fault : DeclFault)
+    → pair_cause infos get_reg.name get set_reg.name set ≡ None → copy ≡ old → Registers {A = A} infos get_reg get copy (Err fault) between → new ≡ old
+    → RegistersBoth {A = B} infos get_reg get set_reg set old (Err fault) new
+getter_refused A B infos get_reg get set_reg set old copy between new fault none is puts same =
+    let getter : NativeInfo = native_at infos get in
+    let setter : NativeInfo = native_at infos set in
+    first_refused (native_key getter.is_method get_reg.name getter.types) (native_key setter.is_method set_reg.name setter.types) (registered_decl old.own.seeds get_reg getter get) (λ (s : Seeds). registered_decl s set_reg setter set) old new A B
+    (pair_cause infos get_reg.name get set_reg.name set) (registration_cause infos get_reg.name get) fault between none (pair_first _ _ _ _ none) (subst (λ (m : ModuleTree). Registers {A = A} infos get_reg get m (Err fault) between) is puts) same
+
+-- a native that is held is refused as it says of itself, and one that isn't is no indexer
+pub held_refuses : {A : Type 0} (infos : List NativeInfo) (id : FnId) (name : Bytes) (r : Result A DeclFault) (info : NativeInfo) → slice_get infos id.0 ≡ Some info → Refuses (banned info.is_method name info.types) r
+    → Refuses (banned (native_at infos id).is_method name (native_at infos id).types) r
+held_refuses infos id name r info held why = subst (λ (i : NativeInfo). Refuses (banned i.is_method name i.types) r) (sym (ap (λ (o : Option NativeInfo). unwrap_or o no_info) held)) why
+
+pub none_refused : (infos : List NativeInfo) (id : FnId) (name : Bytes) → slice_get infos id.0 ≡ None → banned (native_at infos id).is_method name (native_at infos id).types ≡ None
+none_refused infos id name none = ap (λ (o : Option NativeInfo). banned (unwrap_or o no_info).is_method name (unwrap_or o no_info).types) none
