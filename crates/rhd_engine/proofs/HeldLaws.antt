@@ -26,7 +26,7 @@ use Rattle.rhd_module.specs.declared.registration.FuncRegistration.{FuncRegistra
 use Rattle.rhd_module.specs.Contents.{with_type}
 use Rattle.rhd_module.specs.Tree.{ModuleTree, Pairs}
 use Rattle.rhd_module.specs.Registered.{put, with_decl, unheld, registered_func, pure_by_name, banned, registration_cause, raw_cause, native_at, script_key, script_decl, Puts, Registers, RegistersRaw}
-use Rattle.rhd_engine.specs.Held.{is_below, func_held, names_held, all_held}
+use Rattle.rhd_engine.specs.Held.{func_held, names_held, all_held}
 use Rattle.rhd_engine.specs.Registered.{in_first, InFirst, RegistersFirst, RegistersRawFirst}
 
 abbrev is_held : ℕ → Declaration → Bool
@@ -94,6 +94,11 @@ allowed_held : (natives : List NativeInfo) (native : Option FnId) (more : List (
 allowed_held natives None more none = refl
 allowed_held natives (Some id) more none = refused_by natives id (nat_lt id.0 (length natives)) more none
 
+callable_by : (refusal : Option DeclFault) (test : Bool) (more : List (Option DeclFault)) → first_some (refusal ∷ where_holds test NotCallable ∷ more) ≡ None → test ≡ false
+callable_by None true more none = absurd cc
+callable_by None false more none = refl
+callable_by (Some fault) test more none = absurd cc
+
 -- the native of a function that is registered by its number
 number_either : (id : FnId) (context pure volatile is_method : Bool) → native_of (if is_method then funcs.Method id context pure volatile else funcs.Pure id context pure volatile) ≡ Some id
 number_either id context pure volatile true = refl
@@ -105,11 +110,11 @@ registered_number reg info id = number_either id info.has_context (unwrap_or reg
 -- a module in which a native is registered by its number, or refused
 pub registers_held : {A : Type 0} (natives : List NativeInfo) (reg : FuncRegistration) (id : FnId) (old new : ModuleTree) (r : Result A DeclFault) → Registers natives reg id old r new → names_held (length natives) old ≡ true → names_held (length natives) new ≡ true
 registers_held natives reg id old new r is all =
-    puts_held (length natives) _ _ _ old new r is (λ none. ap (is_below (length natives)) (registered_number reg (native_at natives id) id) ∙ allowed_held natives (Some id) (banned (native_at natives id).is_method reg.name (native_at natives id).types ∷ []) none) all
+    puts_held (length natives) _ _ _ old new r is (λ none. number_held (length natives) _ id (registered_number reg (native_at natives id) id) (allowed_held natives (Some id) (banned (native_at natives id).is_method reg.name (native_at natives id).types ∷ []) none)) all
 
 -- one in which a function is registered raw
 pub registers_raw_held : {A : Type 0} (natives : List NativeInfo) (reg : FuncRegistration) (types : List TypeTag) (func : RhaiFunc) (old new : ModuleTree) (r : Result A DeclFault) → RegistersRaw natives reg types func old r new → names_held (length natives) old ≡ true → names_held (length natives) new ≡ true
-registers_raw_held natives reg types func old new r is all = puts_held (length natives) _ _ _ old new r is (λ none. allowed_held natives (native_of func) (where_holds (is_iter func || is_script func) NotCallable ∷ banned (is_method natives func) reg.name types ∷ []) none) all
+registers_raw_held natives reg types func old new r is all = puts_held (length natives) _ _ _ old new r is (λ none. can_be_called (length natives) func (allowed_held natives (native_of func) (where_holds (is_iter func || is_script func) NotCallable ∷ banned (is_method natives func) reg.name types ∷ []) none) (callable_by (unheld natives (native_of func)) (is_iter func || is_script func) (banned (is_method natives func) reg.name types ∷ []) none)) all
 
 -- and one in which a script is declared
 pub script_held : {A : Type 0} (n : ℕ) (seeds : Seeds) (def : ScriptFuncDef) (env : Option EnvId) (old new : ModuleTree) (r : Result A DeclFault) → Puts None (script_key def) (script_decl seeds def env) old r new → names_held n old ≡ true → names_held n new ≡ true

@@ -1,21 +1,22 @@
 -- Whether the natives that modules name are held.
-use Rattle.std.specs.Prelude.{ℕ, Bool, true, nat_lt, List, Option, None, Some}
+use Rattle.std.specs.Prelude.{ℕ, Bool, true, false, nat_lt, List}
 use Rattle.std.specs.List.{list_all}
 use Rattle.rhd_value.specs.declared.tag.FnId.{FnId}
 use Rattle.rhd_func.specs.declared.func.RhaiFunc.{RhaiFunc}
-use Rattle.rhd_func.specs.Funcs.{native_of}
+use Rattle.rhd_func.specs.declared.func.RhaiFunc.TheVariants.{Pure, Method, Iterator, Plugin, StaticPlugin, Script}
 use Rattle.rhd_module.specs.Tree.{ModuleTree}
 use Rattle.rhd_engine.specs.declared.builtins.Operator.{Operator}
 
-abbrev pub is_below : ℕ → Option FnId → Bool
-is_below natives None = true
-is_below natives (Some id) = nat_lt id.0 natives
-
--- the native of the function, if it has one, has a number below this one
+-- the function can be called: its native has a number below this one; a script has a body, and a function that iterates isn't called
 abbrev pub func_held : ℕ → RhaiFunc → Bool
-func_held natives func = is_below natives (native_of func)
+func_held natives (Pure id context pure volatile) = nat_lt id.0 natives
+func_held natives (Method id context pure volatile) = nat_lt id.0 natives
+func_held natives (Iterator id) = false
+func_held natives (Plugin id) = nat_lt id.0 natives
+func_held natives (StaticPlugin id) = nat_lt id.0 natives
+func_held natives (Script def env) = true
 
--- so has each native that a declaration of the module names
+-- so can each that a declaration of the module names
 abbrev pub names_held : ℕ → ModuleTree → Bool
 names_held natives m = list_all (λ p. func_held natives p.1.func) m.own.eager
 

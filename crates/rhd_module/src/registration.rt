@@ -263,7 +263,7 @@ fn mapped_types(alloc: Global, types: &[TypeTag], is_method: bool) -> Result<Typ
 }
 
 /// Whether a native of this name and number of parameters is pure where nothing else is said.
-fn is_pure_by_name(name: &Text, params: usize) -> bool
+pub fn is_pure_by_name(name: &Text, params: usize) -> bool
     ensures { result ≡ pure_by_name name.now params }
 {
     let name = name.as_str();

@@ -3,11 +3,11 @@
 ghost use Rattle.std.specs.Prelude.{◌≡◌, None, [], OnOk, OnErr, IfOk};
 ghost use Rattle.rhd_func.specs.Infos.{infos_of};
 ghost use Rattle.rhd_module.specs.Contents.{with_id, with_doc, with_var, with_type, cleared, with_sub};
-ghost use Rattle.rhd_module.specs.Registered.{Puts, Registers, RegistersRaw, script_key, script_decl};
+ghost use Rattle.rhd_module.specs.Registered.{Puts, Registers, RegistersRaw, native_at, registered_decl, script_key, script_decl};
 
 use crate::module::Module;
 use crate::registration::FuncRegistration;
-use rhd_decl::DeclFault;
+use rhd_decl::{DeclFault, FuncMetadata};
 use rhd_func::{Natives, RhaiFunc, SharedDef};
 use rhd_value::{Dynamic, FnId, OutOfMemory, Text, TypeTag};
 use std::alloc::Global;
@@ -143,6 +143,21 @@ impl SharedModule {
         let module = Rc::make_mut(&mut self.module)?;
         reg.set_into_module(alloc, module, natives, id)?;
         Ok(())
+    }
+
+    /// The same, and answers what is said of the native, as that call does.
+    pub fn register_told(
+        &mut self,
+        alloc: Global,
+        reg: FuncRegistration,
+        natives: &Natives,
+        id: FnId,
+    ) -> Result<FuncMetadata, DeclFault>
+        ensures registers { Registers (infos_of info natives.now) reg id self.old result self.new }
+        ensures metadata { IfOk result (λ metadata. metadata ≡ (registered_decl self.old.own.seeds reg (native_at (infos_of info natives.now) id) id).metadata) }
+    {
+        let module = Rc::make_mut(&mut self.module)?;
+        reg.set_into_module(alloc, module, natives, id)
     }
 
     /// Registers a function in this owner's module, as `FuncRegistration::set_into_module_raw` does. The

@@ -3,7 +3,9 @@ pub mod Finished
 pub mod Found
 pub mod HostEnds
 pub mod Lists
-pub mod Registers
+pub mod Declared
+pub mod ModuleChanges
+pub mod GlobalChanges
 pub mod Stack
 pub mod Stepped
 pub mod Unpicked

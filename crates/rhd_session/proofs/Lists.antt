@@ -17,29 +17,65 @@ use Rattle.rhd_session.specs.Answered.{Declares, declared, Replied, Answered, Be
 -- where no call is begun, none is
 pub begins_none : (command : Command) (n : ℕ) → Begins command n n
 begins_none commands.NewModule n = refl
-begins_none (commands.Script m def) n = refl
-begins_none (commands.RegisterFn name id) n = refl
-begins_none (commands.PushLib m) n = refl
 begins_none commands.PopLib n = refl
+begins_none (commands.SetId m a) n = refl
+begins_none (commands.SetDoc m a) n = refl
+begins_none (commands.SetVar m a b) n = refl
+begins_none (commands.SetType m a b) n = refl
+begins_none (commands.Native m reg n) n = refl
+begins_none (commands.RawNative m name namespace types func) n = refl
+begins_none (commands.Script m def) n = refl
+begins_none (commands.SubModule m name sub) n = refl
+begins_none (commands.Clear m) n = refl
+begins_none (commands.RegisterFn name id) n = refl
+begins_none (commands.RegisterRaw name types id) n = refl
+begins_none (commands.RegisterType kind display) n = refl
+begins_none (commands.PushLib m) n = refl
+begins_none (commands.Count m) n = refl
+begins_none (commands.Contains m key) n = refl
 begins_none (commands.Call request) n = omega arith
 
 -- a command that makes no call is answered by what it declares
 pub declares_replied : {H B : Type 0} (o : Objects H B) (w w2 : World) (f f2 : Frame) (before after : Moment H B) (command : Command) (reply : Reply) → is_call command ≡ false → Declares w f command reply w2 f2 → after ≡ before → Replied o w f before command reply w2 f2 after
 declares_replied o w w2 f f2 before after (commands.Call request) reply q d e = absurd (let x : true ≡ false = q in cc)
 declares_replied o w w2 f f2 before after commands.NewModule reply q d e = (declared d, e)
-declares_replied o w w2 f f2 before after (commands.Script id def) reply q d e = (declared d, e)
-declares_replied o w w2 f f2 before after (commands.RegisterFn name id) reply q d e = (declared d, e)
-declares_replied o w w2 f f2 before after (commands.PushLib id) reply q d e = (declared d, e)
 declares_replied o w w2 f f2 before after commands.PopLib reply q d e = (declared d, e)
+declares_replied o w w2 f f2 before after (commands.SetId m a) reply q d e = (declared d, e)
+declares_replied o w w2 f f2 before after (commands.SetDoc m a) reply q d e = (declared d, e)
+declares_replied o w w2 f f2 before after (commands.SetVar m a b) reply q d e = (declared d, e)
+declares_replied o w w2 f f2 before after (commands.SetType m a b) reply q d e = (declared d, e)
+declares_replied o w w2 f f2 before after (commands.Native m reg n) reply q d e = (declared d, e)
+declares_replied o w w2 f f2 before after (commands.RawNative m name namespace types func) reply q d e = (declared d, e)
+declares_replied o w w2 f f2 before after (commands.Script m def) reply q d e = (declared d, e)
+declares_replied o w w2 f f2 before after (commands.SubModule m name sub) reply q d e = (declared d, e)
+declares_replied o w w2 f f2 before after (commands.Clear m) reply q d e = (declared d, e)
+declares_replied o w w2 f f2 before after (commands.RegisterFn name id) reply q d e = (declared d, e)
+declares_replied o w w2 f f2 before after (commands.RegisterRaw name types id) reply q d e = (declared d, e)
+declares_replied o w w2 f f2 before after (commands.RegisterType kind display) reply q d e = (declared d, e)
+declares_replied o w w2 f f2 before after (commands.PushLib m) reply q d e = (declared d, e)
+declares_replied o w w2 f f2 before after (commands.Count m) reply q d e = (declared d, e)
+declares_replied o w w2 f f2 before after (commands.Contains m key) reply q d e = (declared d, e)
 
 -- nor does it begin one
 pub declares_begins : (command : Command) (before after : ℕ) → is_call command ≡ false → after ≡ before → Begins command before after
 declares_begins (commands.Call request) before after q e = absurd (let x : true ≡ false = q in cc)
 declares_begins commands.NewModule before after q e = e
-declares_begins (commands.Script id def) before after q e = e
-declares_begins (commands.RegisterFn name id) before after q e = e
-declares_begins (commands.PushLib id) before after q e = e
 declares_begins commands.PopLib before after q e = e
+declares_begins (commands.SetId m a) before after q e = e
+declares_begins (commands.SetDoc m a) before after q e = e
+declares_begins (commands.SetVar m a b) before after q e = e
+declares_begins (commands.SetType m a b) before after q e = e
+declares_begins (commands.Native m reg n) before after q e = e
+declares_begins (commands.RawNative m name namespace types func) before after q e = e
+declares_begins (commands.Script m def) before after q e = e
+declares_begins (commands.SubModule m name sub) before after q e = e
+declares_begins (commands.Clear m) before after q e = e
+declares_begins (commands.RegisterFn name id) before after q e = e
+declares_begins (commands.RegisterRaw name types id) before after q e = e
+declares_begins (commands.RegisterType kind display) before after q e = e
+declares_begins (commands.PushLib m) before after q e = e
+declares_begins (commands.Count m) before after q e = e
+declares_begins (commands.Contains m key) before after q e = e
 
 -- the command of a place is the one that stands there
 pub begins_at : (cs : List Command) (i : ℕ) (command other : Command) (before after : ℕ) →

@@ -1,26 +1,41 @@
 -- Which replies answer a list of commands.
 use Rattle.std.specs.Prelude.{◌≡◌, ℕ, ◌≤◌, ◌<◌, Bool, List, [], ◌∷◌, length, take, slice_get, None, Some, Result, Ok, Err}
 use Rattle.rhd_func.specs.declared.request.CallRequest.{CallRequest}
-use Rattle.rhd_module.specs.declared.fault.DeclFault.{DeclFault}
+use Rattle.std.specs.List.{AllByRecursion, Contains}
+use Rattle.rhd_hash.specs.declared.key.Key.{Key}
+use Rattle.rhd_hash.specs.Table.{HasOwnHashes, Clashing}
+use Rattle.rhd_decl.specs.declared.fault.DeclFault.{DeclFault}
+use Rattle.rhd_decl.specs.declared.fault.DeclFault.TheVariants.{HashCollision}
 use Rattle.rhd_call.specs.declared.command.Command.{Command}
 use Rattle.rhd_call.specs.declared.command.Command.TheVariants as commands
 use Rattle.rhd_call.specs.declared.reply.Reply.{Reply}
 use Rattle.rhd_call.specs.declared.reply.Reply.TheVariants.{Refused, Called}
 use Rattle.rhd_engine.specs.Engine.{Frame}
 use Rattle.rhd_session.specs.World.{World, Objects, Moment}
-use Rattle.rhd_session.specs.Commands.{cause, change, Change}
+use Rattle.rhd_session.specs.Commands.{cause, change, Change, Keyed}
 use Rattle.rhd_session.specs.Runs.{Runs}
 use Rattle.rhd_call.specs.declared.reply.Stopped.{Stopped}
 use Rattle.rhd_session.specs.Setting.{Setting}
 
--- what a declaring command answers, and the world and the frame that it leaves
+-- no two keys of a table clash
+abbrev pub NoClash : Keyed → Type 0
+NoClash table = HasOwnHashes table.seeds table.keys
+
+-- What a declaring command answers, and the world and the frame that it leaves. A collision tells two keys of one table that the command would leave.
 pub data Declares (w : World) (f : Frame) (command : Command) : Reply → World → Frame → Type 0 where
   refused : {fault : DeclFault} →
       cause w f command ≡ Some fault →
       Declares w f command (Refused fault) w f
+  collided : {c : Change} {table : Keyed} {held new : Key} →
+      cause w f command ≡ None →
+      change w f command ≡ Some c →
+      Contains c.tables table →
+      Clashing table.seeds table.keys held new →
+      Declares w f command (Refused (HashCollision held new)) w f
   done : {c : Change} →
       cause w f command ≡ None →
       change w f command ≡ Some c →
+      AllByRecursion NoClash c.tables →
       Declares w f command c.reply c.world c.frame
 
 -- the same of a command that may ask the objects that are handed in; none does yet

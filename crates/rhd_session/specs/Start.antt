@@ -1,6 +1,7 @@
 -- A new session.
 use Rattle.std.specs.Prelude.{List, []}
 use Rattle.rhd_value.specs.declared.tag.FnId.{FnId}
+use Rattle.rhd_hash.specs.declared.mixer.Seeds.{Seeds}
 use Rattle.rhd_func.specs.Natives.{NativeInfo}
 use Rattle.rhd_engine.specs.declared.builtins.Operator.{Operator}
 use Rattle.rhd_engine.specs.Start.{start_lists}
@@ -9,8 +10,8 @@ use Rattle.rhd_engine.specs.declared.limits.Printers.{Printers}
 use Rattle.rhd_session.specs.World.{World, Moment, moment}
 
 -- a new engine, and no modules; its frame is that of a new state
-abbrev pub start_world : List NativeInfo → Limits → List (Operator × FnId) → Printers → World
-start_world natives limits builtins printers = record { engine = start_lists natives limits builtins printers; modules = [] }
+abbrev pub start_world : List NativeInfo → Seeds → Limits → List (Operator × FnId) → Printers → World
+start_world natives seeds limits builtins printers = record { engine = start_lists natives seeds limits builtins printers; modules = [] }
 
 -- no call is begun
 abbrev pub start_moment : {H B : Type 0} → H → B → Moment H B

@@ -297,6 +297,13 @@ fn start<H: Host, B: Bodies>(
         RhaiFunc::Method { func: id, .. } => {
             start_native(alloc, engine.natives(), *id, state, node, pick, received)
         }
+        RhaiFunc::Plugin { func: id } => {
+            start_native(alloc, engine.natives(), *id, state, node, pick, received)
+        }
+        RhaiFunc::StaticPlugin { func: id } => {
+            start_native(alloc, engine.natives(), *id, state, node, pick, received)
+        }
+        RhaiFunc::Iterator { .. } => unreachable!(),
     }
 }
 
@@ -384,6 +391,15 @@ fn go_on<H: Host, B: Bodies>(
             let ctx = context_if(func.has_context(natives), ctx);
             natives.resume(alloc, *id, ctx, carry, done)
         }
+        RhaiFunc::Plugin { func: id } => {
+            let ctx = context_if(func.has_context(natives), ctx);
+            natives.resume(alloc, *id, ctx, carry, done)
+        }
+        RhaiFunc::StaticPlugin { func: id } => {
+            let ctx = context_if(func.has_context(natives), ctx);
+            natives.resume(alloc, *id, ctx, carry, done)
+        }
+        RhaiFunc::Iterator { .. } => unreachable!(),
     }
 }
 

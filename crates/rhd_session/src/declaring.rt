@@ -1,26 +1,128 @@
 //! How a session carries out the commands that declare something.
 
-ghost use Rattle.std.specs.Prelude.{◌≡◌, ◌≤◌, ◌<◌, ◌+◌, ◌^◌, IfOk, OnErr, length};
-ghost use Rattle.rhd_module.specs.declared.fault.DeclFault.TheVariants.{UnknownNumber};
+ghost use Rattle.std.specs.Prelude.{◌≡◌, ◌≤◌, ◌<◌, ◌+◌, ◌^◌, true, false, Some, None, is_some, IfOk, OnErr, length};
+ghost use Rattle.rhd_module.specs.Registered.{RegistersRaw};
+ghost use Rattle.rhd_decl.specs.declared.fault.DeclFault.TheVariants.{UnknownNumber};
+ghost use Rattle.rhd_func.specs.Infos.{infos_of};
 ghost use Rattle.rhd_call.specs.declared.command.Command.TheVariants as commands;
-ghost use Rattle.rhd_call.specs.declared.reply.Reply.TheVariants.{Refused};
 ghost use Rattle.rhd_session.specs.Answered.{Declares};
+ghost use Rattle.rhd_session.specs.Changing.{iterator_in, ChangesModule, Goes, IsReply};
+ghost use Rattle.rhd_session.specs.Commands.{target, raw_registration};
 
 use crate::session::Session;
-use rhd_call::{ModuleId, Reply};
-use rhd_func::SharedDef;
-use rhd_module::{DeclFault, Module, SharedModule};
-use rhd_value::{FnId, OutOfMemory, Text};
+use rhd_call::{Command, ModuleId, Reply};
+use rhd_engine::{fn_registration, raw_func};
+use rhd_func::{FnNamespace, IterId, Natives, RhaiFunc};
+use rhd_hash::Key;
+use rhd_module::{DeclFault, FuncRegistration, Module, SharedModule};
+use rhd_value::{FnId, OutOfMemory, Text, TypeTag, Types};
 use std::alloc::Global;
 
 /// The refusal of a number that isn't held.
-fn refused(number: u32, length: usize) -> Reply
-    ensures { result ≡ Refused (UnknownNumber number length) }
+fn unknown(number: u32, length: usize) -> DeclFault
+    ensures { result ≡ UnknownNumber number length }
 {
-    Reply::Refused(DeclFault::UnknownNumber {
+    DeclFault::UnknownNumber {
         number: u64::from(number),
         length: length as u64,
-    })
+    }
+}
+
+/// The reply that an answer is. Want of memory is no reply.
+pub(crate) fn reply_of(answer: Result<(), DeclFault>) -> Result<Reply, OutOfMemory>
+    ensures { IsReply answer result }
+{
+    match answer {
+        Ok(()) => Ok(Reply::Done),
+        Err(DeclFault::OutOfMemory) => Err(OutOfMemory),
+        Err(fault) => Ok(Reply::Refused(fault)),
+    }
+}
+
+/// The module that a command changes by itself.
+pub(crate) fn target(command: &Command) -> Option<ModuleId>
+    ensures { result ≡ target command.now }
+{
+    match command {
+        Command::SetId { module: id, .. } => Some(*id),
+        Command::SetDoc { module: id, .. } => Some(*id),
+        Command::SetVar { module: id, .. } => Some(*id),
+        Command::SetType { module: id, .. } => Some(*id),
+        Command::Native { module: id, .. } => Some(*id),
+        Command::RawNative { module: id, .. } => Some(*id),
+        Command::Script { module: id, .. } => Some(*id),
+        Command::Clear { module: id } => Some(*id),
+        _ => None,
+    }
+}
+
+/// The function that iterates that a command would register in a module.
+fn iterator_in(command: &Command) -> Option<IterId>
+    ensures { result ≡ iterator_in command.now }
+{
+    match command {
+        Command::RawNative { func, .. } => func.get_iter_fn(),
+        _ => None,
+    }
+}
+
+/// A registration that says its name and its namespace alone.
+fn raw_registration(
+    alloc: Global,
+    name: Text,
+    namespace: FnNamespace,
+) -> Result<FuncRegistration, OutOfMemory>
+    ensures { IfOk result (λ reg. reg ≡ raw_registration name namespace) }
+{
+    Ok(FuncRegistration::new(alloc, name)?.with_namespace(namespace))
+}
+
+/// Registers a function in a module under a name and a namespace.
+fn register_raw(
+    alloc: Global,
+    natives: &Natives,
+    changed: &mut SharedModule,
+    name: Text,
+    namespace: FnNamespace,
+    types: &[TypeTag],
+    func: RhaiFunc,
+) -> Result<(), DeclFault>
+    ensures { RegistersRaw (infos_of info natives.now) (raw_registration name namespace) types.now func changed.old result changed.new }
+{
+    let reg = raw_registration(alloc, name, namespace)?;
+    changed.register_raw(alloc, reg, natives, types, func)
+}
+
+/// Changes a module as a command says that changes one module by itself.
+fn change(
+    alloc: Global,
+    natives: &Natives,
+    changed: &mut SharedModule,
+    command: Command,
+) -> Result<(), DeclFault>
+    requires changes { is_some (target command) ≡ true }
+    requires plain { iterator_in command ≡ None }
+    ensures { ChangesModule (infos_of info natives.now) command changed.old result changed.new }
+{
+    match command {
+        Command::SetId { id, .. } => Ok(changed.set_id(alloc, id)?),
+        Command::SetDoc { doc, .. } => Ok(changed.set_doc(alloc, doc)?),
+        Command::SetVar { name, value, .. } => Ok(changed.set_var(alloc, name, value)?),
+        Command::SetType {
+            type_name, display, ..
+        } => Ok(changed.set_custom_type_raw(alloc, type_name, display)?),
+        Command::Native { reg, id, .. } => changed.register(alloc, reg, natives, id),
+        Command::RawNative {
+            name,
+            namespace,
+            types,
+            func,
+            ..
+        } => register_raw(alloc, natives, changed, name, namespace, types.as_slice(), func),
+        Command::Script { def, .. } => changed.set_script_fn(alloc, def),
+        Command::Clear { .. } => Ok(changed.clear(alloc)?),
+        _ => unreachable!(),
+    }
 }
 
 impl Session {
@@ -37,87 +139,160 @@ impl Session {
         ensures count { length (modules_of self.new) ≤ length (modules_of self.old) + 1 }
     {
         let id = ModuleId(self.modules.len() as u32);
-        let made = SharedModule::new(alloc, Module::new(alloc))?;
+        let seeds = self.engine.seeds();
+        let made = SharedModule::new(alloc, Module::new(alloc, seeds)?)?;
         self.modules.push(made)?;
         Ok(Reply::Made(id))
     }
 
-    /// Declares a script in a module, in the place of an equal declaration's.
-    pub(crate) fn script(
+    /// Changes the module of a number as a command says that changes it by itself.
+    pub(crate) fn change_module(
         &mut self,
         alloc: Global,
         id: ModuleId,
-        def: &SharedDef,
-    ) -> Result<Reply, OutOfMemory>
-        ensures applied { IfOk result (λ reply. Declares (world_of info self.old) (frame_of self.old) (commands.Script id def.now) reply (world_of info self.new) (frame_of self.new)) }
-        ensures failed { OnErr result (world_of info self.new ≡ world_of info self.old) }
-        ensures frame { frame_of self.new ≡ frame_of self.old }
+        command: Command,
+    ) -> Result<(), DeclFault>
+        requires { target command ≡ Some id }
+        ensures goes { Goes (world_of info self.old) (frame_of self.old) command result (world_of info self.new) (frame_of self.new) }
         ensures natives { natives_of self.new ≡ natives_of self.old }
         ensures begun { calls_begun_of self.new ≡ calls_begun_of self.old }
         ensures count { length (modules_of self.new) ≡ length (modules_of self.old) }
     {
         let at = id.0 as usize;
         if at >= self.modules.len() {
-            return Ok(refused(id.0, self.modules.len()));
+            return Err(unknown(id.0, self.modules.len()));
         }
-        let def = def.dup(alloc)?;
-        self.modules[at].set_script_fn(alloc, def)?;
-        Ok(Reply::Done)
+        if let Some(iterator) = iterator_in(&command) {
+            return Err(unknown(iterator.0, 0));
+        }
+        let natives = &self.engine.natives;
+        change(alloc, natives, &mut self.modules[at], command)
     }
 
-    /// Registers a native under a name, in the place of an equal declaration's.
-    pub(crate) fn register_fn(
+    /// Puts a module, as it is now, under a name into a module.
+    pub(crate) fn sub_module(
         &mut self,
         alloc: Global,
-        name: &Text,
-        id: FnId,
-    ) -> Result<Reply, OutOfMemory>
-        ensures applied { IfOk result (λ reply. Declares (world_of info self.old) (frame_of self.old) (commands.RegisterFn name.now id) reply (world_of info self.new) (frame_of self.new)) }
-        ensures failed { OnErr result (world_of info self.new ≡ world_of info self.old) }
-        ensures frame { frame_of self.new ≡ frame_of self.old }
+        id: ModuleId,
+        name: Text,
+        sub: ModuleId,
+    ) -> Result<(), DeclFault>
+        ensures goes { Goes (world_of info self.old) (frame_of self.old) (commands.SubModule id name sub) result (world_of info self.new) (frame_of self.new) }
+        ensures natives { natives_of self.new ≡ natives_of self.old }
+        ensures begun { calls_begun_of self.new ≡ calls_begun_of self.old }
+        ensures count { length (modules_of self.new) ≡ length (modules_of self.old) }
+    {
+        let at = id.0 as usize;
+        if at >= self.modules.len() {
+            return Err(unknown(id.0, self.modules.len()));
+        }
+        let from = sub.0 as usize;
+        if from >= self.modules.len() {
+            return Err(unknown(sub.0, self.modules.len()));
+        }
+        let child = self.modules[from].dup(alloc)?;
+        Ok(self.modules[at].set_sub_module(alloc, name, child)?)
+    }
+
+    /// Registers a native under a name for all calls.
+    pub(crate) fn register_fn(&mut self, alloc: Global, name: Text, id: FnId) -> Result<(), DeclFault>
+        ensures goes { Goes (world_of info self.old) (frame_of self.old) (commands.RegisterFn name id) result (world_of info self.new) (frame_of self.new) }
         ensures natives { natives_of self.new ≡ natives_of self.old }
         ensures begun { calls_begun_of self.new ≡ calls_begun_of self.old }
         ensures count { modules_of self.new ≡ modules_of self.old }
     {
         let engine = &mut self.engine;
         let natives = &engine.natives;
-        match engine.globals.register_in_first(alloc, name, natives, id) {
-            Ok(()) => Ok(Reply::Done),
-            Err(DeclFault::OutOfMemory) => Err(OutOfMemory),
-            Err(DeclFault::UnknownNumber { number, length }) => {
-                Ok(Reply::Refused(DeclFault::UnknownNumber { number, length }))
-            }
-        }
+        let reg = fn_registration(alloc, natives, name, id)?;
+        engine.globals.register_in_first(alloc, reg, natives, id)
+    }
+
+    /// Registers a native under a name as a method with these types, for all calls.
+    pub(crate) fn register_raw(
+        &mut self,
+        alloc: Global,
+        name: Text,
+        types: &Types,
+        id: FnId,
+    ) -> Result<(), DeclFault>
+        ensures goes { Goes (world_of info self.old) (frame_of self.old) (commands.RegisterRaw name types.now id) result (world_of info self.new) (frame_of self.new) }
+        ensures natives { natives_of self.new ≡ natives_of self.old }
+        ensures begun { calls_begun_of self.new ≡ calls_begun_of self.old }
+        ensures count { modules_of self.new ≡ modules_of self.old }
+    {
+        let engine = &mut self.engine;
+        let natives = &engine.natives;
+        let types = types.as_slice();
+        let func = raw_func(&name, types, id);
+        let reg = raw_registration(alloc, name, FnNamespace::Global)?;
+        engine.globals.register_raw_in_first(alloc, reg, natives, types, func)
+    }
+
+    /// The custom type of a number is shown by this name.
+    pub(crate) fn register_type(
+        &mut self,
+        alloc: Global,
+        kind: u32,
+        display: Text,
+    ) -> Result<(), DeclFault>
+        ensures goes { Goes (world_of info self.old) (frame_of self.old) (commands.RegisterType kind display) result (world_of info self.new) (frame_of self.new) }
+        ensures natives { natives_of self.new ≡ natives_of self.old }
+        ensures begun { calls_begun_of self.new ≡ calls_begun_of self.old }
+        ensures count { modules_of self.new ≡ modules_of self.old }
+    {
+        let type_name = TypeTag::Custom(kind).type_name(alloc)?;
+        let engine = &mut self.engine;
+        Ok(engine.globals.set_type_in_first(alloc, type_name, display)?)
     }
 
     /// Puts a module last among the libraries.
-    pub(crate) fn push_lib(&mut self, alloc: Global, id: ModuleId) -> Result<Reply, OutOfMemory>
-        ensures applied { IfOk result (λ reply. Declares (world_of info self.old) (frame_of self.old) (commands.PushLib id) reply (world_of info self.new) (frame_of self.new)) }
-        ensures world { world_of info self.new ≡ world_of info self.old }
-        ensures failed { OnErr result (frame_of self.new ≡ frame_of self.old) }
+    pub(crate) fn push_lib(&mut self, alloc: Global, id: ModuleId) -> Result<(), DeclFault>
+        ensures goes { Goes (world_of info self.old) (frame_of self.old) (commands.PushLib id) result (world_of info self.new) (frame_of self.new) }
         ensures natives { natives_of self.new ≡ natives_of self.old }
         ensures begun { calls_begun_of self.new ≡ calls_begun_of self.old }
         ensures count { modules_of self.new ≡ modules_of self.old }
     {
         let at = id.0 as usize;
         if at >= self.modules.len() {
-            return Ok(refused(id.0, self.modules.len()));
+            return Err(unknown(id.0, self.modules.len()));
         }
         let library = self.modules[at].dup(alloc)?;
-        self.state.lib.push(library)?;
-        Ok(Reply::Done)
+        Ok(self.state.lib.push(library)?)
     }
 
     /// Takes the last library off.
-    pub(crate) fn pop_lib(&mut self) -> Reply
-        ensures applied { Declares (world_of info self.old) (frame_of self.old) commands.PopLib result (world_of info self.new) (frame_of self.new) }
+    pub(crate) fn pop_lib(&mut self) -> Result<(), DeclFault>
+        ensures goes { Goes (world_of info self.old) (frame_of self.old) commands.PopLib result (world_of info self.new) (frame_of self.new) }
         ensures natives { natives_of self.new ≡ natives_of self.old }
         ensures begun { calls_begun_of self.new ≡ calls_begun_of self.old }
         ensures count { modules_of self.new ≡ modules_of self.old }
     {
-        let Some(_library) = self.state.lib.pop() else {
-            return refused(0, 0);
-        };
-        Reply::Done
+        match self.state.lib.pop() {
+            Some(_library) => Ok(()),
+            None => Err(unknown(0, 0)),
+        }
+    }
+
+    /// How many variables and functions a module has.
+    pub(crate) fn count(&self, id: ModuleId) -> Reply
+        ensures { Declares (world_of info self.now) (frame_of self.now) (commands.Count id) result (world_of info self.now) (frame_of self.now) }
+    {
+        match self.modules.get(id.0 as usize) {
+            Some(counted) => {
+                let (vars, fns, iterators) = counted.module().count();
+                Reply::Count(vars, fns, iterators)
+            }
+            None => Reply::Refused(unknown(id.0, self.modules.len())),
+        }
+    }
+
+    /// Whether a module has a function under a key.
+    pub(crate) fn contains(&self, id: ModuleId, key: &Key) -> Reply
+        ensures { Declares (world_of info self.now) (frame_of self.now) (commands.Contains id key.now) result (world_of info self.now) (frame_of self.now) }
+    {
+        match self.modules.get(id.0 as usize) {
+            Some(asked) => Reply::Truth(asked.module().contains_fn(key)),
+            None => Reply::Refused(unknown(id.0, self.modules.len())),
+        }
     }
 }

@@ -9,14 +9,17 @@ ghost use Rattle.rhd_session.specs.World.{Moment};
 ghost use Rattle.rhd_session.specs.Objects.{objects_of};
 ghost use Rattle.rhd_session.specs.Start.{start_world};
 ghost use Rattle.rhd_session.specs.Answered.{Declares, CallReplied, Replied, Begins, RunGives};
+ghost use Rattle.rhd_session.specs.Changing.{is_told, Goes};
 ghost use Rattle.rhd_session.specs.Commands.{is_call};
 
+use crate::declaring::{reply_of, target};
 use crate::filling::begun;
 use crate::run::fill;
 use rhd_call::{Command, Commands, Replies, Reply, Stopped};
 use rhd_engine::{Builtins, Engine, GlobalRuntimeState, Limits, Printers};
 use rhd_func::{Bodies, CallRequest, Host, Natives};
-use rhd_module::SharedModule;
+use rhd_hash::Seeds;
+use rhd_module::{DeclFault, SharedModule};
 use rhd_value::OutOfMemory;
 use std::alloc::Global;
 
@@ -35,10 +38,12 @@ pub struct Session {
 impl Session {
     ghost use Rattle.rhd_session.specs.Of.{natives_of, world_of, frame_of, modules_of, calls_begun_of, moment_of, session_setting};
 
-    /// A session in which nothing is registered. Its built-ins are held by the natives.
+    /// A session in which nothing is registered. Its built-ins are held by the natives, and its modules hash
+    /// their keys under these seeds.
     pub fn new(
         alloc: Global,
         natives: Natives,
+        seeds: Seeds,
         limits: Limits,
         builtins: Builtins,
         printers: Printers,
@@ -46,13 +51,13 @@ impl Session {
         requires level { limits.level ≤ 1000 }
         requires builtins { builtins_held (length natives.items.items) builtins ≡ true }
         ensures natives { IfOk result (λ session. natives_of session ≡ natives) }
-        ensures world { IfOk result (λ session. world_of info session ≡ start_world (infos_of info natives) limits builtins printers) }
+        ensures world { IfOk result (λ session. world_of info session ≡ start_world (infos_of info natives) seeds limits builtins printers) }
         ensures frame { IfOk result (λ session. frame_of session ≡ start_frame) }
         ensures modules { IfOk result (λ session. modules_of session ≡ []) }
         ensures begun { IfOk result (λ session. calls_begun_of session ≡ 0) }
     {
         Ok(Session {
-            engine: Engine::new(alloc, natives, builtins, limits, printers)?,
+            engine: Engine::new(alloc, natives, builtins, seeds, limits, printers)?,
             state: GlobalRuntimeState::new(alloc),
             modules: Vec::new(alloc),
             begun: 0,
@@ -60,22 +65,47 @@ impl Session {
     }
 
     /// Answers a command that makes no call.
-    fn declare(&mut self, alloc: Global, command: &Command) -> Result<Reply, OutOfMemory>
-        requires declares { is_call command.now ≡ false }
+    fn declare(&mut self, alloc: Global, command: Command) -> Result<Reply, OutOfMemory>
+        requires declares { is_call command ≡ false }
         requires count { length (modules_of self.old) < 2 ^ 32 }
-        ensures applied { IfOk result (λ reply. Declares (world_of info self.old) (frame_of self.old) command.now reply (world_of info self.new) (frame_of self.new)) }
+        ensures applied { IfOk result (λ reply. Declares (world_of info self.old) (frame_of self.old) command reply (world_of info self.new) (frame_of self.new)) }
         ensures failed { OnErr result ((world_of info self.new ≡ world_of info self.old) × (frame_of self.new ≡ frame_of self.old)) }
         ensures natives { natives_of self.new ≡ natives_of self.old }
         ensures begun { calls_begun_of self.new ≡ calls_begun_of self.old }
         ensures count { length (modules_of self.new) ≤ length (modules_of self.old) + 1 }
     {
+        if let Some(id) = target(&command) {
+            return reply_of(self.change_module(alloc, id, command));
+        }
         match command {
             Command::NewModule => self.new_module(alloc),
-            Command::Script { module: id, def } => self.script(alloc, *id, def),
-            Command::RegisterFn { name, id } => self.register_fn(alloc, name, *id),
-            Command::PushLib { module: id } => self.push_lib(alloc, *id),
-            Command::PopLib => Ok(self.pop_lib()),
-            Command::Call(_) => unreachable!(),
+            Command::Count { module: id } => Ok(self.count(id)),
+            Command::Contains { module: id, key } => Ok(self.contains(id, &key)),
+            told => reply_of(self.register(alloc, told)),
+        }
+    }
+
+    /// Carries out a command that answers nothing but that it is done, and changes no numbered module by
+    /// itself.
+    fn register(&mut self, alloc: Global, command: Command) -> Result<(), DeclFault>
+        requires { is_told command ≡ true }
+        ensures goes { Goes (world_of info self.old) (frame_of self.old) command result (world_of info self.new) (frame_of self.new) }
+        ensures natives { natives_of self.new ≡ natives_of self.old }
+        ensures begun { calls_begun_of self.new ≡ calls_begun_of self.old }
+        ensures count { length (modules_of self.new) ≡ length (modules_of self.old) }
+    {
+        match command {
+            Command::SubModule {
+                module: id,
+                name,
+                sub,
+            } => self.sub_module(alloc, id, name, sub),
+            Command::RegisterFn { name, id } => self.register_fn(alloc, name, id),
+            Command::RegisterRaw { name, types, id } => self.register_raw(alloc, name, &types, id),
+            Command::RegisterType { kind, display } => self.register_type(alloc, kind, display),
+            Command::PushLib { module: id } => self.push_lib(alloc, id),
+            Command::PopLib => self.pop_lib(),
+            _ => unreachable!(),
         }
     }
 
@@ -139,7 +169,7 @@ impl Session {
         match command {
             Command::Call(request) => self.call(alloc, request, replies, host, bodies),
             declared => {
-                replies.push_reserved(self.declare(alloc, &declared)?);
+                replies.push_reserved(self.declare(alloc, declared)?);
                 Ok(())
             }
         }

@@ -1,0 +1,148 @@
+-- What the commands that declare something answer and leave.
+use Rattle.std.proofs.Common.{◌≡◌, ◌≤◌, ◌<◌, ℕ, Bool, true, false, not, List, [], ◌∷◌, ◌++◌, length, refl, sym, ap, subst, ◌∙◌, get_or, arith}
+use Rattle.std.specs.Prelude.{zero, suc, ◌||◌, Option, Some, None, Result, Ok, Err, IfOk, OnErr, nat_lt, map, take, slice_get, slice_set, option_map, option_and_then}
+use Rattle.std.specs.List.{AllByRecursion, Contains}
+use Rattle.std.specs.Map.{keys_of}
+use Rattle.std.specs.Option.{option_or}
+use Rattle.std.proofs.lemmas.Bool.{lt-ltb, le-ltb}
+use Rattle.std.proofs.lemmas.Option.{slice_get_within}
+use Rattle.rhd_value.specs.Tree.{Bytes}
+use Rattle.rhd_value.specs.Firsts.{first_of, first_some, where_holds}
+use Rattle.rhd_value.specs.declared.memory.OutOfMemory.{OutOfMemory}
+use Rattle.rhd_value.specs.declared.tag.FnId.{FnId}
+use Rattle.rhd_hash.specs.declared.key.Key.{Key}
+use Rattle.rhd_func.specs.Natives.{NativeInfo}
+use Rattle.rhd_func.specs.declared.access.IterId.{IterId}
+use Rattle.rhd_func.specs.declared.func.RhaiFunc.{RhaiFunc}
+use Rattle.rhd_func.specs.declared.func.RhaiFunc.TheVariants as funcs
+use Rattle.rhd_func.specs.Funcs.{native_of, iter_fn_of}
+use Rattle.rhd_decl.specs.declared.declaration.Declaration.{Declaration}
+use Rattle.rhd_decl.specs.declared.fault.DeclFault.{DeclFault}
+use Rattle.rhd_decl.specs.declared.fault.DeclFault.TheVariants.{HashCollision, IndexerNotAllowed, NotCallable, UnknownNumber, OutOfMemory as no_memory}
+use Rattle.rhd_module.specs.Tree.{ModuleTree, empty_module}
+use Rattle.rhd_module.specs.Contents.{with_sub}
+use Rattle.rhd_module.specs.Registered.{with_decl, unheld, Puts}
+use Rattle.rhd_engine.specs.Engine.{Frame}
+use Rattle.rhd_engine.specs.Registered.{in_first, InFirst}
+use Rattle.rhd_call.specs.declared.command.Command.{Command}
+use Rattle.rhd_call.specs.declared.command.ModuleId.{ModuleId}
+use Rattle.rhd_call.specs.declared.command.Command.TheVariants as commands
+use Rattle.rhd_call.specs.declared.reply.Reply.{Reply}
+use Rattle.rhd_call.specs.declared.reply.Reply.TheVariants.{Done, Made, Refused}
+use Rattle.rhd_session.specs.World.{World}
+use Rattle.rhd_session.specs.Commands.{cause, change, Change, ChangedModule, Keyed, eager_keys, with_keys, without_keys, module_change, target, operands, pop_operand, unknown_of, not_callable, indexer_not_allowed, with_module, changed, changed_by, changed_first, with_globals, with_libs, but_last, func_operands}
+use Rattle.rhd_session.specs.Answered.{Declares, refused, collided, done, NoClash}
+use Rattle.rhd_session.specs.Changing.{ChangesModule, Goes, IsReply, module_cause, native_in, iterator_in}
+
+-- Replies.
+
+-- an answer as a reply
+pub replied : (w w2 : World) (f f2 : Frame) (command : Command) (r : Result (Unit {0}) DeclFault) (p : Result Reply OutOfMemory) → IsReply r p → Goes w f command r w2 f2 → IfOk p (λ reply. Declares w f command reply w2 f2) × OnErr p ((w2 ≡ w) × (f2 ≡ f))
+replied w w2 f f2 command (Ok u) (Ok reply) is goes = (subst (λ (x : Reply). Declares w f command x w2 f2) (sym is) goes, tt)
+replied w w2 f f2 command (Ok u) (Err e) is goes = absurd is
+replied w w2 f f2 command (Err no_memory) (Ok reply) is goes = absurd is
+replied w w2 f f2 command (Err no_memory) (Err e) is goes = (tt, goes)
+replied w w2 f f2 command (Err (HashCollision held new)) (Ok reply) is goes = (subst (λ (x : Reply). Declares w f command x w2 f2) (sym is) goes, tt)
+replied w w2 f f2 command (Err (HashCollision held new)) (Err e) is goes = absurd is
+replied w w2 f f2 command (Err (IndexerNotAllowed key)) (Ok reply) is goes = (subst (λ (x : Reply). Declares w f command x w2 f2) (sym is) goes, tt)
+replied w w2 f f2 command (Err (IndexerNotAllowed key)) (Err e) is goes = absurd is
+replied w w2 f f2 command (Err NotCallable) (Ok reply) is goes = (subst (λ (x : Reply). Declares w f command x w2 f2) (sym is) goes, tt)
+replied w w2 f f2 command (Err NotCallable) (Err e) is goes = absurd is
+replied w w2 f f2 command (Err (UnknownNumber number count)) (Ok reply) is goes = (subst (λ (x : Reply). Declares w f command x w2 f2) (sym is) goes, tt)
+replied w w2 f f2 command (Err (UnknownNumber number count)) (Err e) is goes = absurd is
+
+-- Numbers that aren't held.
+
+-- an unknown number is the cause
+by_unknown : (w : World) (f : Frame) (command : Command) (fault : DeclFault) → first_of unknown_of (operands w f command) ≡ Some fault → cause w f command ≡ Some fault
+by_unknown w f command fault is = ap (λ (u : Option DeclFault). first_some (u ∷ not_callable command ∷ indexer_not_allowed w.engine.natives command ∷ [])) is
+
+first_unknown : (number held : ℕ) (more : List (ℕ × ℕ)) (below : Bool) → nat_lt number held ≡ below → below ≡ false → first_of unknown_of ((number, held) ∷ more) ≡ Some (UnknownNumber number held)
+first_unknown number held more true is e = absurd cc
+first_unknown number held more false is e = ap (λ (b : Bool). option_or (where_holds (not b) (UnknownNumber number held)) (first_of unknown_of more)) is
+
+-- the first operand isn't held
+pub refused_first : (w : World) (f : Frame) (command : Command) (number held n h : ℕ) (more : List (ℕ × ℕ)) → operands w f command ≡ (number, held) ∷ more → n ≡ number → h ≡ held → held ≤ number → Declares w f command (Refused (UnknownNumber n h)) w f
+refused_first w f command number held n h more is en eh past =
+    let found : cause w f command ≡ Some (UnknownNumber number held) = by_unknown w f command (UnknownNumber number held) (ap (first_of unknown_of) is ∙ first_unknown number held more (nat_lt number held) refl (le-ltb number held past)) in
+    refused (found ∙ (λ i. Some (UnknownNumber (sym en i) (sym eh i))))
+
+passed : (number held : ℕ) (more : List (ℕ × ℕ)) (below : Bool) → nat_lt number held ≡ below → below ≡ true → first_of unknown_of ((number, held) ∷ more) ≡ first_of unknown_of more
+passed number held more true is e = ap (λ (b : Bool). option_or (where_holds (not b) (UnknownNumber number held)) (first_of unknown_of more)) is
+passed number held more false is e = absurd cc
+
+-- the second isn't
+pub refused_second : (w : World) (f : Frame) (command : Command) (first all number held n h : ℕ) (more : List (ℕ × ℕ)) → operands w f command ≡ (first, all) ∷ (number, held) ∷ more → first < all → n ≡ number → h ≡ held → held ≤ number
+    → Declares w f command (Refused (UnknownNumber n h)) w f
+refused_second w f command first all number held n h more is below en eh past =
+    let found : cause w f command ≡ Some (UnknownNumber number held) =
+      by_unknown w f command (UnknownNumber number held)
+      (ap (first_of unknown_of) is ∙ passed first all ((number, held) ∷ more) (nat_lt first all) refl (lt-ltb first all below) ∙ first_unknown number held more (nat_lt number held) refl (le-ltb number held past)) in
+    refused (found ∙ (λ i. Some (UnknownNumber (sym en i) (sym eh i))))
+
+-- all operands are held, and nothing else refuses the command
+pub none_refuses : (w : World) (f : Frame) (command : Command) → first_of unknown_of (operands w f command) ≡ None → not_callable command ≡ None → indexer_not_allowed w.engine.natives command ≡ None → cause w f command ≡ None
+none_refuses w f command unknown callable allowed = λ i. first_some (unknown i ∷ callable i ∷ allowed i ∷ [])
+
+pub one_held : (number held : ℕ) → number < held → first_of unknown_of ((number, held) ∷ []) ≡ None
+one_held number held below = passed number held [] (nat_lt number held) refl (lt-ltb number held below)
+
+pub two_held : (first all number held : ℕ) → first < all → number < held → first_of unknown_of ((first, all) ∷ (number, held) ∷ []) ≡ None
+two_held first all number held below under = passed first all ((number, held) ∷ []) (nat_lt first all) refl (lt-ltb first all below) ∙ one_held number held under
+
+-- what stands at a place
+pub at_place : (ms : List ModuleTree) (i : ℕ) (m : ModuleTree) → i < length ms → m ≡ get_or ms i m → slice_get ms i ≡ Some m
+at_place [] i m h is = absurd (omega arith)
+at_place (x ∷ ms) zero m h is = ap Some (sym is)
+at_place (x ∷ ms) (suc i) m h is = at_place ms i m (omega arith) is
+
+-- the same put there changes nothing
+pub set_there : (ms : List ModuleTree) (i : ℕ) (m : ModuleTree) → slice_get ms i ≡ Some m → slice_set ms i m ≡ ms
+set_there [] i m is = refl
+set_there (x ∷ ms) zero m is = let same : x ≡ m = cc in ap (λ (y : ModuleTree). y ∷ ms) (sym same)
+set_there (x ∷ ms) (suc i) m is = ap (λ (ns : List ModuleTree). x ∷ ns) (set_there ms i m is)
+
+-- a command that is done, where the world and the frame are equal ones
+pub done_in : (w w2 : World) (f f2 : Frame) (command : Command) (c : Change) → cause w f command ≡ None → change w f command ≡ Some c → AllByRecursion NoClash c.tables → w2 ≡ c.world → f2 ≡ c.frame → Declares w f command c.reply w2 f2
+done_in w w2 f f2 command c none changes clear ew ef =
+    subst (λ (x : World). Declares w f command c.reply x f2) (sym ew) (subst (λ (x : Frame). Declares w f command c.reply c.world x) (sym ef) (done none changes clear))
+
+-- Commands on libraries, and questions.
+
+pub push_goes : (w : World) (f f2 : Frame) (id : ModuleId) (added : ModuleTree) → slice_get w.modules id.0 ≡ Some added → f2 ≡ record f { lib = f.lib ++ added ∷ [] } → Declares w f (commands.PushLib id) Done w f2
+push_goes w f f2 id added is made =
+    let none = none_refuses w f (commands.PushLib id) (one_held id.0 (length w.modules) (slice_get_within w.modules id.0 added is)) refl refl in
+    done_in w w f f2 (commands.PushLib id) (with_libs w f (f.lib ++ added ∷ [])) none (ap (option_map (λ m. with_libs w f (f.lib ++ m ∷ []))) is) tt refl made
+
+pub made_goes : (w w2 : World) (f : Frame) (id : ModuleId) → id.0 ≡ length w.modules → w2 ≡ record w { modules = w.modules ++ empty_module w.engine.seeds ∷ [] } → Declares w f commands.NewModule (Made id) w2 f
+made_goes w w2 f id n made =
+    let same : id ≡ record { 0 = length w.modules } = λ i. record { 0 = n i } in
+    subst (λ (x : ModuleId). Declares w f commands.NewModule (Made x) w2 f) (sym same)
+    (subst (λ (x : World). Declares w f commands.NewModule (Made (record { 0 = length w.modules })) x f) (sym made) (done refl refl tt))
+
+but_last_push : (ms : List ModuleTree) (m : ModuleTree) → but_last (ms ++ m ∷ []) ≡ ms
+but_last_push [] m = refl
+but_last_push (x ∷ []) m = refl
+but_last_push (x ∷ y ∷ ms) m = ap (λ (ns : List ModuleTree). x ∷ ns) (but_last_push (y ∷ ms) m)
+
+one_left : (libs : List ModuleTree) (m : ModuleTree) → first_of unknown_of (pop_operand (libs ++ m ∷ [])) ≡ None
+one_left [] m = refl
+one_left (x ∷ libs) m = refl
+
+pub pop_goes : (w : World) (f f2 : Frame) (libs : List ModuleTree) (m : ModuleTree) → f.lib ≡ libs ++ m ∷ [] → f2 ≡ record f { lib = libs } → Declares w f commands.PopLib Done w f2
+pop_goes w f f2 libs m is made =
+    let none = none_refuses w f commands.PopLib (ap (λ (ms : List ModuleTree). first_of unknown_of (pop_operand ms)) is ∙ one_left libs m) refl refl in
+    let left : but_last f.lib ≡ libs = ap but_last is ∙ but_last_push libs m in
+    done_in w w f f2 commands.PopLib (with_libs w f (but_last f.lib)) none refl tt refl (made ∙ ap (λ (ms : List ModuleTree). record f { lib = ms }) (sym left))
+
+pub pop_refused : (w : World) (f f2 : Frame) → f.lib ≡ [] → f2 ≡ f → Declares w f commands.PopLib (Refused (UnknownNumber 0 0)) w f2
+pop_refused w f f2 none same =
+    let found : cause w f commands.PopLib ≡ Some (UnknownNumber 0 0) = by_unknown w f commands.PopLib (UnknownNumber 0 0) (ap (λ (ms : List ModuleTree). first_of unknown_of (pop_operand ms)) none) in
+    subst (λ (x : Frame). Declares w f commands.PopLib (Refused (UnknownNumber 0 0)) w x) (sym same) (refused found)
+
+-- a question about a module that is held
+pub asked_goes : (w : World) (f : Frame) (command : Command) (id : ModuleId) (m : ModuleTree) (reply same : Reply) → operands w f command ≡ (id.0, length w.modules) ∷ [] → not_callable command ≡ None → indexer_not_allowed w.engine.natives command ≡ None → slice_get w.modules id.0 ≡ Some m
+    → change w f command ≡ Some (record { reply = same; world = w; frame = f; tables = [] }) → reply ≡ same → Declares w f command reply w f
+asked_goes w f command id m reply same is callable allowed there changes e =
+    let none = none_refuses w f command (ap (first_of unknown_of) is ∙ one_held id.0 (length w.modules) (slice_get_within w.modules id.0 m there)) callable allowed in
+    subst (λ (x : Reply). Declares w f command x w f) (sym e) (done none changes tt)

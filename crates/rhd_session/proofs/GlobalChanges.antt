@@ -1,0 +1,108 @@
+-- Commands that change the first global module, or put one module into another.
+use Rattle.std.proofs.Common.{◌≡◌, ◌<◌, ℕ, Bool, true, false, List, [], ◌∷◌, length, refl, sym, ap, subst, ◌∙◌, arith}
+use Rattle.std.specs.Prelude.{Option, Some, None, Result, Ok, Err, OnOk, OnErr, map, take, slice_get, slice_set, option_map, option_and_then}
+use Rattle.std.specs.List.{AllByRecursion, Contains}
+use Rattle.std.specs.Option.{option_or}
+use Rattle.std.proofs.lemmas.Option.{slice_get_within}
+use Rattle.rhd_value.specs.Tree.{Bytes}
+use Rattle.rhd_value.specs.Firsts.{first_of, first_some}
+use Rattle.rhd_value.specs.declared.tag.FnId.{FnId}
+use Rattle.rhd_value.specs.declared.tag.TypeTag.{TypeTag}
+use Rattle.rhd_hash.specs.declared.key.Key.{Key}
+use Rattle.rhd_func.specs.Natives.{NativeInfo}
+use Rattle.rhd_func.specs.declared.func.RhaiFunc.{RhaiFunc}
+use Rattle.rhd_decl.specs.declared.declaration.Declaration.{Declaration}
+use Rattle.rhd_decl.specs.declared.fault.DeclFault.{DeclFault}
+use Rattle.rhd_decl.specs.declared.fault.DeclFault.TheVariants.{HashCollision, IndexerNotAllowed, NotCallable, UnknownNumber, OutOfMemory as no_memory}
+use Rattle.rhd_module.specs.Tree.{ModuleTree}
+use Rattle.rhd_value.specs.declared.tag.TypeTag.TheVariants.{Custom}
+use Rattle.rhd_value.specs.Kinds.{type_name}
+use Rattle.rhd_func.specs.declared.access.FnNamespace.TheVariants.{Global}
+use Rattle.rhd_module.specs.Contents.{with_sub, with_type}
+use Rattle.rhd_module.specs.Registered.{with_decl, unheld, native_at, native_key, native_decl, registered_decl, Puts}
+use Rattle.rhd_engine.specs.Engine.{Frame}
+use Rattle.rhd_engine.specs.Registered.{in_first, InFirst, RegistersFirst, RegistersRawFirst, fn_registration, raw_func}
+use Rattle.rhd_call.specs.declared.command.Command.{Command}
+use Rattle.rhd_call.specs.declared.command.ModuleId.{ModuleId}
+use Rattle.rhd_call.specs.declared.command.Command.TheVariants as commands
+use Rattle.rhd_call.specs.declared.reply.Reply.TheVariants.{Done}
+use Rattle.rhd_session.specs.World.{World}
+use Rattle.rhd_session.specs.Commands.{cause, change, Change, Keyed, eager_keys, without_keys, with_module, changed_first, with_globals, unknown_of, not_callable, indexer_not_allowed, raw_registration}
+use Rattle.rhd_session.specs.Answered.{Declares, refused, collided, NoClash}
+use Rattle.rhd_session.specs.Changing.{Goes}
+use Rattle.rhd_session.proofs.Declared.{none_refuses, two_held, done_in}
+
+-- a declaration is put into the first of these modules
+abbrev PutsFirst : Option DeclFault → (ModuleTree → Key) → (ModuleTree → Declaration) → List ModuleTree → Result (Unit {0}) DeclFault → List ModuleTree → Type 0
+PutsFirst known k d old r new = InFirst (λ m changed. Puts known (k m) (d m) m r changed) old new
+
+abbrev in_globals : World → List ModuleTree → World
+in_globals w globals = record w { engine = record w.engine { globals = globals } }
+
+module _ (w : World) (f : Frame) (command : Command) (k : ModuleTree → Key) (d : ModuleTree → Declaration) (known : Option DeclFault) (caused : cause w f command ≡ known) where
+  first_step : (m changed : ModuleTree) (ms : List ModuleTree) (r : Result (Unit {0}) DeclFault) → w.engine.globals ≡ m ∷ ms
+      → change w f command ≡ Some (with_globals w f (with_decl (k m) (d m) m ∷ ms) (eager_keys (with_decl (k m) (d m) m) ∷ [])) → Puts known (k m) (d m) m r changed → Goes w f command r (in_globals w (changed ∷ ms)) f
+  first_step m changed ms (Ok u) is changes puts =
+      done_in w (in_globals w (changed ∷ ms)) f f command (with_globals w f (with_decl (k m) (d m) m ∷ ms) (eager_keys (with_decl (k m) (d m) m) ∷ [])) (caused ∙ puts.0) changes (puts.1, tt)
+      (ap (λ (x : ModuleTree). in_globals w (x ∷ ms)) puts.2) refl
+  first_step m changed ms (Err no_memory) is changes puts = (ap (λ (x : ModuleTree). in_globals w (x ∷ ms)) puts ∙ ap (in_globals w) (sym is), refl)
+  first_step m changed ms (Err (HashCollision held other)) is changes puts =
+      subst (λ (x : World). Goes w f command (Err (HashCollision held other)) x f) (sym (ap (λ (x : ModuleTree). in_globals w (x ∷ ms)) puts.2 ∙ ap (in_globals w) (sym is)))
+      (collided (caused ∙ puts.0) changes (0, (omega arith, refl)) puts.1)
+  first_step m changed ms (Err (IndexerNotAllowed key)) is changes puts =
+      subst (λ (x : World). Goes w f command (Err (IndexerNotAllowed key)) x f) (sym (ap (λ (x : ModuleTree). in_globals w (x ∷ ms)) puts.1 ∙ ap (in_globals w) (sym is))) (refused (caused ∙ puts.0))
+  first_step m changed ms (Err NotCallable) is changes puts =
+      subst (λ (x : World). Goes w f command (Err NotCallable) x f) (sym (ap (λ (x : ModuleTree). in_globals w (x ∷ ms)) puts.1 ∙ ap (in_globals w) (sym is))) (refused (caused ∙ puts.0))
+  first_step m changed ms (Err (UnknownNumber number count)) is changes puts =
+      subst (λ (x : World). Goes w f command (Err (UnknownNumber number count)) x f) (sym (ap (λ (x : ModuleTree). in_globals w (x ∷ ms)) puts.1 ∙ ap (in_globals w) (sym is))) (refused (caused ∙ puts.0))
+
+  first_goes : (globals new : List ModuleTree) (r : Result (Unit {0}) DeclFault) → w.engine.globals ≡ globals → change w f command ≡ Some (changed_first w f (λ m. with_decl (k m) (d m) m)) → PutsFirst known k d globals r new
+      → Goes w f command r (in_globals w new) f
+  first_goes [] new r is changes puts = absurd puts
+  first_goes (m ∷ ms) new r is changes puts =
+      let made : change w f command ≡ Some (with_globals w f (with_decl (k m) (d m) m ∷ ms) (eager_keys (with_decl (k m) (d m) m) ∷ [])) =
+        changes ∙ ap (λ (gs : List ModuleTree). let globals = in_first (λ m. with_decl (k m) (d m) m) gs in Some (with_globals w f globals (map eager_keys (take 1 globals)))) is in
+      subst (λ (gs : List ModuleTree). Goes w f command r (in_globals w gs) f) (sym puts.2) (first_step m puts.0 ms r is made puts.1)
+
+or_none : (o : Option DeclFault) → option_or o None ≡ o
+or_none None = refl
+or_none (Some fault) = refl
+
+-- a native's number and an indexer are all that refuses a registration for all calls
+fn_caused : (w : World) (f : Frame) (name : Bytes) (id : FnId) → cause w f (commands.RegisterFn name id) ≡ first_some (unheld w.engine.natives (Some id) ∷ indexer_not_allowed w.engine.natives (commands.RegisterFn name id) ∷ [])
+fn_caused w f name id = ap (λ (u : Option DeclFault). first_some (u ∷ indexer_not_allowed w.engine.natives (commands.RegisterFn name id) ∷ [])) (or_none (unheld w.engine.natives (Some id)))
+
+raw_caused : (w : World) (f : Frame) (name : Bytes) (types : List TypeTag) (id : FnId)
+    → cause w f (commands.RegisterRaw name types id) ≡ first_some (unheld w.engine.natives (Some id) ∷ None ∷ indexer_not_allowed w.engine.natives (commands.RegisterRaw name types id) ∷ [])
+raw_caused w f name types id = ap (λ (u : Option DeclFault). first_some (u ∷ None ∷ indexer_not_allowed w.engine.natives (commands.RegisterRaw name types id) ∷ [])) (or_none (unheld w.engine.natives (Some id)))
+
+pub fn_goes : (w w2 : World) (f : Frame) (name : Bytes) (id : FnId) (new : List ModuleTree) (r : Result (Unit {0}) DeclFault) → RegistersFirst w.engine.natives (fn_registration w.engine.natives name id) id w.engine.globals r new → w2 ≡ in_globals w new
+    → Goes w f (commands.RegisterFn name id) r w2 f
+fn_goes w w2 f name id new r is made =
+    let natives = w.engine.natives in
+    let info = native_at natives id in
+    let reg = fn_registration natives name id in
+    subst (λ (x : World). Goes w f (commands.RegisterFn name id) r x f) (sym made)
+    (first_goes w f (commands.RegisterFn name id) (λ m. native_key info.is_method name info.types) (λ m. registered_decl m.own.seeds reg info id) _ (fn_caused w f name id) w.engine.globals new r refl refl is)
+
+pub raw_goes : (w w2 : World) (f : Frame) (name : Bytes) (types : List TypeTag) (id : FnId) (new : List ModuleTree) (r : Result (Unit {0}) DeclFault)
+    → RegistersRawFirst w.engine.natives (raw_registration name Global) types (raw_func name types id) w.engine.globals r new → w2 ≡ in_globals w new → Goes w f (commands.RegisterRaw name types id) r w2 f
+raw_goes w w2 f name types id new r is made =
+    let reg = raw_registration name Global in
+    let func = raw_func name types id in
+    subst (λ (x : World). Goes w f (commands.RegisterRaw name types id) r x f) (sym made)
+    (first_goes w f (commands.RegisterRaw name types id) (λ m. native_key true name types) (λ m. native_decl m.own.seeds reg true types func) _ (raw_caused w f name types id) w.engine.globals new r refl refl is)
+
+-- a type is shown otherwise in the first global module
+pub type_goes : (w w2 : World) (f : Frame) (kind : ℕ) (display : Bytes) (new : List ModuleTree) → new ≡ in_first (with_type (type_name (Custom kind)) display []) w.engine.globals → w2 ≡ in_globals w new → Declares w f (commands.RegisterType kind display) Done w2 f
+type_goes w w2 f kind display new is made =
+    done_in w w2 f f (commands.RegisterType kind display) (with_globals w f (in_first (with_type (type_name (Custom kind)) display []) w.engine.globals) []) refl refl tt (made ∙ ap (in_globals w) is) refl
+
+-- one module is put into another
+pub sub_goes : (w w2 : World) (f : Frame) (id sub : ModuleId) (name : Bytes) (old child new : ModuleTree) → slice_get w.modules id.0 ≡ Some old → slice_get w.modules sub.0 ≡ Some child → new ≡ with_sub name child old
+    → w2 ≡ record w { modules = slice_set w.modules id.0 new } → Declares w f (commands.SubModule id name sub) Done w2 f
+sub_goes w w2 f id sub name old child new is from puts made =
+    let none = none_refuses w f (commands.SubModule id name sub) (two_held id.0 (length w.modules) sub.0 (length w.modules) (slice_get_within w.modules id.0 old is) (slice_get_within w.modules sub.0 child from)) refl refl in
+    let changes : change w f (commands.SubModule id name sub) ≡ Some (with_module w f id (without_keys (with_sub name child old))) =
+      ap (option_and_then (λ c. option_map (λ o. with_module w f id (without_keys (with_sub name c o))) (slice_get w.modules id.0))) from ∙ ap (option_map (λ o. with_module w f id (without_keys (with_sub name child o)))) is in
+    done_in w w2 f f (commands.SubModule id name sub) (with_module w f id (without_keys (with_sub name child old))) none changes tt (made ∙ ap (λ (m : ModuleTree). record w { modules = slice_set w.modules id.0 m }) puts) refl

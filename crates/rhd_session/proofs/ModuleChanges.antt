@@ -1,0 +1,143 @@
+-- Commands that change one module by themselves.
+use Rattle.std.proofs.Common.{◌≡◌, ◌<◌, ℕ, Bool, true, false, not, List, [], ◌∷◌, length, refl, sym, ap, subst, ◌∙◌, arith}
+use Rattle.std.specs.Prelude.{◌||◌, Option, Some, None, Result, Ok, Err, nat_lt, slice_get, slice_set, option_map}
+use Rattle.std.specs.List.{AllByRecursion, Contains}
+use Rattle.std.specs.Option.{option_or}
+use Rattle.std.proofs.lemmas.Bool.{lt-ltb}
+use Rattle.std.proofs.lemmas.Option.{slice_get_within}
+use Rattle.rhd_value.specs.Firsts.{first_of, first_some, where_holds}
+use Rattle.rhd_value.specs.declared.tag.FnId.{FnId}
+use Rattle.rhd_hash.specs.declared.key.Key.{Key}
+use Rattle.rhd_hash.specs.Table.{Clashing}
+use Rattle.rhd_func.specs.Natives.{NativeInfo}
+use Rattle.rhd_func.specs.declared.func.RhaiFunc.{RhaiFunc}
+use Rattle.rhd_func.specs.declared.func.RhaiFunc.TheVariants as funcs
+use Rattle.rhd_func.specs.Funcs.{native_of, iter_fn_of}
+use Rattle.rhd_decl.specs.declared.declaration.Declaration.{Declaration}
+use Rattle.rhd_decl.specs.declared.fault.DeclFault.{DeclFault}
+use Rattle.rhd_decl.specs.declared.fault.DeclFault.TheVariants.{HashCollision, IndexerNotAllowed, NotCallable, UnknownNumber, OutOfMemory as no_memory}
+use Rattle.rhd_module.specs.Tree.{ModuleTree}
+use Rattle.rhd_module.specs.Registered.{with_decl, unheld, Puts}
+use Rattle.rhd_engine.specs.Engine.{Frame}
+use Rattle.rhd_engine.specs.Held.{names_held}
+use Rattle.rhd_call.specs.declared.command.Command.{Command}
+use Rattle.rhd_call.specs.declared.command.ModuleId.{ModuleId}
+use Rattle.rhd_call.specs.declared.command.Command.TheVariants as commands
+use Rattle.rhd_session.specs.World.{World}
+use Rattle.rhd_session.specs.Commands.{cause, change, Keyed, ChangedModule, with_keys, without_keys, module_change, target, operands, func_operands, unknown_of, not_callable, indexer_not_allowed, with_module}
+use Rattle.rhd_session.specs.Answered.{Declares, refused, collided, NoClash}
+use Rattle.rhd_session.specs.Changing.{ChangesModule, Goes, module_cause, native_in, iterator_in}
+use Rattle.rhd_session.proofs.Declared.{set_there, done_in}
+
+-- a declaration that is put is a change with the keys of the new table
+pub puts_change : (natives : List NativeInfo) (command : Command) (known : Option DeclFault) (k : Key) (d : Declaration) (old new : ModuleTree) (r : Result (Unit {0}) DeclFault) → module_cause natives command ≡ known → module_change natives command old ≡ with_keys (with_decl k d old)
+    → Puts known k d old r new → ChangesModule natives command old r new
+puts_change natives command known k d old new (Ok u) none is puts =
+    (none ∙ puts.0, subst (λ (c : ChangedModule). AllByRecursion NoClash c.tables) (sym is) (puts.1, tt), puts.2 ∙ ap (λ (c : ChangedModule). c.tree) (sym is))
+puts_change natives command known k d old new (Err no_memory) none is puts = puts
+puts_change natives command known k d old new (Err (HashCollision held other)) none is puts = (
+    none ∙ puts.0,
+    subst (λ (c : ChangedModule). (table : Keyed) × Contains c.tables table × Clashing table.seeds table.keys held other) (sym is) (_, (0, (omega arith, refl)), puts.1),
+    puts.2,
+  )
+puts_change natives command known k d old new (Err (IndexerNotAllowed key)) none is puts = (none ∙ puts.0, puts.1)
+puts_change natives command known k d old new (Err NotCallable) none is puts = (none ∙ puts.0, puts.1)
+puts_change natives command known k d old new (Err (UnknownNumber number count)) none is puts = (none ∙ puts.0, puts.1)
+
+-- where the only operand before is held, those behind it refuse
+behind : (number held : ℕ) (more : List (ℕ × ℕ)) → nat_lt number held ≡ true → first_of unknown_of ((number, held) ∷ more) ≡ first_of unknown_of more
+behind number held more below = ap (λ (b : Bool). option_or (where_holds (not b) (UnknownNumber number held)) (first_of unknown_of more)) below
+
+or_none : (o : Option DeclFault) → option_or o None ≡ o
+or_none None = refl
+or_none (Some fault) = refl
+
+func_unheld : (w : World) (func : RhaiFunc) → iter_fn_of func ≡ None → first_of unknown_of (func_operands w func) ≡ unheld w.engine.natives (native_of func)
+func_unheld w (funcs.Pure id context pure volatile) none = or_none _
+func_unheld w (funcs.Method id context pure volatile) none = or_none _
+func_unheld w (funcs.Iterator id) none = absurd cc
+func_unheld w (funcs.Plugin id) none = or_none _
+func_unheld w (funcs.StaticPlugin id) none = or_none _
+func_unheld w (funcs.Script def env) none = refl
+
+caused : (w : World) (command : Command) (unknown : Option DeclFault) → unknown ≡ unheld w.engine.natives (native_in command) → first_some (unknown ∷ not_callable command ∷ indexer_not_allowed w.engine.natives command ∷ []) ≡ module_cause w.engine.natives command
+caused w command unknown is = ap (λ (u : Option DeclFault). first_some (u ∷ not_callable command ∷ indexer_not_allowed w.engine.natives command ∷ [])) is
+
+below_same : (w : World) (m other : ModuleId) → Some m ≡ Some other → nat_lt other.0 (length w.modules) ≡ true → nat_lt m.0 (length w.modules) ≡ true
+below_same w m other e below = let same : m ≡ other = cc in ap (λ (id : ModuleId). nat_lt id.0 (length w.modules)) same ∙ below
+
+-- of a module that is held, the cause is the module's
+cause_held : (w : World) (f : Frame) (command : Command) (id : ModuleId) → target command ≡ Some id → iterator_in command ≡ None → nat_lt id.0 (length w.modules) ≡ true → cause w f command ≡ module_cause w.engine.natives command
+cause_held w f (commands.SetId m a) id at plain below = caused w (commands.SetId m a) _ (behind m.0 (length w.modules) [] (below_same w m id at below))
+cause_held w f (commands.SetDoc m a) id at plain below = caused w (commands.SetDoc m a) _ (behind m.0 (length w.modules) [] (below_same w m id at below))
+cause_held w f (commands.SetVar m a b) id at plain below = caused w (commands.SetVar m a b) _ (behind m.0 (length w.modules) [] (below_same w m id at below))
+cause_held w f (commands.SetType m a b) id at plain below = caused w (commands.SetType m a b) _ (behind m.0 (length w.modules) [] (below_same w m id at below))
+cause_held w f (commands.Native m reg n) id at plain below = caused w (commands.Native m reg n) _ (behind m.0 (length w.modules) ((n.0, length w.engine.natives) ∷ []) (below_same w m id at below) ∙ or_none _)
+cause_held w f (commands.RawNative m name namespace types func) id at plain below =
+    caused w (commands.RawNative m name namespace types func) _ (behind m.0 (length w.modules) (func_operands w func) (below_same w m id at below) ∙ func_unheld w func plain)
+cause_held w f (commands.Script m def) id at plain below = caused w (commands.Script m def) _ (behind m.0 (length w.modules) [] (below_same w m id at below))
+cause_held w f (commands.Clear m) id at plain below = caused w (commands.Clear m) _ (behind m.0 (length w.modules) [] (below_same w m id at below))
+cause_held w f commands.NewModule id at plain below = absurd cc
+cause_held w f (commands.SubModule m name sub) id at plain below = absurd cc
+cause_held w f (commands.RegisterFn name n) id at plain below = absurd cc
+cause_held w f (commands.RegisterRaw name types n) id at plain below = absurd cc
+cause_held w f (commands.RegisterType kind display) id at plain below = absurd cc
+cause_held w f (commands.PushLib m) id at plain below = absurd cc
+cause_held w f commands.PopLib id at plain below = absurd cc
+cause_held w f (commands.Call request) id at plain below = absurd cc
+cause_held w f (commands.Count m) id at plain below = absurd cc
+cause_held w f (commands.Contains m key) id at plain below = absurd cc
+
+changed_at : (w : World) (f : Frame) (command : Command) (m id : ModuleId) (old : ModuleTree) → Some m ≡ Some id → slice_get w.modules id.0 ≡ Some old
+    → option_map (λ o. with_module w f m (module_change w.engine.natives command o)) (slice_get w.modules m.0) ≡ Some (with_module w f id (module_change w.engine.natives command old))
+changed_at w f command m id old e is =
+    let same : m ≡ id = cc in
+    (λ i. option_map (λ o. with_module w f (same i) (module_change w.engine.natives command o)) (slice_get w.modules (same i).0)) ∙ ap (option_map (λ o. with_module w f id (module_change w.engine.natives command o))) is
+
+-- the module of the number changes
+change_held : (w : World) (f : Frame) (command : Command) (id : ModuleId) (old : ModuleTree) → target command ≡ Some id → slice_get w.modules id.0 ≡ Some old → change w f command ≡ Some (with_module w f id (module_change w.engine.natives command old))
+change_held w f (commands.SetId m a) id old at is = changed_at w f (commands.SetId m a) m id old at is
+change_held w f (commands.SetDoc m a) id old at is = changed_at w f (commands.SetDoc m a) m id old at is
+change_held w f (commands.SetVar m a b) id old at is = changed_at w f (commands.SetVar m a b) m id old at is
+change_held w f (commands.SetType m a b) id old at is = changed_at w f (commands.SetType m a b) m id old at is
+change_held w f (commands.Native m reg n) id old at is = changed_at w f (commands.Native m reg n) m id old at is
+change_held w f (commands.RawNative m name namespace types func) id old at is = changed_at w f (commands.RawNative m name namespace types func) m id old at is
+change_held w f (commands.Script m def) id old at is = changed_at w f (commands.Script m def) m id old at is
+change_held w f (commands.Clear m) id old at is = changed_at w f (commands.Clear m) m id old at is
+change_held w f commands.NewModule id old at is = absurd cc
+change_held w f (commands.SubModule m name sub) id old at is = absurd cc
+change_held w f (commands.RegisterFn name n) id old at is = absurd cc
+change_held w f (commands.RegisterRaw name types n) id old at is = absurd cc
+change_held w f (commands.RegisterType kind display) id old at is = absurd cc
+change_held w f (commands.PushLib m) id old at is = absurd cc
+change_held w f commands.PopLib id old at is = absurd cc
+change_held w f (commands.Call request) id old at is = absurd cc
+change_held w f (commands.Count m) id old at is = absurd cc
+change_held w f (commands.Contains m key) id old at is = absurd cc
+
+-- the world with an equal module put at its place
+left : (w : World) (id : ModuleId) (old new : ModuleTree) → slice_get w.modules id.0 ≡ Some old → new ≡ old → record w { modules = slice_set w.modules id.0 new } ≡ w
+left w id old new is same = ap (λ (ms : List ModuleTree). record w { modules = ms }) (ap (slice_set w.modules id.0) same ∙ set_there w.modules id.0 old is)
+
+-- what a change of a module comes to in its world
+pub module_goes : (w w2 : World) (f : Frame) (command : Command) (id : ModuleId) (old new : ModuleTree) (r : Result (Unit {0}) DeclFault) → target command ≡ Some id → iterator_in command ≡ None → slice_get w.modules id.0 ≡ Some old
+    → w2 ≡ record w { modules = slice_set w.modules id.0 new } → ChangesModule w.engine.natives command old r new → Goes w f command r w2 f
+module_goes w w2 f command id old new (Ok u) at plain is made goes =
+    let below = lt-ltb id.0 (length w.modules) (slice_get_within w.modules id.0 old is) in
+    done_in w w2 f f command (with_module w f id (module_change w.engine.natives command old)) (cause_held w f command id at plain below ∙ goes.0) (change_held w f command id old at is) goes.1
+    (made ∙ ap (λ (m : ModuleTree). record w { modules = slice_set w.modules id.0 m }) goes.2) refl
+module_goes w w2 f command id old new (Err no_memory) at plain is made goes = (made ∙ left w id old new is goes, refl)
+module_goes w w2 f command id old new (Err (HashCollision held other)) at plain is made goes =
+    let below = lt-ltb id.0 (length w.modules) (slice_get_within w.modules id.0 old is) in
+    let t = goes.1 in
+    subst (λ (x : World). Goes w f command (Err (HashCollision held other)) x f) (sym (made ∙ left w id old new is goes.2))
+    (collided (cause_held w f command id at plain below ∙ goes.0) (change_held w f command id old at is) t.1 t.2)
+module_goes w w2 f command id old new (Err (IndexerNotAllowed key)) at plain is made goes =
+    let below = lt-ltb id.0 (length w.modules) (slice_get_within w.modules id.0 old is) in
+    subst (λ (x : World). Goes w f command (Err (IndexerNotAllowed key)) x f) (sym (made ∙ left w id old new is goes.1)) (refused (cause_held w f command id at plain below ∙ goes.0))
+module_goes w w2 f command id old new (Err NotCallable) at plain is made goes =
+    let below = lt-ltb id.0 (length w.modules) (slice_get_within w.modules id.0 old is) in
+    subst (λ (x : World). Goes w f command (Err NotCallable) x f) (sym (made ∙ left w id old new is goes.1)) (refused (cause_held w f command id at plain below ∙ goes.0))
+module_goes w w2 f command id old new (Err (UnknownNumber number count)) at plain is made goes =
+    let below = lt-ltb id.0 (length w.modules) (slice_get_within w.modules id.0 old is) in
+    subst (λ (x : World). Goes w f command (Err (UnknownNumber number count)) x f) (sym (made ∙ left w id old new is goes.1)) (refused (cause_held w f command id at plain below ∙ goes.0))
