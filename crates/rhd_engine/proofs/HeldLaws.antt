@@ -58,6 +58,32 @@ pub stays_held : (n : ℕ) (k : Key) (d : Declaration) (m : ModuleTree) → func
 stays_held n k d m h all = put_held n k d m.own.eager h all
 
 -- what holds of a fault
+-- the number of a native, if there is one, is below another
+abbrev pub is_below : ℕ → Option FnId → Bool
+is_below n None = true
+is_below n (Some id) = nat_lt id.0 n
+
+-- a function that isn't a script's and doesn't iterate can be called where its native is held
+pub can_be_called : (n : ℕ) (func : RhaiFunc) → is_below n (native_of func) ≡ true → (is_iter func || is_script func) ≡ false → func_held n func ≡ true
+can_be_called n (funcs.Pure id context pure volatile) h other = h
+can_be_called n (funcs.Method id context pure volatile) h other = h
+can_be_called n (funcs.Iterator id) h other = absurd (let e : true ≡ false = other in cc)
+can_be_called n (funcs.Plugin id) h other = h
+can_be_called n (funcs.StaticPlugin id) h other = h
+can_be_called n (funcs.Script def env) h other = refl
+
+-- one with a native isn't a script's and doesn't iterate
+has_native : (func : RhaiFunc) (id : FnId) → native_of func ≡ Some id → (is_iter func || is_script func) ≡ false
+has_native (funcs.Pure i context pure volatile) id e = refl
+has_native (funcs.Method i context pure volatile) id e = refl
+has_native (funcs.Iterator i) id e = absurd cc
+has_native (funcs.Plugin i) id e = refl
+has_native (funcs.StaticPlugin i) id e = refl
+has_native (funcs.Script def env) id e = absurd cc
+
+pub number_held : (n : ℕ) (func : RhaiFunc) (id : FnId) → native_of func ≡ Some id → nat_lt id.0 n ≡ true → func_held n func ≡ true
+number_held n func id e below = can_be_called n func (ap (is_below n) e ∙ below) (has_native func id e)
+
 pub on_err : {T E : Type 0} (r : Result T E) (P : Type 0) → P → OnErr r P
 on_err (Ok x) P p = tt
 on_err (Err e) P p = p
@@ -90,11 +116,11 @@ refused_by : (natives : List NativeInfo) (id : FnId) (below : Bool) (more : List
 refused_by natives id true more none = refl
 refused_by natives id false more none = absurd cc
 
-allowed_held : (natives : List NativeInfo) (native : Option FnId) (more : List (Option DeclFault)) → first_some (unheld natives native ∷ more) ≡ None → is_below (length natives) native ≡ true
+pub allowed_held : (natives : List NativeInfo) (native : Option FnId) (more : List (Option DeclFault)) → first_some (unheld natives native ∷ more) ≡ None → is_below (length natives) native ≡ true
 allowed_held natives None more none = refl
 allowed_held natives (Some id) more none = refused_by natives id (nat_lt id.0 (length natives)) more none
 
-callable_by : (refusal : Option DeclFault) (test : Bool) (more : List (Option DeclFault)) → first_some (refusal ∷ where_holds test NotCallable ∷ more) ≡ None → test ≡ false
+pub callable_by : (refusal : Option DeclFault) (test : Bool) (more : List (Option DeclFault)) → first_some (refusal ∷ where_holds test NotCallable ∷ more) ≡ None → test ≡ false
 callable_by None true more none = absurd cc
 callable_by None false more none = refl
 callable_by (Some fault) test more none = absurd cc
@@ -104,7 +130,7 @@ number_either : (id : FnId) (context pure volatile is_method : Bool) → native_
 number_either id context pure volatile true = refl
 number_either id context pure volatile false = refl
 
-registered_number : (reg : FuncRegistration) (info : NativeInfo) (id : FnId) → native_of (registered_func reg info id) ≡ Some id
+pub registered_number : (reg : FuncRegistration) (info : NativeInfo) (id : FnId) → native_of (registered_func reg info id) ≡ Some id
 registered_number reg info id = number_either id info.has_context (unwrap_or reg.purity (pure_by_name reg.name (length info.types))) (unwrap_or reg.volatility false) info.is_method
 
 -- a module in which a native is registered by its number, or refused

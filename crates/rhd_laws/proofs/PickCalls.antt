@@ -13,7 +13,7 @@ use Rattle.rhd_func.specs.declared.request.CallRequest.TheVariants.{Named}
 use Rattle.rhd_func.specs.declared.request.CallShape.TheVariants.{Plain, ByRef, Method}
 use Rattle.rhd_hash.specs.declared.key.Key.{Key}
 use Rattle.rhd_hash.specs.declared.key.Key.TheVariants.{Script, Typed, Native}
-use Rattle.rhd_module.specs.declared.declaration.Declaration.{Declaration}
+use Rattle.rhd_decl.specs.declared.declaration.Declaration.{Declaration}
 use Rattle.rhd_call.specs.declared.pick.Pick.{Pick}
 use Rattle.rhd_engine.specs.Engine.{EngineLists, Frame}
 use Rattle.rhd_engine.specs.declared.builtins.Operator.{Operator}

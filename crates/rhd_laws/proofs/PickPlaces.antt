@@ -5,7 +5,7 @@ use Rattle.std.specs.Map.{lookup}
 use Rattle.std.specs.Option.{option_or}
 use Rattle.rhd_value.specs.Firsts.{first_of}
 use Rattle.rhd_hash.specs.declared.key.Key.{Key}
-use Rattle.rhd_module.specs.declared.declaration.Declaration.{Declaration}
+use Rattle.rhd_decl.specs.declared.declaration.Declaration.{Declaration}
 use Rattle.rhd_hash.specs.FirstPairs.{IsFirstWith}
 use Rattle.rhd_hash.proofs.FirstFound.{found_first, first_found}
 use Rattle.rhd_hash.specs.Keys.{key_eq, key_eq-Decides}

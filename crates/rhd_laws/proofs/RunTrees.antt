@@ -4,7 +4,7 @@ use Rattle.std.specs.Prelude.{zero, suc, take, slice_get, Option, None, Some, op
 use Rattle.std.proofs.Math.Seq.{take-length}
 use Rattle.rhd_func.specs.declared.request.CallRequest.{CallRequest}
 use Rattle.rhd_func.specs.Natives.{info_of}
-use Rattle.rhd_module.specs.declared.fault.DeclFault.{DeclFault}
+use Rattle.rhd_decl.specs.declared.fault.DeclFault.{DeclFault}
 use Rattle.rhd_call.specs.declared.command.Command.{Command}
 use Rattle.rhd_call.specs.declared.command.Command.TheVariants.{NewModule, Script, RegisterFn, PushLib, PopLib, Call}
 use Rattle.rhd_call.specs.declared.command.ModuleId.{ModuleId}

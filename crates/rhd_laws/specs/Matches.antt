@@ -13,7 +13,7 @@ use Rattle.rhd_func.specs.declared.request.CallShape.TheVariants.{Method}
 use Rattle.rhd_func.specs.Shapes.{all_args}
 use Rattle.rhd_hash.specs.declared.key.Key.{Key}
 use Rattle.rhd_hash.specs.declared.key.Key.TheVariants.{Script, Typed, Native}
-use Rattle.rhd_module.specs.declared.declaration.Declaration.{Declaration}
+use Rattle.rhd_decl.specs.declared.declaration.Declaration.{Declaration}
 use Rattle.rhd_hash.specs.FirstPairs.{IsFirstWith}
 use Rattle.rhd_dispatch.specs.Searched.{Place, searched}
 use Rattle.rhd_dispatch.specs.Asks.{params_of, builtin_pick}

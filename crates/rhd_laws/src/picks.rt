@@ -49,9 +49,9 @@ pub fn the_patterns_of_kinds_match_them()
 /// n is the place of number m + n. A place has the declarations of its module, and no source yet.
 pub fn the_places_of_a_frame()
     ensures libraries { (e : EngineLists) (f : Frame) (n : ℕ) (m : ModuleTree) → slice_get f.lib n ≡ Some m
-        → slice_get (searched e f.lib f.imports) (length f.lib - 1 - n) ≡ Some (record { layer = Library n; source = None; pairs = shown m.own }) }
+        → slice_get (searched e f.lib f.imports) (length f.lib - 1 - n) ≡ Some (record { layer = Library n; source = m.own.id; pairs = shown m.own }) }
     ensures global_modules { (e : EngineLists) (f : Frame) (n : ℕ) (m : ModuleTree) → slice_get e.globals n ≡ Some m
-        → slice_get (searched e f.lib f.imports) (length f.lib + n) ≡ Some (record { layer = Global n; source = None; pairs = shown m.own }) }
+        → slice_get (searched e f.lib f.imports) (length f.lib + n) ≡ Some (record { layer = Global n; source = m.own.id; pairs = shown m.own }) }
     ensures count { (e : EngineLists) (f : Frame) → length (searched e f.lib f.imports) ≡ length f.lib + length e.globals }
 {}
 

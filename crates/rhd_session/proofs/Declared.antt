@@ -51,6 +51,14 @@ replied w w2 f f2 command (Err NotCallable) (Err e) is goes = absurd is
 replied w w2 f f2 command (Err (UnknownNumber number count)) (Ok reply) is goes = (subst (λ (x : Reply). Declares w f command x w2 f2) (sym is) goes, tt)
 replied w w2 f f2 command (Err (UnknownNumber number count)) (Err e) is goes = absurd is
 
+-- a number that isn't held, as an answer
+pub goes_refused : {w2 : World} {f2 : Frame} (w : World) (f : Frame) (command : Command) (fault : DeclFault) (number held : ℕ) → fault ≡ UnknownNumber number held → Declares w f command (Refused (UnknownNumber number held)) w2 f2 → Goes w f command (Err fault) w2 f2
+goes_refused {w2} {f2} w f command fault number held is d = subst (λ (x : DeclFault). Goes w f command (Err x) w2 f2) (sym is) d
+
+-- want of memory, as an answer
+pub goes_failed : {w2 : World} {f2 : Frame} (w : World) (f : Frame) (command : Command) (fault : DeclFault) → fault ≡ no_memory → w2 ≡ w → f2 ≡ f → Goes w f command (Err fault) w2 f2
+goes_failed {w2} {f2} w f command fault is ew ef = subst (λ (x : DeclFault). Goes w f command (Err x) w2 f2) (sym is) (ew, ef)
+
 -- Numbers that aren't held.
 
 -- an unknown number is the cause

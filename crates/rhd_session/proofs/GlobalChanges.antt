@@ -30,6 +30,8 @@ use Rattle.rhd_session.specs.World.{World}
 use Rattle.rhd_session.specs.Commands.{cause, change, Change, Keyed, eager_keys, without_keys, with_module, changed_first, with_globals, unknown_of, not_callable, indexer_not_allowed, raw_registration}
 use Rattle.rhd_session.specs.Answered.{Declares, refused, collided, NoClash}
 use Rattle.rhd_session.specs.Changing.{Goes}
+use Rattle.rhd_engine.specs.Held.{names_held, all_held}
+use Rattle.rhd_engine.proofs.HeldLaws.{type_first_held, first_count}
 use Rattle.rhd_session.proofs.Declared.{none_refuses, two_held, done_in}
 
 -- a declaration is put into the first of these modules
@@ -106,3 +108,18 @@ sub_goes w w2 f id sub name old child new is from puts made =
     let changes : change w f (commands.SubModule id name sub) ≡ Some (with_module w f id (without_keys (with_sub name child old))) =
       ap (option_and_then (λ c. option_map (λ o. with_module w f id (without_keys (with_sub name c o))) (slice_get w.modules id.0))) from ∙ ap (option_map (λ o. with_module w f id (without_keys (with_sub name child o)))) is in
     done_in w w2 f f (commands.SubModule id name sub) (with_module w f id (without_keys (with_sub name child old))) none changes tt (made ∙ ap (λ (m : ModuleTree). record w { modules = slice_set w.modules id.0 m }) puts) refl
+
+-- a module that gets a sub-module declares what it did
+pub sub_held : (n : ℕ) (name : Bytes) (child m : ModuleTree) → names_held n (with_sub name child m) ≡ names_held n m
+sub_held n name child m = refl
+
+-- whether or not a sub-module is put
+pub sub_either : {E : Type 0} (r : Result (Unit {0}) E) (n : ℕ) (name : Bytes) (child old new : ModuleTree) → OnOk r (new ≡ with_sub name child old) → OnErr r (new ≡ old) → names_held n old ≡ true → names_held n new ≡ true
+sub_either (Ok u) n name child old new ok err all = ap (names_held n) ok ∙ all
+sub_either (Err e) n name child old new ok err all = ap (names_held n) err ∙ all
+
+-- whether or not a type is shown otherwise
+pub type_either : {E : Type 0} (r : Result (Unit {0}) E) (n : ℕ) (type_name display : Bytes) (old new : List ModuleTree) → OnOk r (new ≡ in_first (with_type type_name display []) old) → OnErr r (new ≡ old)
+    → (all_held n old ≡ true → all_held n new ≡ true) × (length new ≡ length old)
+type_either (Ok u) n type_name display old new ok err = (λ all. ap (all_held n) ok ∙ type_first_held n type_name display [] old ∙ all, ap length ok ∙ first_count (with_type type_name display []) old)
+type_either (Err e) n type_name display old new ok err = (λ all. ap (all_held n) err ∙ all, ap length err)

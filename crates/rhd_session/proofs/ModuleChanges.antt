@@ -12,12 +12,14 @@ use Rattle.rhd_hash.specs.Table.{Clashing}
 use Rattle.rhd_func.specs.Natives.{NativeInfo}
 use Rattle.rhd_func.specs.declared.func.RhaiFunc.{RhaiFunc}
 use Rattle.rhd_func.specs.declared.func.RhaiFunc.TheVariants as funcs
-use Rattle.rhd_func.specs.Funcs.{native_of, iter_fn_of}
+use Rattle.rhd_func.specs.Funcs.{native_of, iter_fn_of, is_method, is_iter, is_script}
+use Rattle.rhd_func.specs.Infos.{infos_of}
+use Rattle.rhd_func.specs.declared.natives.Natives.{Natives}
 use Rattle.rhd_decl.specs.declared.declaration.Declaration.{Declaration}
 use Rattle.rhd_decl.specs.declared.fault.DeclFault.{DeclFault}
 use Rattle.rhd_decl.specs.declared.fault.DeclFault.TheVariants.{HashCollision, IndexerNotAllowed, NotCallable, UnknownNumber, OutOfMemory as no_memory}
 use Rattle.rhd_module.specs.Tree.{ModuleTree}
-use Rattle.rhd_module.specs.Registered.{with_decl, unheld, Puts}
+use Rattle.rhd_module.specs.Registered.{with_decl, unheld, banned, native_at, registered_func, Puts}
 use Rattle.rhd_engine.specs.Engine.{Frame}
 use Rattle.rhd_engine.specs.Held.{names_held}
 use Rattle.rhd_call.specs.declared.command.Command.{Command}
@@ -27,6 +29,7 @@ use Rattle.rhd_session.specs.World.{World}
 use Rattle.rhd_session.specs.Commands.{cause, change, Keyed, ChangedModule, with_keys, without_keys, module_change, target, operands, func_operands, unknown_of, not_callable, indexer_not_allowed, with_module}
 use Rattle.rhd_session.specs.Answered.{Declares, refused, collided, NoClash}
 use Rattle.rhd_session.specs.Changing.{ChangesModule, Goes, module_cause, native_in, iterator_in}
+use Rattle.rhd_engine.proofs.HeldLaws.{stays_held, number_held, registered_number, allowed_held, can_be_called, callable_by, infos_count}
 use Rattle.rhd_session.proofs.Declared.{set_there, done_in}
 
 -- a declaration that is put is a change with the keys of the new table
@@ -141,3 +144,44 @@ module_goes w w2 f command id old new (Err NotCallable) at plain is made goes =
 module_goes w w2 f command id old new (Err (UnknownNumber number count)) at plain is made goes =
     let below = lt-ltb id.0 (length w.modules) (slice_get_within w.modules id.0 old is) in
     subst (λ (x : World). Goes w f command (Err (UnknownNumber number count)) x f) (sym (made ∙ left w id old new is goes.1)) (refused (cause_held w f command id at plain below ∙ goes.0))
+
+-- A module in which all that it declares can be called stays so.
+
+held_once : (natives : List NativeInfo) (command : Command) (old : ModuleTree) → module_cause natives command ≡ None → names_held (length natives) old ≡ true → names_held (length natives) (module_change natives command old).tree ≡ true
+held_once natives (commands.SetId m a) old none all = all
+held_once natives (commands.SetDoc m a) old none all = all
+held_once natives (commands.SetVar m a b) old none all = all
+held_once natives (commands.SetType m a b) old none all = all
+held_once natives (commands.Native m reg n) old none all =
+    let info = native_at natives n in
+    stays_held (length natives) _ _ old (number_held (length natives) (registered_func reg info n) n (registered_number reg info n) (allowed_held natives (Some n) (None ∷ banned info.is_method reg.name info.types ∷ []) none)) all
+held_once natives (commands.RawNative m name namespace types func) old none all =
+    let test = is_iter func || is_script func in
+    let refusals = banned (is_method natives func) name types ∷ [] in
+    stays_held (length natives) _ _ old (can_be_called (length natives) func (allowed_held natives (native_of func) (where_holds test NotCallable ∷ refusals) none) (callable_by (unheld natives (native_of func)) test refusals none)) all
+held_once natives (commands.Script m def) old none all = stays_held (length natives) _ _ old refl all
+held_once natives (commands.Clear m) old none all = refl
+held_once natives commands.NewModule old none all = all
+held_once natives (commands.SubModule m name sub) old none all = all
+held_once natives (commands.RegisterFn name n) old none all = all
+held_once natives (commands.RegisterRaw name types n) old none all = all
+held_once natives (commands.RegisterType kind display) old none all = all
+held_once natives (commands.PushLib m) old none all = all
+held_once natives commands.PopLib old none all = all
+held_once natives (commands.Call request) old none all = all
+held_once natives (commands.Count m) old none all = all
+held_once natives (commands.Contains m key) old none all = all
+
+held_changed : (natives : List NativeInfo) (command : Command) (old new : ModuleTree) (r : Result (Unit {0}) DeclFault) → ChangesModule natives command old r new → names_held (length natives) old ≡ true → names_held (length natives) new ≡ true
+held_changed natives command old new (Ok u) goes all = ap (names_held (length natives)) goes.2 ∙ held_once natives command old goes.0 all
+held_changed natives command old new (Err no_memory) goes all = ap (names_held (length natives)) goes ∙ all
+held_changed natives command old new (Err (HashCollision held other)) goes all = ap (names_held (length natives)) goes.2 ∙ all
+held_changed natives command old new (Err (IndexerNotAllowed key)) goes all = ap (names_held (length natives)) goes.1 ∙ all
+held_changed natives command old new (Err NotCallable) goes all = ap (names_held (length natives)) goes.1 ∙ all
+held_changed natives command old new (Err (UnknownNumber number count)) goes all = ap (names_held (length natives)) goes.1 ∙ all
+
+-- the same by a table of natives
+pub held_by_table : {X : Type 0} {F : X → Type 0} (info : (x : X) × F x → NativeInfo) (natives : Natives X F) (command : Command) (old new : ModuleTree) (r : Result (Unit {0}) DeclFault) → ChangesModule (infos_of info natives) command old r new
+    → names_held (length natives.items.items) old ≡ true → names_held (length natives.items.items) new ≡ true
+held_by_table info natives command old new r goes =
+    subst (λ (n : ℕ). names_held n old ≡ true → names_held n new ≡ true) (infos_count info natives) (held_changed (infos_of info natives) command old new r goes)

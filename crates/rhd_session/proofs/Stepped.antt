@@ -6,24 +6,24 @@ use Rattle.rhd_value.specs.declared.tag.FnId.{FnId}
 use Rattle.rhd_func.specs.declared.access.EnvId.{EnvId}
 use Rattle.rhd_func.specs.declared.func.ScriptFuncDef.{ScriptFuncDef}
 use Rattle.rhd_func.specs.declared.func.RhaiFunc.{RhaiFunc}
-use Rattle.rhd_func.specs.declared.func.RhaiFunc.TheVariants.{Pure, Method, Script}
+use Rattle.rhd_func.specs.declared.func.RhaiFunc.TheVariants.{Script}
 use Rattle.rhd_func.specs.declared.request.Carry.{Carry}
 use Rattle.rhd_func.specs.declared.request.CallDone.{CallDone}
 use Rattle.rhd_func.specs.declared.request.NativeStep.{NativeStep}
 use Rattle.rhd_func.specs.declared.request.NativeCallContext.{NativeCallContext}
 use Rattle.rhd_func.specs.Funcs.{native_of, has_context}
 use Rattle.rhd_func.specs.GivenBack.{GivesBack}
+use Rattle.rhd_func.specs.Infos.{infos_of}
 use Rattle.rhd_func.specs.Natives.{NativeInfo}
+use Rattle.rhd_func.specs.declared.natives.Natives.{Natives}
 use Rattle.rhd_session.specs.World.{Objects, Moment}
 use Rattle.rhd_session.specs.Received.{Received}
 use Rattle.rhd_session.specs.Entered.{context_if}
 use Rattle.rhd_session.specs.Steps.{Starts, native_starts, body_starts, Resumes, native_resumes, body_resumes}
 
--- whether a function is handed its context, no native is asked yet
-pub context_asked : (natives same : List NativeInfo) (func : RhaiFunc) → has_context natives func ≡ has_context same func
-context_asked natives same (Pure id context pure volatile) = refl
-context_asked natives same (Method id context pure volatile) = refl
-context_asked natives same (Script def env) = refl
+-- equal tables of natives say the same of a function's context
+pub context_asked : {X : Type 0} {F : X → Type 0} (info : (x : X) × F x → NativeInfo) (func : RhaiFunc) (natives same : Natives X F) → natives ≡ same → has_context (infos_of info natives) func ≡ has_context (infos_of info same) func
+context_asked info func natives same e = λ i. has_context (infos_of info (e i)) func
 
 -- what holds of an answer by two clauses
 both_ok : {E A : Type 0} (P Q : A → Type 0) (r : Result A E) → IfOk r P → IfOk r Q → IfOk r (λ x. P x × Q x)

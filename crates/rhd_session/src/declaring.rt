@@ -203,7 +203,9 @@ impl Session {
     {
         let engine = &mut self.engine;
         let natives = &engine.natives;
-        let reg = fn_registration(alloc, natives, name, id)?;
+        let Ok(reg) = fn_registration(alloc, natives, name, id) else {
+            return Err(DeclFault::OutOfMemory);
+        };
         engine.globals.register_in_first(alloc, reg, natives, id)
     }
 
@@ -224,7 +226,9 @@ impl Session {
         let natives = &engine.natives;
         let types = types.as_slice();
         let func = raw_func(&name, types, id);
-        let reg = raw_registration(alloc, name, FnNamespace::Global)?;
+        let Ok(reg) = raw_registration(alloc, name, FnNamespace::Global) else {
+            return Err(DeclFault::OutOfMemory);
+        };
         engine.globals.register_raw_in_first(alloc, reg, natives, types, func)
     }
 

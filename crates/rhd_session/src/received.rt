@@ -21,6 +21,7 @@ pub struct Received {
 }
 
 /// Whether a function has the first argument by reference, or the object, itself and no copy.
+#[tactic(auto, unfolding(rhd_func::specs::Infos::infos_of))]
 pub fn has_the_given(natives: &Natives, func: &RhaiFunc, shape: &CallShape) -> bool
     ensures { result ≡ has_the_given (convention_of (infos_of info natives.now) func.now) shape.now }
 {

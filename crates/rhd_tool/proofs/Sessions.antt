@@ -9,20 +9,21 @@ use Rattle.rhd_call.specs.declared.reply.Stopped.{Stopped}
 use Rattle.rhd_engine.specs.Engine.{Frame}
 use Rattle.rhd_engine.specs.Start.{start_frame}
 use Rattle.rhd_engine.specs.declared.limits.Limits.{Limits}
+use Rattle.rhd_hash.specs.declared.mixer.Seeds.{Seeds}
 use Rattle.rhd_session.specs.World.{World, Objects, Moment}
 use Rattle.rhd_session.specs.Start.{start_world, start_moment}
 use Rattle.rhd_session.specs.Answered.{Answered, RunGives}
 use Rattle.rhd_text.specs.declared.session.SessionText.{SessionText}
 use Rattle.rhd_tool.specs.Handed.{Handed, Hosts, Bodies}
-use Rattle.rhd_tool.specs.Ends.{default_limits, limits_of, start_of, IsAnswered}
+use Rattle.rhd_tool.specs.Ends.{default_limits, limits_of, seeds_of, start_of, IsAnswered}
 
 -- no command is answered by no reply
 pub none_answered : (h : Handed) (text : SessionText) (commands : List Command) (replies : List Reply) → replies ≡ [] → IsAnswered h text (take (length replies) commands) replies
 none_answered h text commands replies e = rw e (record { world = start_of h.natives text; frame = start_frame; after = start_moment text.hosts text.bodies; answered = (refl, refl, refl) })
 
--- the world of a new session with the limits that a text sets
-pub start_same : (natives : List NativeInfo) (text : SessionText) (w : World) (l : Limits) → w ≡ start_world natives l text.builtins text.printers → l ≡ limits_of text → w ≡ start_of natives text
-start_same natives text w l e same = e ∙ ap (λ (m : Limits). start_world natives m text.builtins text.printers) same
+-- the world of a new session with the seeds and the limits that a text sets
+pub start_same : (natives : List NativeInfo) (text : SessionText) (w : World) (s : Seeds) (l : Limits) → w ≡ start_world natives s l text.builtins text.printers → s ≡ seeds_of text → l ≡ limits_of text → w ≡ start_of natives text
+start_same natives text w s l e seeds limits = e ∙ (λ i. start_world natives (seeds i) (limits i) text.builtins text.printers)
 
 -- replies from there on are those of a new session
 begun_anew : (h : Handed) (text : SessionText) (commands : List Command) (replies : List Reply) (o : Objects Hosts Bodies) (w : World) (f : Frame) (before : Moment Hosts Bodies) (world : World) (frame : Frame) (after : Moment Hosts Bodies)

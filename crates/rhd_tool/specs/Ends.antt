@@ -11,6 +11,7 @@ use Rattle.rhd_engine.specs.Engine.{Frame}
 use Rattle.rhd_engine.specs.Start.{start_frame}
 use Rattle.rhd_engine.specs.declared.limits.Limits.{Limits}
 use Rattle.rhd_session.specs.World.{World, Moment}
+use Rattle.rhd_hash.specs.declared.mixer.Seeds.{Seeds}
 use Rattle.rhd_session.specs.Start.{start_world, start_moment}
 use Rattle.rhd_session.specs.Answered.{Answered}
 use Rattle.rhd_text.specs.declared.session.SessionText.{SessionText}
@@ -45,9 +46,17 @@ default_limits = record { array = 65536; map = 65536; text = 1048576; level = 64
 abbrev pub limits_of : SessionText → Limits
 limits_of text = unwrap_or text.limits default_limits
 
+-- the seeds where a text sets none
+abbrev pub default_seeds : Seeds
+default_seeds = record { seed0 = 0; seed1 = 0; mask = 18446744073709551615 }
+
+-- the seeds that a text sets, or else the default ones
+abbrev pub seeds_of : SessionText → Seeds
+seeds_of text = unwrap_or text.seeds default_seeds
+
 -- a new session with what the text sets
 abbrev pub start_of : List NativeInfo → SessionText → World
-start_of natives text = start_world natives (limits_of text) text.builtins text.printers
+start_of natives text = start_world natives (seeds_of text) (limits_of text) text.builtins text.printers
 
 -- the replies answer the commands, one after the other, in a new session with what the text sets, and with its host and bodies
 pub record IsAnswered (h : Handed) (text : SessionText) (commands : List Command) (replies : List Reply) : Type 0 where

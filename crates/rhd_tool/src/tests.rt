@@ -5,9 +5,17 @@ mod foreign;
 mod sessions;
 mod values;
 
+use rhd_hash::Seeds;
 use rhd_value::{Dynamic, Text, Value, Values};
 use std::alloc::Global;
 use std::process::Abort;
+
+/// Seeds under which no two keys of a test clash.
+const SEEDS: Seeds = Seeds {
+    seed0: 0,
+    seed1: 0,
+    mask: u64::MAX,
+};
 
 /// Stops the test where something doesn't hold.
 fn holds(rt: &impl Abort, fact: bool, what: &str) {

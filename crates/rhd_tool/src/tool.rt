@@ -22,6 +22,7 @@ use crate::writing::write_whole;
 use rhd_call::{Replies, Reply, Stopped};
 use rhd_engine::Limits;
 use rhd_func::Natives;
+use rhd_hash::Seeds;
 use rhd_session::Session;
 use rhd_text::{SessionText, TextFault, print_replies, read_text};
 use rhd_value::OutOfMemory;
@@ -29,6 +30,13 @@ use std::alloc::Global;
 
 /// The most bytes that a text may have.
 const MOST: usize = 16_777_216;
+
+/// The seeds where a text sets none.
+const DEFAULT_SEEDS: Seeds = Seeds {
+    seed0: 0,
+    seed1: 0,
+    mask: u64::MAX,
+};
 
 /// How a run ended.
 #[derive(Drop)]
@@ -99,6 +107,7 @@ fn answer(alloc: Global, natives: Natives, text: SessionText) -> Result<Replies,
     ensures some { IfErr result (λ s. IsAnswered (handed_of allows_call allows_resume info natives) text (take (length s.replies) text.commands) s.replies) }
 {
     let SessionText {
+        seeds,
         limits,
         printers,
         builtins,
@@ -106,10 +115,11 @@ fn answer(alloc: Global, natives: Natives, text: SessionText) -> Result<Replies,
         bodies,
         commands,
     } = text;
+    let seeds = seeds.unwrap_or(DEFAULT_SEEDS);
     let limits = limits.unwrap_or(Limits::DEFAULT);
     let mut host = TableHost::new(hosts);
     let mut bodies = PlanBodies::new(bodies);
-    let Ok(mut session) = Session::new(alloc, natives, limits, builtins, printers) else {
+    let Ok(mut session) = Session::new(alloc, natives, seeds, limits, builtins, printers) else {
         return Err(Stopped {
             replies: Replies::new(alloc),
         });

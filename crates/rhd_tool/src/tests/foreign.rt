@@ -1,6 +1,6 @@
 //! A native, bodies and a host other than those of this crate.
 
-use crate::tests::{holds, int, text_of};
+use crate::tests::{SEEDS, holds, int, text_of};
 use rhd_call::{Command, Commands};
 use rhd_engine::{Builtins, Limits, Printers};
 use rhd_func::{
@@ -166,7 +166,7 @@ fn commands(alloc: Global) -> Commands {
 fn check_run(rt: &impl Abort, alloc: Global, natives: Natives) {
     let builtins = Builtins::new(alloc);
     assert!(rt; builtins.fits(&natives), "no built-in function");
-    let made = Session::new(alloc, natives, Limits::DEFAULT, builtins, Printers::NONE);
+    let made = Session::new(alloc, natives, SEEDS, Limits::DEFAULT, builtins, Printers::NONE);
     let Ok(mut session) = made else {
         panic!(rt; "a session");
     };

@@ -4,13 +4,13 @@ ghost use Rattle.std.specs.Prelude.{◌<◌, length};
 
 use crate::sink::PlainSink;
 use crate::source::PlainSource;
-use crate::tests::{holds, int, one, text_of};
+use crate::tests::{SEEDS, holds, int, one, text_of};
 use crate::tool::run_tool;
 use crate::{PlanBodies, TableHost, kit};
 use rhd_call::{Command, Commands, ModuleId, Replies, Reply};
 use rhd_engine::{Builtins, Limits, Printers};
 use rhd_func::{
-    BodyId, CallRequest, CallShape, FnAccess, HostAnswer, NativeCallContext, Natives, PluginFunc,
+    BodyId, CallRequest, CallShape, FnAccess, HostAnswer, NativeCallContext, Natives,
     RhaiFunc, ScriptFuncDef, SharedDef,
 };
 use rhd_module::{Module, SharedModule};
@@ -66,6 +66,14 @@ fn script(alloc: Global) -> ScriptFuncDef {
     }
 }
 
+/// An empty module.
+fn module(rt: &impl Abort, alloc: Global) -> Module {
+    match Module::new(alloc, SEEDS) {
+        Ok(module) => module,
+        Err(_) => panic!(rt; "a module"),
+    }
+}
+
 /// Declares a script in a module, and in one that has another owner.
 fn check_script(rt: &impl Abort, alloc: Global) {
     let script = script(alloc);
@@ -76,7 +84,7 @@ fn check_script(rt: &impl Abort, alloc: Global) {
     let Ok(other) = def.dup(alloc) else {
         panic!(rt; "another owner");
     };
-    let mut module = Module::new(alloc);
+    let mut module = module(rt, alloc);
     holds(rt, module.set_script_fn(alloc, def).is_ok(), "a script");
     holds(rt, module.dup(alloc).is_ok(), "a module is copied");
     let Ok(shared) = SharedModule::new(alloc, module) else {
@@ -92,12 +100,10 @@ fn check_script(rt: &impl Abort, alloc: Global) {
 fn check_native(rt: &impl Abort, alloc: Global, natives: &Natives)
     requires { 1 < length natives.now.items.items }
 {
-    let mut module = Module::new(alloc);
-    if let Some(native) = natives.get(FnId(1)) {
-        let name = text_of(alloc, "n");
-        let set = module.set_native_fn(alloc, &name, native, FnId(1));
-        holds(rt, set.is_ok(), "a native is declared");
-    }
+    let mut module = module(rt, alloc);
+    let set = module.set_native_fn(alloc, natives, text_of(alloc, "n"), FnId(1));
+    holds(rt, set.is_ok(), "a native is declared");
+    holds(rt, module.count() == (0, 1, 0), "one declaration");
     let Ok(step) = natives.start(alloc, FnId(1), None, None, one(alloc, int(1))) else {
         panic!(rt; "a native is called");
     };
@@ -157,7 +163,7 @@ fn a_session_answers_twice(rt: HostRuntime) {
     let set = builtins.set(alloc, OpToken::Plus, TypeTag::Int, TypeTag::Int, FnId(7));
     holds(&rt, set.is_ok(), "a built-in function");
     assert!(&rt; builtins.fits(&natives), "natives that are held");
-    let made = Session::new(alloc, natives, Limits::DEFAULT, builtins, Printers::NONE);
+    let made = Session::new(alloc, natives, SEEDS, Limits::DEFAULT, builtins, Printers::NONE);
     let Ok(mut session) = made else {
         panic!(&rt; "a session");
     };

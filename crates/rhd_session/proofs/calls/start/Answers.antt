@@ -29,3 +29,17 @@ returns-in-Method g c = λ begun host.
     let ctx = context c.args.state.now (seen c.args.node.now).level (plan_of (seen c.args.node.now).call) c.args.pick.now in
     native_started _ _ c.start_native-in-Method.result c.args.pick.now.func ctx (record { first = c.args.received.first; args = c.args.received.args }) c.in-Method.id _ (moment begun host c.args.bodies.now)
     (ap native_of c.in-Method.is) refl (rw c.natives-in-Method.ensures at c.start_native-in-Method.ensures.step) c.start_native-in-Method.ensures.back
+
+pub returns-in-Plugin : goal.returns-in-Plugin
+unfolding objects_of lists_of
+returns-in-Plugin g c = λ begun host.
+    let ctx = context c.args.state.now (seen c.args.node.now).level (plan_of (seen c.args.node.now).call) c.args.pick.now in
+    native_started _ _ c.start_native-in-Plugin.result c.args.pick.now.func ctx (record { first = c.args.received.first; args = c.args.received.args }) c.in-Plugin.id _ (moment begun host c.args.bodies.now)
+    (ap native_of c.in-Plugin.is) refl (rw c.natives-in-Plugin.ensures at c.start_native-in-Plugin.ensures.step) c.start_native-in-Plugin.ensures.back
+
+pub returns-in-StaticPlugin : goal.returns-in-StaticPlugin
+unfolding objects_of lists_of
+returns-in-StaticPlugin g c = λ begun host.
+    let ctx = context c.args.state.now (seen c.args.node.now).level (plan_of (seen c.args.node.now).call) c.args.pick.now in
+    native_started _ _ c.start_native-in-StaticPlugin.result c.args.pick.now.func ctx (record { first = c.args.received.first; args = c.args.received.args }) c.in-StaticPlugin.id _ (moment begun host c.args.bodies.now)
+    (ap native_of c.in-StaticPlugin.is) refl (rw c.natives-in-StaticPlugin.ensures at c.start_native-in-StaticPlugin.ensures.step) c.start_native-in-StaticPlugin.ensures.back

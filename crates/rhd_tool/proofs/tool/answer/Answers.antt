@@ -13,7 +13,7 @@ returns-clause-all g c =
     all_answered _ c.args.text c.args.text.commands _ _ _ _ c.run_commands.result _ _ _
     c.run_commands.ensures.gives
     (ap (objects_of _ _ _ _ _) c.in-Ok.ensures.natives)
-    (start_same _ c.args.text _ _ c.in-Ok.ensures.world c.unwrap_or-limits.ensures)
+    (start_same _ c.args.text _ _ _ c.in-Ok.ensures.world c.unwrap_or-seeds.ensures c.unwrap_or-limits.ensures)
     c.in-Ok.ensures.frame
     (rw (c.in-Ok.ensures.begun, c.new-host.ensures, c.new-bodies.ensures) refl)
 
@@ -23,7 +23,7 @@ returns-clause-some g c =
     some_answered _ c.args.text c.args.text.commands _ _ _ _ c.run_commands.result _ _ _
     c.run_commands.ensures.gives
     (ap (objects_of _ _ _ _ _) c.in-Ok.ensures.natives)
-    (start_same _ c.args.text _ _ c.in-Ok.ensures.world c.unwrap_or-limits.ensures)
+    (start_same _ c.args.text _ _ _ c.in-Ok.ensures.world c.unwrap_or-seeds.ensures c.unwrap_or-limits.ensures)
     c.in-Ok.ensures.frame
     (rw (c.in-Ok.ensures.begun, c.new-host.ensures, c.new-bodies.ensures) refl)
 
