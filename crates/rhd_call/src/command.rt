@@ -19,9 +19,15 @@ pub enum Command {
     /// Makes an empty module, which gets the next number.
     NewModule,
     /// Sets a module's id; an empty one clears it.
-    SetId { module: ModuleId, id: Text },
+    SetId {
+        module: ModuleId,
+        id: Text,
+    },
     /// Sets a module's documentation.
-    SetDoc { module: ModuleId, doc: Text },
+    SetDoc {
+        module: ModuleId,
+        doc: Text,
+    },
     /// Sets a variable of a module.
     SetVar {
         module: ModuleId,
@@ -49,7 +55,10 @@ pub enum Command {
         func: RhaiFunc,
     },
     /// Declares a script in a module.
-    Script { module: ModuleId, def: SharedDef },
+    Script {
+        module: ModuleId,
+        def: SharedDef,
+    },
     /// Puts a module, as it is then, under a name into a module.
     SubModule {
         module: ModuleId,
@@ -57,9 +66,14 @@ pub enum Command {
         sub: ModuleId,
     },
     /// Takes all out of a module but its id and own flags.
-    Clear { module: ModuleId },
+    Clear {
+        module: ModuleId,
+    },
     /// Registers a native under a name, for all calls.
-    RegisterFn { name: Text, id: FnId },
+    RegisterFn {
+        name: Text,
+        id: FnId,
+    },
     /// Registers a native under a name as a method with these types, for all calls.
     RegisterRaw {
         name: Text,
@@ -67,17 +81,27 @@ pub enum Command {
         id: FnId,
     },
     /// The custom type of a number is shown by this name.
-    RegisterType { kind: u32, display: Text },
+    RegisterType {
+        kind: u32,
+        display: Text,
+    },
     /// Puts a module last among the libraries, as it is then.
-    PushLib { module: ModuleId },
+    PushLib {
+        module: ModuleId,
+    },
     /// Takes the last library off.
     PopLib,
     /// Makes a call.
     Call(CallRequest),
     /// How many variables and functions a module has.
-    Count { module: ModuleId },
+    Count {
+        module: ModuleId,
+    },
     /// Whether a module has a function under a key.
-    Contains { module: ModuleId, key: Key },
+    Contains {
+        module: ModuleId,
+        key: Key,
+    },
 }
 
 impl Command {
@@ -95,12 +119,20 @@ impl Command {
                 module: *module,
                 doc: doc.dup(alloc)?,
             }),
-            Command::SetVar { module, name, value } => Ok(Command::SetVar {
+            Command::SetVar {
+                module,
+                name,
+                value,
+            } => Ok(Command::SetVar {
                 module: *module,
                 name: name.dup(alloc)?,
                 value: value.dup(alloc)?,
             }),
-            Command::SetType { module, type_name, display } => Ok(Command::SetType {
+            Command::SetType {
+                module,
+                type_name,
+                display,
+            } => Ok(Command::SetType {
                 module: *module,
                 type_name: type_name.dup(alloc)?,
                 display: display.dup(alloc)?,
@@ -110,7 +142,13 @@ impl Command {
                 reg: reg.dup(alloc)?,
                 id: *id,
             }),
-            Command::RawNative { module, name, namespace, types, func } => Ok(Command::RawNative {
+            Command::RawNative {
+                module,
+                name,
+                namespace,
+                types,
+                func,
+            } => Ok(Command::RawNative {
                 module: *module,
                 name: name.dup(alloc)?,
                 namespace: *namespace,
@@ -126,9 +164,7 @@ impl Command {
                 name: name.dup(alloc)?,
                 sub: *sub,
             }),
-            Command::Clear { module } => Ok(Command::Clear {
-                module: *module,
-            }),
+            Command::Clear { module } => Ok(Command::Clear { module: *module }),
             Command::RegisterFn { name, id } => Ok(Command::RegisterFn {
                 name: name.dup(alloc)?,
                 id: *id,
@@ -142,14 +178,10 @@ impl Command {
                 kind: *kind,
                 display: display.dup(alloc)?,
             }),
-            Command::PushLib { module } => Ok(Command::PushLib {
-                module: *module,
-            }),
+            Command::PushLib { module } => Ok(Command::PushLib { module: *module }),
             Command::PopLib => Ok(Command::PopLib),
             Command::Call(request) => Ok(Command::Call(request.dup(alloc)?)),
-            Command::Count { module } => Ok(Command::Count {
-                module: *module,
-            }),
+            Command::Count { module } => Ok(Command::Count { module: *module }),
             Command::Contains { module, key } => Ok(Command::Contains {
                 module: *module,
                 key: key.dup(alloc)?,

@@ -9,5 +9,5 @@ mod reply;
 pub use command::{Command, Commands, ModuleId};
 pub use node::{CallNode, Carries, Nodes, Whose};
 pub use pick::{Layer, Pick};
-pub use rhd_func::SharedText;
 pub use reply::{Replies, Reply, Stopped};
+pub use rhd_func::SharedText;

@@ -1,5 +1,6 @@
 -- How natives and scripts are declared.
-use Rattle.std.specs.Prelude.{◌≡◌, ℕ, ◌-◌, Bool, true, false, not, nat_lt, ◌&&◌, ◌||◌, ◌==◌, List, [], ◌∷◌, ◌++◌, length, map, take, slice_get, nat_eq, if◌then◌else◌, Option, None, Some, unwrap_or, Result, Ok, Err, codes}
+use Rattle.std.specs.Prelude.{◌≡◌, ℕ, ◌-◌, Bool, true, false, not, nat_lt, ◌&&◌, ◌||◌, ◌==◌, List, [], ◌∷◌, ◌++◌, length, map, take, slice_get, nat_eq}
+use Rattle.std.specs.Prelude.{if◌then◌else◌, Option, None, Some, unwrap_or, Result, Ok, Err, codes}
 use Rattle.std.specs.List.{starts_with, list_any}
 use Rattle.std.specs.Map.{keys_of}
 use Rattle.rhd_value.specs.Tree.{Bytes}

@@ -9,7 +9,8 @@ ghost use Rattle.rhd_hash.specs.Parts.{mixed};
 ghost use Rattle.rhd_func.specs.Infos.{infos_of};
 ghost use Rattle.rhd_func.specs.declared.func.RhaiFunc.TheVariants.{Pure, Method};
 ghost use Rattle.rhd_func.specs.declared.access.FnNamespace.TheVariants.{Internal as internal, Global as global};
-ghost use Rattle.rhd_module.specs.Registered.{mapped_types, native_key, native_decl, registered_func, registered_decl, pure_by_name, is_banned, params_of, return_of, script_key, script_namespace, script_decl, new_registration, global_registration, setter_registration, getter_name, setter_name};
+ghost use Rattle.rhd_module.specs.Registered.{mapped_types, native_key, native_decl, registered_func, registered_decl, pure_by_name, is_banned, params_of, return_of, script_key, script_namespace, script_decl};
+ghost use Rattle.rhd_module.specs.Registered.{new_registration, global_registration, setter_registration, getter_name, setter_name};
 
 use rhd_decl::{Declaration, FuncMetadata};
 use rhd_func::{EnvId, FnAccess, FnNamespace, PluginFunc, RhaiFunc, ScriptFuncDef, SharedDef};

@@ -9,8 +9,8 @@ ghost use Rattle.rhd_func.specs.Infos.{infos_of};
 ghost use Rattle.rhd_value.specs.Firsts.{first_some, where_holds};
 ghost use Rattle.rhd_func.specs.Funcs.{is_method, is_iter, is_script, native_of};
 ghost use Rattle.rhd_decl.specs.declared.fault.DeclFault.TheVariants.{NotCallable, UnknownNumber};
-ghost use Rattle.rhd_module.specs.Contents.{script_of, with_comments};
-ghost use Rattle.rhd_module.specs.Registered.{Puts, Registers, RegistersRaw, RegistersBoth, Refuses, unheld, banned, pair_cause, native_at, native_key, native_decl, registered_decl, registered_hash, raw_cause, script_key, script_decl, new_registration, global_registration, setter_registration, pure_registration, getter_name, setter_name};
+ghost use Rattle.rhd_module.specs.Registered.{Puts, Registers, RegistersRaw, RegistersBoth, Refuses, unheld, banned, pair_cause, native_at, native_key, native_decl, registered_decl, registered_hash, raw_cause};
+ghost use Rattle.rhd_module.specs.Registered.{script_key, script_decl, new_registration, global_registration, setter_registration, pure_registration, getter_name, setter_name};
 
 use crate::module::Module;
 use crate::registration::{
@@ -185,7 +185,8 @@ impl Module {
         native: &Box<dyn PluginFunc>,
         id: FnId,
     ) -> Result<FuncMetadata, DeclFault>
-        ensures puts { Puts (banned (info native.now).is_method reg.name (info native.now).types) (native_key (info native.now).is_method reg.name (info native.now).types) (registered_decl self.old.own.seeds reg (info native.now) id) self.old result self.new }
+        ensures puts { Puts (banned (info native.now).is_method reg.name (info native.now).types) (native_key (info native.now).is_method reg.name (info native.now).types)
+            (registered_decl self.old.own.seeds reg (info native.now) id) self.old result self.new }
         ensures metadata { IfOk result (λ metadata. metadata ≡ (registered_decl self.old.own.seeds reg (info native.now) id).metadata) }
     {
         let func = reg.func_of(native, id);

@@ -161,7 +161,7 @@ fn print_and_accept(
 }
 
 /// Ends a call whose function answered a value, and gave this back of its first argument.
-#[tactic(auto, unfolding(rhd_engine::specs::Of::lists_of))]
+#[tactic(auto, unfolding(rhd_engine::specs::Of::lists_of, rhd_func::specs::Infos::infos_of))]
 pub fn finish(
     alloc: Global,
     engine: &Engine,
@@ -193,6 +193,7 @@ pub fn finish(
 }
 
 /// Ends a call whose function failed, and gave this back of its first argument.
+#[tactic(auto, unfolding(rhd_engine::specs::Of::lists_of, rhd_func::specs::Infos::infos_of))]
 pub fn hand_on(
     alloc: Global,
     engine: &Engine,
