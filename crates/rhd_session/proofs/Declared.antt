@@ -55,6 +55,10 @@ replied w w2 f f2 command (Err (UnknownNumber number count)) (Err e) is goes = a
 pub goes_refused : {w2 : World} {f2 : Frame} (w : World) (f : Frame) (command : Command) (fault : DeclFault) (number held : ℕ) → fault ≡ UnknownNumber number held → Declares w f command (Refused (UnknownNumber number held)) w2 f2 → Goes w f command (Err fault) w2 f2
 goes_refused {w2} {f2} w f command fault number held is d = subst (λ (x : DeclFault). Goes w f command (Err x) w2 f2) (sym is) d
 
+-- the same as a reply
+pub told_refused : {w2 : World} {f2 : Frame} (w : World) (f : Frame) (command : Command) (fault : DeclFault) (number held : ℕ) → fault ≡ UnknownNumber number held → Declares w f command (Refused (UnknownNumber number held)) w2 f2 → Declares w f command (Refused fault) w2 f2
+told_refused {w2} {f2} w f command fault number held is d = subst (λ (x : DeclFault). Declares w f command (Refused x) w2 f2) (sym is) d
+
 -- want of memory, as an answer
 pub goes_failed : {w2 : World} {f2 : Frame} (w : World) (f : Frame) (command : Command) (fault : DeclFault) → fault ≡ no_memory → w2 ≡ w → f2 ≡ f → Goes w f command (Err fault) w2 f2
 goes_failed {w2} {f2} w f command fault is ew ef = subst (λ (x : DeclFault). Goes w f command (Err x) w2 f2) (sym is) (ew, ef)
@@ -84,8 +88,8 @@ pub refused_second : (w : World) (f : Frame) (command : Command) (first all numb
     → Declares w f command (Refused (UnknownNumber n h)) w f
 refused_second w f command first all number held n h more is below en eh past =
     let found : cause w f command ≡ Some (UnknownNumber number held) =
-      by_unknown w f command (UnknownNumber number held)
-      (ap (first_of unknown_of) is ∙ passed first all ((number, held) ∷ more) (nat_lt first all) refl (lt-ltb first all below) ∙ first_unknown number held more (nat_lt number held) refl (le-ltb number held past)) in
+    by_unknown w f command (UnknownNumber number held)
+    (ap (first_of unknown_of) is ∙ passed first all ((number, held) ∷ more) (nat_lt first all) refl (lt-ltb first all below) ∙ first_unknown number held more (nat_lt number held) refl (le-ltb number held past)) in
     refused (found ∙ (λ i. Some (UnknownNumber (sym en i) (sym eh i))))
 
 -- all operands are held, and nothing else refuses the command
@@ -103,6 +107,12 @@ pub at_place : (ms : List ModuleTree) (i : ℕ) (m : ModuleTree) → i < length 
 at_place [] i m h is = absurd (omega arith)
 at_place (x ∷ ms) zero m h is = ap Some (sym is)
 at_place (x ∷ ms) (suc i) m h is = at_place ms i m (omega arith) is
+
+-- where nothing stands, the list has ended
+pub past_all : (ms : List ModuleTree) (i : ℕ) → slice_get ms i ≡ None → length ms ≤ i
+past_all [] i none = omega arith
+past_all (x ∷ ms) zero none = absurd cc
+past_all (x ∷ ms) (suc i) none = let rest = past_all ms i none in omega (arith, rest)
 
 -- the same put there changes nothing
 pub set_there : (ms : List ModuleTree) (i : ℕ) (m : ModuleTree) → slice_get ms i ≡ Some m → slice_set ms i m ≡ ms

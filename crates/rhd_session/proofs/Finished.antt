@@ -1,5 +1,5 @@
 -- The end of a call whose function answered a value of sizes that are allowed.
-use Rattle.std.proofs.Common.{◌≡◌, Bool, List, refl, ap, ◌∙◌}
+use Rattle.std.proofs.Common.{sym, ◌≡◌, Bool, List, refl, ap, ◌∙◌}
 use Rattle.std.specs.Prelude.{Option, Some, None}
 use Rattle.rhd_value.specs.Tree.{Tree}
 use Rattle.rhd_value.specs.declared.fault.EvalAltResult.{EvalAltResult}
@@ -36,3 +36,13 @@ fit_ends e plan pick back first v set printers f none p s =
     ap (λ (b : Option Bool). end_with_printer e b plan first v) (s ∙ ap (λ (ps : Printers). printer ps plan pick) p)
     ∙ ap (λ (x : Option Tree). end_with_printer e (printer e.printers plan pick) plan x v) f
     ∙ where_fit (unfit e plan pick back v) (end_with_printer e (printer e.printers plan pick) plan (first_at_end e plan pick back) v) (λ fault. refusing (first_at_end e plan pick back) v fault) none
+
+-- a size that is refused is the end
+where_unfit : (x : Option EvalAltResult) (fits : End) (refused : EvalAltResult → End) (fault : EvalAltResult) → x ≡ Some fault → refused fault ≡ elim x as (λ _. End) [ None ↦ fits | Some fault ↦ refused fault ]
+where_unfit None fits refused fault some = absurd cc
+where_unfit (Some other) fits refused fault some = let same : other ≡ fault = cc in ap refused (sym same)
+
+pub unfit_ends : (e : EngineLists) (plan : Plan) (pick : Pick) (back first : Option Tree) (v : Tree) (fault : EvalAltResult) → first ≡ first_at_end e plan pick back → unfit e plan pick back v ≡ Some fault → refusing first v fault ≡ done e plan pick back v
+unfit_ends e plan pick back first v fault f some =
+    ap (λ (x : Option Tree). refusing x v fault) f
+    ∙ where_unfit (unfit e plan pick back v) (end_with_printer e (printer e.printers plan pick) plan (first_at_end e plan pick back) v) (λ fault. refusing (first_at_end e plan pick back) v fault) fault some

@@ -18,6 +18,7 @@ use Rattle.rhd_module.specs.Tree.{ModuleTree}
 use Rattle.rhd_value.specs.declared.tag.TypeTag.TheVariants.{Custom}
 use Rattle.rhd_value.specs.Kinds.{type_name}
 use Rattle.rhd_func.specs.declared.access.FnNamespace.TheVariants.{Global}
+use Rattle.rhd_module.specs.declared.registration.FuncRegistration.{FuncRegistration}
 use Rattle.rhd_module.specs.Contents.{with_sub, with_type}
 use Rattle.rhd_module.specs.Registered.{with_decl, unheld, native_at, native_key, native_decl, registered_decl, Puts}
 use Rattle.rhd_engine.specs.Engine.{Frame}
@@ -50,7 +51,7 @@ module _ (w : World) (f : Frame) (command : Command) (k : ModuleTree → Key) (d
   first_step m changed ms (Err no_memory) is changes puts = (ap (λ (x : ModuleTree). in_globals w (x ∷ ms)) puts ∙ ap (in_globals w) (sym is), refl)
   first_step m changed ms (Err (HashCollision held other)) is changes puts =
       subst (λ (x : World). Goes w f command (Err (HashCollision held other)) x f) (sym (ap (λ (x : ModuleTree). in_globals w (x ∷ ms)) puts.2 ∙ ap (in_globals w) (sym is)))
-      (collided (caused ∙ puts.0) changes (0, (omega arith, refl)) puts.1)
+      (collided (caused ∙ puts.0) changes (0, omega arith, refl) puts.1)
   first_step m changed ms (Err (IndexerNotAllowed key)) is changes puts =
       subst (λ (x : World). Goes w f command (Err (IndexerNotAllowed key)) x f) (sym (ap (λ (x : ModuleTree). in_globals w (x ∷ ms)) puts.1 ∙ ap (in_globals w) (sym is))) (refused (caused ∙ puts.0))
   first_step m changed ms (Err NotCallable) is changes puts =
@@ -63,7 +64,7 @@ module _ (w : World) (f : Frame) (command : Command) (k : ModuleTree → Key) (d
   first_goes [] new r is changes puts = absurd puts
   first_goes (m ∷ ms) new r is changes puts =
       let made : change w f command ≡ Some (with_globals w f (with_decl (k m) (d m) m ∷ ms) (eager_keys (with_decl (k m) (d m) m) ∷ [])) =
-        changes ∙ ap (λ (gs : List ModuleTree). let globals = in_first (λ m. with_decl (k m) (d m) m) gs in Some (with_globals w f globals (map eager_keys (take 1 globals)))) is in
+      changes ∙ ap (λ (gs : List ModuleTree). let globals = in_first (λ m. with_decl (k m) (d m) m) gs in Some (with_globals w f globals (map eager_keys (take 1 globals)))) is in
       subst (λ (gs : List ModuleTree). Goes w f command r (in_globals w gs) f) (sym puts.2) (first_step m puts.0 ms r is made puts.1)
 
 or_none : (o : Option DeclFault) → option_or o None ≡ o
@@ -78,22 +79,27 @@ raw_caused : (w : World) (f : Frame) (name : Bytes) (types : List TypeTag) (id :
     → cause w f (commands.RegisterRaw name types id) ≡ first_some (unheld w.engine.natives (Some id) ∷ None ∷ indexer_not_allowed w.engine.natives (commands.RegisterRaw name types id) ∷ [])
 raw_caused w f name types id = ap (λ (u : Option DeclFault). first_some (u ∷ None ∷ indexer_not_allowed w.engine.natives (commands.RegisterRaw name types id) ∷ [])) (or_none (unheld w.engine.natives (Some id)))
 
-pub fn_goes : (w w2 : World) (f : Frame) (name : Bytes) (id : FnId) (new : List ModuleTree) (r : Result (Unit {0}) DeclFault) → RegistersFirst w.engine.natives (fn_registration w.engine.natives name id) id w.engine.globals r new → w2 ≡ in_globals w new
-    → Goes w f (commands.RegisterFn name id) r w2 f
-fn_goes w w2 f name id new r is made =
+pub fn_goes : (w w2 : World) (f : Frame) (name : Bytes) (id : FnId) (reg : FuncRegistration) (new : List ModuleTree) (r : Result (Unit {0}) DeclFault) → reg ≡ fn_registration w.engine.natives name id → RegistersFirst w.engine.natives reg id w.engine.globals r new
+    → w2 ≡ in_globals w new → Goes w f (commands.RegisterFn name id) r w2 f
+fn_goes w w2 f name id reg new r e is made =
     let natives = w.engine.natives in
     let info = native_at natives id in
-    let reg = fn_registration natives name id in
+    let told = fn_registration natives name id in
     subst (λ (x : World). Goes w f (commands.RegisterFn name id) r x f) (sym made)
-    (first_goes w f (commands.RegisterFn name id) (λ m. native_key info.is_method name info.types) (λ m. registered_decl m.own.seeds reg info id) _ (fn_caused w f name id) w.engine.globals new r refl refl is)
+    (first_goes w f (commands.RegisterFn name id) (λ m. native_key info.is_method name info.types) (λ m. registered_decl m.own.seeds told info id) _ (fn_caused w f name id) w.engine.globals new r refl refl
+    (subst (λ (x : FuncRegistration). RegistersFirst natives x id w.engine.globals r new) e is))
 
-pub raw_goes : (w w2 : World) (f : Frame) (name : Bytes) (types : List TypeTag) (id : FnId) (new : List ModuleTree) (r : Result (Unit {0}) DeclFault)
-    → RegistersRawFirst w.engine.natives (raw_registration name Global) types (raw_func name types id) w.engine.globals r new → w2 ≡ in_globals w new → Goes w f (commands.RegisterRaw name types id) r w2 f
-raw_goes w w2 f name types id new r is made =
-    let reg = raw_registration name Global in
-    let func = raw_func name types id in
+pub raw_goes : (w w2 : World) (f : Frame) (name : Bytes) (types lent : List TypeTag) (id : FnId) (reg : FuncRegistration) (func : RhaiFunc) (new : List ModuleTree) (r : Result (Unit {0}) DeclFault) → reg ≡ raw_registration name Global → lent ≡ types → func ≡ raw_func name lent id
+    → RegistersRawFirst w.engine.natives reg lent func w.engine.globals r new → w2 ≡ in_globals w new → Goes w f (commands.RegisterRaw name types id) r w2 f
+raw_goes w w2 f name types lent id reg func new r er et ef is made =
+    let natives = w.engine.natives in
+    let told = raw_registration name Global in
+    let method = raw_func name types id in
+    let as_told = subst (λ (x : FuncRegistration). RegistersRawFirst natives x lent func w.engine.globals r new) er is in
+    let of_method = subst (λ (x : RhaiFunc). RegistersRawFirst natives told lent x w.engine.globals r new) ef as_told in
+    let of_types = subst (λ (ts : List TypeTag). RegistersRawFirst natives told ts (raw_func name ts id) w.engine.globals r new) et of_method in
     subst (λ (x : World). Goes w f (commands.RegisterRaw name types id) r x f) (sym made)
-    (first_goes w f (commands.RegisterRaw name types id) (λ m. native_key true name types) (λ m. native_decl m.own.seeds reg true types func) _ (raw_caused w f name types id) w.engine.globals new r refl refl is)
+    (first_goes w f (commands.RegisterRaw name types id) (λ m. native_key true name types) (λ m. native_decl m.own.seeds told true types method) _ (raw_caused w f name types id) w.engine.globals new r refl refl of_types)
 
 -- a type is shown otherwise in the first global module
 pub type_goes : (w w2 : World) (f : Frame) (kind : ℕ) (display : Bytes) (new : List ModuleTree) → new ≡ in_first (with_type (type_name (Custom kind)) display []) w.engine.globals → w2 ≡ in_globals w new → Declares w f (commands.RegisterType kind display) Done w2 f
@@ -106,7 +112,7 @@ pub sub_goes : (w w2 : World) (f : Frame) (id sub : ModuleId) (name : Bytes) (ol
 sub_goes w w2 f id sub name old child new is from puts made =
     let none = none_refuses w f (commands.SubModule id name sub) (two_held id.0 (length w.modules) sub.0 (length w.modules) (slice_get_within w.modules id.0 old is) (slice_get_within w.modules sub.0 child from)) refl refl in
     let changes : change w f (commands.SubModule id name sub) ≡ Some (with_module w f id (without_keys (with_sub name child old))) =
-      ap (option_and_then (λ c. option_map (λ o. with_module w f id (without_keys (with_sub name c o))) (slice_get w.modules id.0))) from ∙ ap (option_map (λ o. with_module w f id (without_keys (with_sub name child o)))) is in
+    ap (option_and_then (λ c. option_map (λ o. with_module w f id (without_keys (with_sub name c o))) (slice_get w.modules id.0))) from ∙ ap (option_map (λ o. with_module w f id (without_keys (with_sub name child o)))) is in
     done_in w w2 f f (commands.SubModule id name sub) (with_module w f id (without_keys (with_sub name child old))) none changes tt (made ∙ ap (λ (m : ModuleTree). record w { modules = slice_set w.modules id.0 m }) puts) refl
 
 -- a module that gets a sub-module declares what it did
@@ -123,3 +129,7 @@ pub type_either : {E : Type 0} (r : Result (Unit {0}) E) (n : ℕ) (type_name di
     → (all_held n old ≡ true → all_held n new ≡ true) × (length new ≡ length old)
 type_either (Ok u) n type_name display old new ok err = (λ all. ap (all_held n) ok ∙ type_first_held n type_name display [] old ∙ all, ap length ok ∙ first_count (with_type type_name display []) old)
 type_either (Err e) n type_name display old new ok err = (λ all. ap (all_held n) err ∙ all, ap length err)
+
+-- the world with the same global modules
+pub globals_left : (w : World) (new : List ModuleTree) → new ≡ w.engine.globals → in_globals w new ≡ w
+globals_left w new same = ap (in_globals w) same

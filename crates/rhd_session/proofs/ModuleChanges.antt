@@ -1,5 +1,5 @@
 -- Commands that change one module by themselves.
-use Rattle.std.proofs.Common.{◌≡◌, ◌<◌, ℕ, Bool, true, false, not, List, [], ◌∷◌, length, refl, sym, ap, subst, ◌∙◌, arith}
+use Rattle.std.proofs.Common.{◌≡◌, ◌≤◌, ◌<◌, ℕ, Bool, true, false, not, List, [], ◌∷◌, length, refl, sym, ap, subst, ◌∙◌, arith}
 use Rattle.std.specs.Prelude.{◌||◌, Option, Some, None, Result, Ok, Err, nat_lt, slice_get, slice_set, option_map}
 use Rattle.std.specs.List.{AllByRecursion, Contains}
 use Rattle.std.specs.Option.{option_or}
@@ -19,18 +19,25 @@ use Rattle.rhd_decl.specs.declared.declaration.Declaration.{Declaration}
 use Rattle.rhd_decl.specs.declared.fault.DeclFault.{DeclFault}
 use Rattle.rhd_decl.specs.declared.fault.DeclFault.TheVariants.{HashCollision, IndexerNotAllowed, NotCallable, UnknownNumber, OutOfMemory as no_memory}
 use Rattle.rhd_module.specs.Tree.{ModuleTree}
-use Rattle.rhd_module.specs.Registered.{with_decl, unheld, banned, native_at, registered_func, Puts}
+use Rattle.rhd_value.specs.Tree.{Bytes}
+use Rattle.rhd_value.specs.declared.tag.TypeTag.{TypeTag}
+use Rattle.rhd_func.specs.declared.access.FnNamespace.{FnNamespace}
+use Rattle.rhd_func.specs.declared.func.ScriptFuncDef.{ScriptFuncDef}
+use Rattle.rhd_module.specs.declared.registration.FuncRegistration.{FuncRegistration}
+use Rattle.rhd_module.specs.Registered.{with_decl, unheld, banned, native_at, native_key, native_decl, registered_func, registered_decl, registration_cause, raw_cause, script_key, script_decl, Puts, Registers, RegistersRaw}
 use Rattle.rhd_engine.specs.Engine.{Frame}
 use Rattle.rhd_engine.specs.Held.{names_held}
 use Rattle.rhd_call.specs.declared.command.Command.{Command}
 use Rattle.rhd_call.specs.declared.command.ModuleId.{ModuleId}
+use Rattle.rhd_func.specs.declared.access.IterId.{IterId}
+use Rattle.rhd_call.specs.declared.reply.Reply.TheVariants.{Refused}
 use Rattle.rhd_call.specs.declared.command.Command.TheVariants as commands
 use Rattle.rhd_session.specs.World.{World}
-use Rattle.rhd_session.specs.Commands.{cause, change, Keyed, ChangedModule, with_keys, without_keys, module_change, target, operands, func_operands, unknown_of, not_callable, indexer_not_allowed, with_module}
+use Rattle.rhd_session.specs.Commands.{cause, change, Keyed, eager_keys, ChangedModule, with_keys, without_keys, module_change, target, operands, func_operands, unknown_of, not_callable, indexer_not_allowed, with_module, raw_registration}
 use Rattle.rhd_session.specs.Answered.{Declares, refused, collided, NoClash}
 use Rattle.rhd_session.specs.Changing.{ChangesModule, Goes, module_cause, native_in, iterator_in}
 use Rattle.rhd_engine.proofs.HeldLaws.{stays_held, number_held, registered_number, allowed_held, can_be_called, callable_by, infos_count}
-use Rattle.rhd_session.proofs.Declared.{set_there, done_in}
+use Rattle.rhd_session.proofs.Declared.{set_there, done_in, refused_first, refused_second}
 
 -- a declaration that is put is a change with the keys of the new table
 pub puts_change : (natives : List NativeInfo) (command : Command) (known : Option DeclFault) (k : Key) (d : Declaration) (old new : ModuleTree) (r : Result (Unit {0}) DeclFault) → module_cause natives command ≡ known → module_change natives command old ≡ with_keys (with_decl k d old)
@@ -39,13 +46,31 @@ puts_change natives command known k d old new (Ok u) none is puts =
     (none ∙ puts.0, subst (λ (c : ChangedModule). AllByRecursion NoClash c.tables) (sym is) (puts.1, tt), puts.2 ∙ ap (λ (c : ChangedModule). c.tree) (sym is))
 puts_change natives command known k d old new (Err no_memory) none is puts = puts
 puts_change natives command known k d old new (Err (HashCollision held other)) none is puts = (
-    none ∙ puts.0,
-    subst (λ (c : ChangedModule). (table : Keyed) × Contains c.tables table × Clashing table.seeds table.keys held other) (sym is) (_, (0, (omega arith, refl)), puts.1),
-    puts.2,
-  )
+  none ∙ puts.0,
+  subst (λ (c : ChangedModule). (table : Keyed) × Contains c.tables table × Clashing table.seeds table.keys held other) (sym is) (eager_keys (with_decl k d old), (0, omega arith, refl), puts.1),
+  puts.2,
+)
 puts_change natives command known k d old new (Err (IndexerNotAllowed key)) none is puts = (none ∙ puts.0, puts.1)
 puts_change natives command known k d old new (Err NotCallable) none is puts = (none ∙ puts.0, puts.1)
 puts_change natives command known k d old new (Err (UnknownNumber number count)) none is puts = (none ∙ puts.0, puts.1)
+
+-- the commands that put a declaration
+pub native_changes : (natives : List NativeInfo) (command : Command) (m : ModuleId) (reg : FuncRegistration) (id : FnId) (old new : ModuleTree) (r : Result (Unit {0}) DeclFault) → command ≡ commands.Native m reg id → Registers natives reg id old r new → ChangesModule natives command old r new
+native_changes natives command m reg id old new r is puts =
+    let info = native_at natives id in
+    subst (λ (x : Command). ChangesModule natives x old r new) (sym is)
+    (puts_change natives (commands.Native m reg id) (registration_cause natives reg.name id) (native_key info.is_method reg.name info.types) (registered_decl old.own.seeds reg info id) old new r refl refl puts)
+
+pub raw_changes : (natives : List NativeInfo) (command : Command) (m : ModuleId) (name : Bytes) (namespace : FnNamespace) (types : List TypeTag) (func : RhaiFunc) (old new : ModuleTree) (r : Result (Unit {0}) DeclFault) → command ≡ commands.RawNative m name namespace types func
+    → RegistersRaw natives (raw_registration name namespace) types func old r new → ChangesModule natives command old r new
+raw_changes natives command m name namespace types func old new r is puts =
+    let method = is_method natives func in
+    subst (λ (x : Command). ChangesModule natives x old r new) (sym is)
+    (puts_change natives (commands.RawNative m name namespace types func) (raw_cause natives name types func) (native_key method name types) (native_decl old.own.seeds (raw_registration name namespace) method types func) old new r refl refl puts)
+
+pub script_changes : (natives : List NativeInfo) (command : Command) (m : ModuleId) (def : ScriptFuncDef) (old new : ModuleTree) (r : Result (Unit {0}) DeclFault) → command ≡ commands.Script m def → Puts None (script_key def) (script_decl old.own.seeds def None) old r new → ChangesModule natives command old r new
+script_changes natives command m def old new r is puts =
+    subst (λ (x : Command). ChangesModule natives x old r new) (sym is) (puts_change natives (commands.Script m def) None (script_key def) (script_decl old.own.seeds def None) old new r refl refl puts)
 
 -- where the only operand before is held, those behind it refuse
 behind : (number held : ℕ) (more : List (ℕ × ℕ)) → nat_lt number held ≡ true → first_of unknown_of ((number, held) ∷ more) ≡ first_of unknown_of more
@@ -185,3 +210,66 @@ pub held_by_table : {X : Type 0} {F : X → Type 0} (info : (x : X) × F x → N
     → names_held (length natives.items.items) old ≡ true → names_held (length natives.items.items) new ≡ true
 held_by_table info natives command old new r goes =
     subst (λ (n : ℕ). names_held n old ≡ true → names_held n new ≡ true) (infos_count info natives) (held_changed (infos_of info natives) command old new r goes)
+
+-- What refuses a command that changes one module by itself.
+
+same_operand : (w : World) (m id : ModuleId) (more : List (ℕ × ℕ)) → Some m ≡ Some id → (m.0, length w.modules) ∷ more ≡ (id.0, length w.modules) ∷ more
+same_operand w m id more e = let same : m ≡ id = cc in ap (λ (x : ModuleId). (x.0, length w.modules) ∷ more) same
+
+iterator_alone : (w : World) (func : RhaiFunc) (iterator : IterId) → iter_fn_of func ≡ Some iterator → func_operands w func ≡ (iterator.0, w.engine.iterators) ∷ []
+iterator_alone w (funcs.Iterator id) iterator is = let same : id ≡ iterator = cc in ap (λ (x : IterId). (x.0, w.engine.iterators) ∷ []) same
+iterator_alone w (funcs.Pure id context pure volatile) iterator is = absurd cc
+iterator_alone w (funcs.Method id context pure volatile) iterator is = absurd cc
+iterator_alone w (funcs.Plugin id) iterator is = absurd cc
+iterator_alone w (funcs.StaticPlugin id) iterator is = absurd cc
+iterator_alone w (funcs.Script def env) iterator is = absurd cc
+
+first_operand : (w : World) (f : Frame) (command : Command) (id : ModuleId) → target command ≡ Some id → (more : List (ℕ × ℕ)) × (operands w f command ≡ (id.0, length w.modules) ∷ more)
+first_operand w f (commands.SetId m a) id at = ([], same_operand w m id [] at)
+first_operand w f (commands.SetDoc m a) id at = ([], same_operand w m id [] at)
+first_operand w f (commands.SetVar m a b) id at = ([], same_operand w m id [] at)
+first_operand w f (commands.SetType m a b) id at = ([], same_operand w m id [] at)
+first_operand w f (commands.Native m reg n) id at = ((n.0, length w.engine.natives) ∷ [], same_operand w m id ((n.0, length w.engine.natives) ∷ []) at)
+first_operand w f (commands.RawNative m name namespace types func) id at = (func_operands w func, same_operand w m id (func_operands w func) at)
+first_operand w f (commands.Script m def) id at = ([], same_operand w m id [] at)
+first_operand w f (commands.Clear m) id at = ([], same_operand w m id [] at)
+first_operand w f commands.NewModule id at = absurd cc
+first_operand w f (commands.SubModule m name sub) id at = absurd cc
+first_operand w f (commands.RegisterFn name n) id at = absurd cc
+first_operand w f (commands.RegisterRaw name types n) id at = absurd cc
+first_operand w f (commands.RegisterType kind display) id at = absurd cc
+first_operand w f (commands.PushLib m) id at = absurd cc
+first_operand w f commands.PopLib id at = absurd cc
+first_operand w f (commands.Call request) id at = absurd cc
+first_operand w f (commands.Count m) id at = absurd cc
+first_operand w f (commands.Contains m key) id at = absurd cc
+
+-- its module isn't held
+pub refused_target : (w : World) (f : Frame) (command : Command) (id : ModuleId) (n h : ℕ) → target command ≡ Some id → h ≡ length w.modules → length w.modules ≤ id.0 → n ≡ id.0 → Declares w f command (Refused (UnknownNumber n h)) w f
+refused_target w f command id n h at eh past en = let o = first_operand w f command id at in refused_first w f command id.0 (length w.modules) n h o.0 o.1 en eh past
+
+iterator_operand : (w : World) (f : Frame) (command : Command) (id : ModuleId) (iterator : IterId) → target command ≡ Some id → iterator_in command ≡ Some iterator → operands w f command ≡ (id.0, length w.modules) ∷ (iterator.0, w.engine.iterators) ∷ []
+iterator_operand w f (commands.RawNative m name namespace types func) id iterator at is = same_operand w m id (func_operands w func) at ∙ ap (λ (os : List (ℕ × ℕ)). (id.0, length w.modules) ∷ os) (iterator_alone w func iterator is)
+iterator_operand w f (commands.SetId m a) id iterator at is = absurd cc
+iterator_operand w f (commands.SetDoc m a) id iterator at is = absurd cc
+iterator_operand w f (commands.SetVar m a b) id iterator at is = absurd cc
+iterator_operand w f (commands.SetType m a b) id iterator at is = absurd cc
+iterator_operand w f (commands.Native m reg n) id iterator at is = absurd cc
+iterator_operand w f (commands.Script m def) id iterator at is = absurd cc
+iterator_operand w f (commands.Clear m) id iterator at is = absurd cc
+iterator_operand w f commands.NewModule id iterator at is = absurd cc
+iterator_operand w f (commands.SubModule m name sub) id iterator at is = absurd cc
+iterator_operand w f (commands.RegisterFn name n) id iterator at is = absurd cc
+iterator_operand w f (commands.RegisterRaw name types n) id iterator at is = absurd cc
+iterator_operand w f (commands.RegisterType kind display) id iterator at is = absurd cc
+iterator_operand w f (commands.PushLib m) id iterator at is = absurd cc
+iterator_operand w f commands.PopLib id iterator at is = absurd cc
+iterator_operand w f (commands.Call request) id iterator at is = absurd cc
+iterator_operand w f (commands.Count m) id iterator at is = absurd cc
+iterator_operand w f (commands.Contains m key) id iterator at is = absurd cc
+
+-- a function that iterates is held by no engine yet
+pub iterator_refused : (w : World) (f : Frame) (command : Command) (id : ModuleId) (iterator : IterId) → target command ≡ Some id → id.0 < length w.modules → iterator_in command ≡ Some iterator → w.engine.iterators ≡ 0
+    → Declares w f command (Refused (UnknownNumber iterator.0 0)) w f
+iterator_refused w f command id iterator at below is none =
+    refused_second w f command id.0 (length w.modules) iterator.0 w.engine.iterators iterator.0 0 [] (iterator_operand w f command id iterator at is) below refl (sym none) (omega (arith, none))

@@ -1,12 +1,13 @@
 //! How a session carries out the commands that declare something.
 
-ghost use Rattle.std.specs.Prelude.{◌≡◌, ◌≤◌, ◌<◌, ◌+◌, ◌^◌, true, false, Some, None, is_some, IfOk, OnErr, length};
+ghost use Rattle.std.specs.Prelude.{◌≡◌, ◌≤◌, ◌<◌, ◌+◌, ◌^◌, true, false, Some, None, is_some, IfOk, OnErr, length, slice_get};
+ghost use Rattle.std.specs.Option.{option_copied};
 ghost use Rattle.rhd_module.specs.Registered.{RegistersRaw};
 ghost use Rattle.rhd_decl.specs.declared.fault.DeclFault.TheVariants.{UnknownNumber};
 ghost use Rattle.rhd_func.specs.Infos.{infos_of};
 ghost use Rattle.rhd_call.specs.declared.command.Command.TheVariants as commands;
 ghost use Rattle.rhd_session.specs.Answered.{Declares};
-ghost use Rattle.rhd_session.specs.Changing.{iterator_in, ChangesModule, Goes, IsReply};
+ghost use Rattle.rhd_session.specs.Changing.{is_told, iterator_in, ChangesModule, Goes, IsReply};
 ghost use Rattle.rhd_session.specs.Commands.{target, raw_registration};
 
 use crate::session::Session;
@@ -54,6 +55,21 @@ pub(crate) fn target(command: &Command) -> Option<ModuleId>
         Command::Clear { module: id } => Some(*id),
         _ => None,
     }
+}
+
+/// Whether a command changes no numbered module by itself, and answers nothing but that it is done.
+pub(crate) fn is_told(command: &Command) -> bool
+    ensures { result ≡ is_told command.now }
+{
+    matches!(
+        command,
+        Command::SubModule { .. }
+            | Command::RegisterFn { .. }
+            | Command::RegisterRaw { .. }
+            | Command::RegisterType { .. }
+            | Command::PushLib { .. }
+            | Command::PopLib
+    )
 }
 
 /// The function that iterates that a command would register in a module.
@@ -109,7 +125,9 @@ fn change(
         Command::SetDoc { doc, .. } => Ok(changed.set_doc(alloc, doc)?),
         Command::SetVar { name, value, .. } => Ok(changed.set_var(alloc, name, value)?),
         Command::SetType {
-            type_name, display, ..
+            type_name,
+            display,
+            ..
         } => Ok(changed.set_custom_type_raw(alloc, type_name, display)?),
         Command::Native { reg, id, .. } => changed.register(alloc, reg, natives, id),
         Command::RawNative {
@@ -118,7 +136,15 @@ fn change(
             types,
             func,
             ..
-        } => register_raw(alloc, natives, changed, name, namespace, types.as_slice(), func),
+        } => register_raw(
+            alloc,
+            natives,
+            changed,
+            name,
+            namespace,
+            types.as_slice(),
+            func,
+        ),
         Command::Script { def, .. } => changed.set_script_fn(alloc, def),
         Command::Clear { .. } => Ok(changed.clear(alloc)?),
         _ => unreachable!(),
@@ -165,8 +191,27 @@ impl Session {
         if let Some(iterator) = iterator_in(&command) {
             return Err(unknown(iterator.0, 0));
         }
-        let natives = &self.engine.natives;
-        change(alloc, natives, &mut self.modules[at], command)
+        self.change_held(alloc, id, command)
+    }
+
+    /// Changes a module that is held, as a command says that changes it by itself.
+    fn change_held(
+        &mut self,
+        alloc: Global,
+        id: ModuleId,
+        command: Command,
+    ) -> Result<(), DeclFault>
+        requires held { id.0 < length (modules_of self.old) }
+        requires changes { target command ≡ Some id }
+        requires plain { iterator_in command ≡ None }
+        ensures goes { Goes (world_of info self.old) (frame_of self.old) command result (world_of info self.new) (frame_of self.new) }
+        ensures natives { natives_of self.new ≡ natives_of self.old }
+        ensures begun { calls_begun_of self.new ≡ calls_begun_of self.old }
+        ensures count { length (modules_of self.new) ≡ length (modules_of self.old) }
+    {
+        let engine = &self.engine;
+        let natives = &engine.natives;
+        change(alloc, natives, &mut self.modules[id.0 as usize], command)
     }
 
     /// Puts a module, as it is now, under a name into a module.
@@ -195,7 +240,12 @@ impl Session {
     }
 
     /// Registers a native under a name for all calls.
-    pub(crate) fn register_fn(&mut self, alloc: Global, name: Text, id: FnId) -> Result<(), DeclFault>
+    pub(crate) fn register_fn(
+        &mut self,
+        alloc: Global,
+        name: Text,
+        id: FnId,
+    ) -> Result<(), DeclFault>
         ensures goes { Goes (world_of info self.old) (frame_of self.old) (commands.RegisterFn name id) result (world_of info self.new) (frame_of self.new) }
         ensures natives { natives_of self.new ≡ natives_of self.old }
         ensures begun { calls_begun_of self.new ≡ calls_begun_of self.old }
@@ -229,7 +279,9 @@ impl Session {
         let Ok(reg) = raw_registration(alloc, name, FnNamespace::Global) else {
             return Err(DeclFault::OutOfMemory);
         };
-        engine.globals.register_raw_in_first(alloc, reg, natives, types, func)
+        engine
+            .globals
+            .register_raw_in_first(alloc, reg, natives, types, func)
     }
 
     /// The custom type of a number is shown by this name.
@@ -244,9 +296,14 @@ impl Session {
         ensures begun { calls_begun_of self.new ≡ calls_begun_of self.old }
         ensures count { modules_of self.new ≡ modules_of self.old }
     {
-        let type_name = TypeTag::Custom(kind).type_name(alloc)?;
+        let Ok(type_name) = TypeTag::Custom(kind).type_name(alloc) else {
+            return Err(DeclFault::OutOfMemory);
+        };
         let engine = &mut self.engine;
-        Ok(engine.globals.set_type_in_first(alloc, type_name, display)?)
+        match engine.globals.set_type_in_first(alloc, type_name, display) {
+            Ok(()) => Ok(()),
+            Err(OutOfMemory) => Err(DeclFault::OutOfMemory),
+        }
     }
 
     /// Puts a module last among the libraries.
@@ -277,11 +334,18 @@ impl Session {
         }
     }
 
+    /// The module of a number; none where it isn't held.
+    fn module_at(&self, id: ModuleId) -> Option<&SharedModule>
+        ensures { option_copied result ≡ slice_get (modules_of self.now) id.0 }
+    {
+        self.modules.get(id.0 as usize)
+    }
+
     /// How many variables and functions a module has.
     pub(crate) fn count(&self, id: ModuleId) -> Reply
         ensures { Declares (world_of info self.now) (frame_of self.now) (commands.Count id) result (world_of info self.now) (frame_of self.now) }
     {
-        match self.modules.get(id.0 as usize) {
+        match self.module_at(id) {
             Some(counted) => {
                 let (vars, fns, iterators) = counted.module().count();
                 Reply::Count(vars, fns, iterators)
@@ -294,7 +358,7 @@ impl Session {
     pub(crate) fn contains(&self, id: ModuleId, key: &Key) -> Reply
         ensures { Declares (world_of info self.now) (frame_of self.now) (commands.Contains id key.now) result (world_of info self.now) (frame_of self.now) }
     {
-        match self.modules.get(id.0 as usize) {
+        match self.module_at(id) {
             Some(asked) => Reply::Truth(asked.module().contains_fn(key)),
             None => Reply::Refused(unknown(id.0, self.modules.len())),
         }

@@ -160,8 +160,21 @@ fn print_and_accept(
     Ok(())
 }
 
+/// The first argument by reference, or the object, as it is in the end.
+fn first_at_end(
+    alloc: Global,
+    engine: &Engine,
+    call: &CallRequest,
+    pick: &Pick,
+    back: Option<Dynamic>,
+) -> Result<Option<Dynamic>, OutOfMemory>
+    ensures { IfOk result (λ first. first ≡ ends.first_at_end (lists_of info engine.now) (plan_of call.now) pick.now back) }
+{
+    first_after(alloc, engine.natives(), &pick.func, shape_of(call), back)
+}
+
 /// Ends a call whose function answered a value, and gave this back of its first argument.
-#[tactic(auto, unfolding(rhd_engine::specs::Of::lists_of, rhd_func::specs::Infos::infos_of))]
+#[tactic(auto, unfolding(rhd_engine::specs::Of::lists_of))]
 pub fn finish(
     alloc: Global,
     engine: &Engine,
@@ -173,13 +186,7 @@ pub fn finish(
     ensures { OnOk result (seen node.new ≡ with_end (seen node.old) (ends.done (lists_of info engine.now) (plan_of (seen node.old).call) pick.now back value)) }
 {
     let pos = position_of(&node.call);
-    let first = first_after(
-        alloc,
-        engine.natives(),
-        &pick.func,
-        shape_of(&node.call),
-        back,
-    )?;
+    let first = first_at_end(alloc, engine, &node.call, pick, back)?;
     match unfit(alloc, engine, pos, pick, &first, &value)? {
         Some(fault) => {
             refuse(node, first, value, fault);
@@ -193,7 +200,6 @@ pub fn finish(
 }
 
 /// Ends a call whose function failed, and gave this back of its first argument.
-#[tactic(auto, unfolding(rhd_engine::specs::Of::lists_of, rhd_func::specs::Infos::infos_of))]
 pub fn hand_on(
     alloc: Global,
     engine: &Engine,
@@ -204,13 +210,7 @@ pub fn hand_on(
 ) -> Result<(), OutOfMemory>
     ensures { OnOk result (seen node.new ≡ with_end (seen node.old) (ends.handed_on (lists_of info engine.now) (plan_of (seen node.old).call) pick.now back fault)) }
 {
-    let first = first_after(
-        alloc,
-        engine.natives(),
-        &pick.func,
-        shape_of(&node.call),
-        back,
-    )?;
+    let first = first_at_end(alloc, engine, &node.call, pick, back)?;
     answer_with(node, Whose::Called, first, Err(fault));
     Ok(())
 }

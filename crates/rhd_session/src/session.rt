@@ -1,6 +1,6 @@
 //! A session: an engine, the state of a run, and modules by number.
 
-ghost use Rattle.std.specs.Prelude.{◌≡◌, ◌≤◌, ◌<◌, ◌+◌, ◌^◌, ◌++◌, ◌∷◌, [], true, false, IfOk, OnOk, OnErr, length, vec_len, vec_capacity};
+ghost use Rattle.std.specs.Prelude.{◌≡◌, ◌≤◌, ◌<◌, ◌+◌, ◌^◌, ◌++◌, ◌∷◌, [], true, false, None, IfOk, OnOk, OnErr, length, vec_len, vec_capacity};
 ghost use Rattle.rhd_func.specs.Infos.{infos_of};
 ghost use Rattle.rhd_call.specs.declared.reply.Reply.{Reply};
 ghost use Rattle.rhd_engine.specs.Held.{all_held, builtins_held};
@@ -10,9 +10,9 @@ ghost use Rattle.rhd_session.specs.Objects.{objects_of};
 ghost use Rattle.rhd_session.specs.Start.{start_world};
 ghost use Rattle.rhd_session.specs.Answered.{Declares, CallReplied, Replied, Begins, RunGives};
 ghost use Rattle.rhd_session.specs.Changing.{is_told, Goes};
-ghost use Rattle.rhd_session.specs.Commands.{is_call};
+ghost use Rattle.rhd_session.specs.Commands.{is_call, target};
 
-use crate::declaring::{reply_of, target};
+use crate::declaring::{is_told, reply_of, target};
 use crate::filling::begun;
 use crate::run::fill;
 use rhd_call::{Command, Commands, Replies, Reply, Stopped};
@@ -77,11 +77,29 @@ impl Session {
         if let Some(id) = target(&command) {
             return reply_of(self.change_module(alloc, id, command));
         }
+        if is_told(&command) {
+            return reply_of(self.register(alloc, command));
+        }
+        self.answer_itself(alloc, &command)
+    }
+
+    /// Answers a command that has an answer of its own.
+    fn answer_itself(&mut self, alloc: Global, command: &Command) -> Result<Reply, OutOfMemory>
+        requires call { is_call command.now ≡ false }
+        requires told { is_told command.now ≡ false }
+        requires plain { target command.now ≡ None }
+        requires count { length (modules_of self.old) < 2 ^ 32 }
+        ensures applied { IfOk result (λ reply. Declares (world_of info self.old) (frame_of self.old) command.now reply (world_of info self.new) (frame_of self.new)) }
+        ensures failed { OnErr result ((world_of info self.new ≡ world_of info self.old) × (frame_of self.new ≡ frame_of self.old)) }
+        ensures natives { natives_of self.new ≡ natives_of self.old }
+        ensures begun { calls_begun_of self.new ≡ calls_begun_of self.old }
+        ensures count { length (modules_of self.new) ≤ length (modules_of self.old) + 1 }
+    {
         match command {
             Command::NewModule => self.new_module(alloc),
-            Command::Count { module: id } => Ok(self.count(id)),
-            Command::Contains { module: id, key } => Ok(self.contains(id, &key)),
-            told => reply_of(self.register(alloc, told)),
+            Command::Count { module: id } => Ok(self.count(*id)),
+            Command::Contains { module: id, key } => Ok(self.contains(*id, key)),
+            _ => unreachable!(),
         }
     }
 

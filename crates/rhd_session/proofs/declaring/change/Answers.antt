@@ -1,12 +1,11 @@
-use Rattle.std.proofs.Common.{refl}
-use Rattle.rhd_session.proofs.ModuleChanges.{puts_change}
+use Rattle.rhd_session.proofs.ModuleChanges.{native_changes, raw_changes, script_changes}
 use Rattle.rhd_session.proofs.declaring.change.Goals as goal
 
 pub returns-in-Native : goal.returns-in-Native
-returns-in-Native g c = puts_change _ c.args.command _ _ _ c.args.changed.now _ c.register.result refl refl c.register.ensures
+returns-in-Native g c = native_changes _ c.args.command _ _ _ c.args.changed.now _ c.register.result c.in-Native.is c.register.ensures
 
 pub returns-in-RawNative : goal.returns-in-RawNative
-returns-in-RawNative g c = puts_change _ c.args.command _ _ _ c.args.changed.now _ c.register_raw.result refl refl c.register_raw.ensures
+returns-in-RawNative g c = raw_changes _ c.args.command _ _ _ _ _ c.args.changed.now _ c.register_raw.result c.in-RawNative.is (rw c.as_slice.ensures at c.register_raw.ensures)
 
 pub returns-in-Script : goal.returns-in-Script
-returns-in-Script g c = puts_change _ c.args.command _ _ _ c.args.changed.now _ c.set_script_fn.result refl refl c.set_script_fn.ensures
+returns-in-Script g c = script_changes _ c.args.command _ _ c.args.changed.now _ c.set_script_fn.result c.in-Script.is c.set_script_fn.ensures

@@ -20,10 +20,11 @@ pub invariant_of-engine : goal.invariant_of-engine
 invariant_of-engine g c = let engine = c.args.self.now.engine in record { globals_held = engine.globals_held; has_namespace = engine.has_namespace; builtins_held = engine.builtins_held; limited = engine.limited }
 
 pub returns-in_default-clause-goes : goal.returns-in_default-clause-goes
+unfolding lists_of
 returns-in_default-clause-goes g c = (refl, refl)
 
 pub returns-clause-goes : goal.returns-clause-goes
 unfolding lists_of
 returns-clause-goes g c =
     let w = world_of (λ z. (goal.PluginFunc-dyn g z).info z.1) c.args.self.now in
-    fn_goes w _ (frame_of c.args.self.now) c.args.name c.args.id c.register_in_first.new.self c.register_in_first.result _ refl
+    fn_goes w _ (frame_of c.args.self.now) c.args.name c.args.id c.in-Ok.reg c.register_in_first.new.self c.register_in_first.result c.in-Ok.ensures c.register_in_first.ensures refl

@@ -1,5 +1,6 @@
 use Rattle.std.proofs.Common.{◌≡◌, ◌≤◌, ◌<◌, length, refl, rules, arith, ap, List, slice_set, ◌∙◌}
 use Rattle.rhd_module.specs.Tree.{ModuleTree}
+use Rattle.rhd_module.specs.Contents.{with_sub}
 use Rattle.rhd_call.specs.declared.command.Command.TheVariants as commands
 use Rattle.rhd_session.specs.Of.{world_of, frame_of}
 use Rattle.rhd_engine.proofs.HeldLaws.{all_at, all_set}
@@ -32,3 +33,13 @@ invariant_of-self-clause-modules_held g c =
     let held = all_at _ c.args.self.now.modules.items c.args.id.0 c.index_mut.result.now c.args.self.now.modules_held there in
     all_set _ c.args.self.now.modules.items c.args.id.0 c.set_sub_module.new.self c.args.self.now.modules_held
     (sub_either c.set_sub_module.result _ c.args.name _ c.index_mut.result.now c.set_sub_module.new.self c.set_sub_module.ensures.ok c.set_sub_module.ensures.err held)
+
+pub returns-clause-goes : goal.returns-clause-goes
+returns-clause-goes g c =
+    let m : c.len.result ≡ length c.args.self.now.modules.items = search rules in
+    let h : c.args.id.0 < length c.args.self.now.modules.items = omega (arith, m, c.if-at-len.false) in
+    let k : c.len-2.result ≡ length c.args.self.now.modules.items = search rules in
+    let b : c.args.sub.0 < length c.args.self.now.modules.items = omega (arith, k, c.if-from-len.false) in
+    sub_goes (world_of (λ z. (goal.PluginFunc-dyn g z).info z.1) c.args.self.now) _ (frame_of c.args.self.now) c.args.id c.args.sub c.args.name c.index_mut.result.now _ c.set_sub_module.new.self
+    (at_place c.args.self.now.modules.items c.args.id.0 c.index_mut.result.now h c.index_mut.ensures.value) (at_place c.args.self.now.modules.items c.args.sub.0 _ b c.index.ensures)
+    (c.in_ok-set_sub_module.ensures.ok ∙ (λ i. with_sub c.args.name (c.in_ok-child.ensures i) c.index_mut.result.now)) refl
