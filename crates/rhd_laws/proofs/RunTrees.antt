@@ -1,20 +1,21 @@
 -- Where the trees of a run stand.
 use Rattle.std.proofs.Common.{◌≡◌, ℕ, Bool, List, [], ◌∷◌, length, refl, sym, ap, subst, ◌∙◌}
-use Rattle.std.specs.Prelude.{zero, suc, take, slice_get, Option, None, Some, option_map, Result, Ok, Err}
+use Rattle.std.specs.Prelude.{zero, suc, take, slice_get, Option, None, Some, option_map, option_and_then, Result, Ok, Err}
 use Rattle.std.proofs.Math.Seq.{take-length}
 use Rattle.rhd_func.specs.declared.request.CallRequest.{CallRequest}
-use Rattle.rhd_func.specs.Natives.{info_of}
 use Rattle.rhd_decl.specs.declared.fault.DeclFault.{DeclFault}
+use Rattle.rhd_decl.specs.declared.fault.DeclFault.TheVariants.{HashCollision}
 use Rattle.rhd_call.specs.declared.command.Command.{Command}
-use Rattle.rhd_call.specs.declared.command.Command.TheVariants.{NewModule, Script, RegisterFn, PushLib, PopLib, Call}
+use Rattle.rhd_call.specs.declared.command.Command.TheVariants.{NewModule, SetId, SetDoc, SetVar, SetType, Native, RawNative, Script, SubModule, Clear, RegisterFn, RegisterRaw, RegisterType, PushLib, PopLib, Call, Contains}
+use Rattle.rhd_call.specs.declared.command.Command.TheVariants.{Count as CountOf}
 use Rattle.rhd_call.specs.declared.command.ModuleId.{ModuleId}
 use Rattle.rhd_call.specs.declared.node.CallNode.{CallNode}
 use Rattle.rhd_call.specs.declared.reply.Reply.{Reply}
-use Rattle.rhd_call.specs.declared.reply.Reply.TheVariants.{Done, Made, Refused, Called}
+use Rattle.rhd_call.specs.declared.reply.Reply.TheVariants.{Done, Made, Refused, Count, Truth, Called}
 use Rattle.rhd_call.specs.declared.reply.Stopped.{Stopped}
 use Rattle.rhd_call.specs.Trees.{InTree}
 use Rattle.rhd_engine.specs.Engine.{Frame}
-use Rattle.rhd_session.specs.Answered.{Declares, refused, done, Applied, declared, CallReplied, Replied, Answered, RunGives}
+use Rattle.rhd_session.specs.Answered.{Declares, refused, collided, done, Applied, declared, CallReplied, Replied, Answered, RunGives}
 use Rattle.rhd_session.specs.Commands.{change, Change}
 use Rattle.rhd_session.specs.Runs.{Runs}
 use Rattle.rhd_session.specs.Trees.{frame_at, RunsAt}
@@ -33,28 +34,51 @@ made_tree id root h = absurd cc
 done_tree : (root : CallNode) → Done ≡ Called root → ⊥
 done_tree root h = absurd cc
 
+count_tree : (a b c : ℕ) (root : CallNode) → Count a b c ≡ Called root → ⊥
+count_tree a b c root h = absurd cc
+
+truth_tree : (b : Bool) (root : CallNode) → Truth b ≡ Called root → ⊥
+truth_tree b root h = absurd cc
+
 same_change : (a b : Change) → Some a ≡ Some b → a ≡ b
 same_change a b h = cc
 
--- what a change replies
-change_replies : (a c : Change) (reply : Reply) → Some a ≡ Some c → a.reply ≡ reply → c.reply ≡ reply
-change_replies a c reply h is = sym (ap (λ (x : Change). x.reply) (same_change a c h)) ∙ is
+-- a change that answers no tree
+one_tree : (a c : Change) (root : CallNode) → (a.reply ≡ Called root → ⊥) → Some a ≡ Some c → c.reply ≡ Called root → ⊥
+one_tree a c root no h is = no (ap (λ (x : Change). x.reply) (same_change a c h) ∙ is)
 
-mapped_replies : {A : Type 0} (g : A → Change) (reply : Reply) (o : Option A) (c : Change) → ((a : A) → (g a).reply ≡ reply) → option_map g o ≡ Some c → c.reply ≡ reply
-mapped_replies g reply None c is h = absurd cc
-mapped_replies g reply (Some a) c is h = change_replies (g a) c reply h (is a)
+mapped_tree : {A : Type 0} (g : A → Change) (o : Option A) (c : Change) (root : CallNode) → ((a : A) → (g a).reply ≡ Called root → ⊥) → option_map g o ≡ Some c → c.reply ≡ Called root → ⊥
+mapped_tree g None c root no h is = absurd cc
+mapped_tree g (Some a) c root no h is = one_tree (g a) c root (no a) h is
+
+then_tree : {A : Type 0} (g : A → Option Change) (o : Option A) (c : Change) (root : CallNode) → ((a : A) → g a ≡ Some c → c.reply ≡ Called root → ⊥) → option_and_then g o ≡ Some c → c.reply ≡ Called root → ⊥
+then_tree g None c root no h is = absurd cc
+then_tree g (Some a) c root no h is = no a h is
 
 change_tree : (w : World) (f : Frame) (command : Command) (c : Change) (root : CallNode) → change w f command ≡ Some c → c.reply ≡ Called root → ⊥
-change_tree w f NewModule c root h is = made_tree _ root (sym (change_replies _ c _ h refl) ∙ is)
-change_tree w f (Script m def) c root h is = done_tree root (sym (mapped_replies _ Done (slice_get w.modules m.0) c (λ a. refl) h) ∙ is)
-change_tree w f (RegisterFn name id) c root h is = done_tree root (sym (mapped_replies _ Done (info_of w.engine.natives id) c (λ a. refl) h) ∙ is)
-change_tree w f (PushLib m) c root h is = done_tree root (sym (mapped_replies _ Done (slice_get w.modules m.0) c (λ a. refl) h) ∙ is)
-change_tree w f PopLib c root h is = done_tree root (sym (change_replies _ c _ h refl) ∙ is)
+change_tree w f NewModule c root h is = one_tree _ c root (made_tree _ root) h is
+change_tree w f (SetId m a) c root h is = mapped_tree _ (slice_get w.modules m.0) c root (λ old. done_tree root) h is
+change_tree w f (SetDoc m a) c root h is = mapped_tree _ (slice_get w.modules m.0) c root (λ old. done_tree root) h is
+change_tree w f (SetVar m a b) c root h is = mapped_tree _ (slice_get w.modules m.0) c root (λ old. done_tree root) h is
+change_tree w f (SetType m a b) c root h is = mapped_tree _ (slice_get w.modules m.0) c root (λ old. done_tree root) h is
+change_tree w f (Native m reg n) c root h is = mapped_tree _ (slice_get w.modules m.0) c root (λ old. done_tree root) h is
+change_tree w f (RawNative m name namespace types func) c root h is = mapped_tree _ (slice_get w.modules m.0) c root (λ old. done_tree root) h is
+change_tree w f (Script m def) c root h is = mapped_tree _ (slice_get w.modules m.0) c root (λ old. done_tree root) h is
+change_tree w f (Clear m) c root h is = mapped_tree _ (slice_get w.modules m.0) c root (λ old. done_tree root) h is
+change_tree w f (SubModule m name sub) c root h is = then_tree _ (slice_get w.modules sub.0) c root (λ child e. mapped_tree _ (slice_get w.modules m.0) c root (λ old. done_tree root) e) h is
+change_tree w f (RegisterFn name id) c root h is = one_tree _ c root (done_tree root) h is
+change_tree w f (RegisterRaw name types id) c root h is = one_tree _ c root (done_tree root) h is
+change_tree w f (RegisterType kind display) c root h is = one_tree _ c root (done_tree root) h is
+change_tree w f (PushLib m) c root h is = mapped_tree _ (slice_get w.modules m.0) c root (λ added. done_tree root) h is
+change_tree w f PopLib c root h is = one_tree _ c root (done_tree root) h is
+change_tree w f (CountOf m) c root h is = mapped_tree _ (slice_get w.modules m.0) c root (λ asked. count_tree _ _ _ root) h is
+change_tree w f (Contains m key) c root h is = mapped_tree _ (slice_get w.modules m.0) c root (λ asked. truth_tree _ root) h is
 change_tree w f (Call request) c root h is = absurd cc
 
 declares_tree : {w w2 : World} {f f2 : Frame} {command : Command} {reply : Reply} (root : CallNode) → Declares w f command reply w2 f2 → reply ≡ Called root → ⊥
 declares_tree root (refused {fault = fault} h) is = refused_tree fault root is
-declares_tree {w} {f = f} {command = command} root (done {c = c} none h) is = change_tree w f command c root h is
+declares_tree root (collided {held = held} {new = new} none h there clash) is = refused_tree (HashCollision held new) root is
+declares_tree {w} {f = f} {command = command} root (done {c = c} none h clear) is = change_tree w f command c root h is
 
 applied_tree : {H B : Type 0} {o : Objects H B} {w w2 : World} {f f2 : Frame} {command : Command} {reply : Reply} (root : CallNode) → Applied o w f command reply w2 f2 → reply ≡ Called root → ⊥
 applied_tree root (declared d) is = declares_tree root d is
@@ -71,10 +95,22 @@ module _ {H B : Type 0} (o : Objects H B) where
 
   replied_tree : (w w2 : World) (f f2 : Frame) (before after : Moment H B) (command : Command) (reply : Reply) (root : CallNode) → Replied o w f before command reply w2 f2 after → reply ≡ Called root → IsTreeOf w f before command root after
   replied_tree w w2 f f2 before after NewModule reply root r is = absurd (applied_tree root r.0 is)
-  replied_tree w w2 f f2 before after (Script m def) reply root r is = absurd (applied_tree root r.0 is)
-  replied_tree w w2 f f2 before after (RegisterFn name id) reply root r is = absurd (applied_tree root r.0 is)
-  replied_tree w w2 f f2 before after (PushLib m) reply root r is = absurd (applied_tree root r.0 is)
   replied_tree w w2 f f2 before after PopLib reply root r is = absurd (applied_tree root r.0 is)
+  replied_tree w w2 f f2 before after (SetId m a) reply root r is = absurd (applied_tree root r.0 is)
+  replied_tree w w2 f f2 before after (SetDoc m a) reply root r is = absurd (applied_tree root r.0 is)
+  replied_tree w w2 f f2 before after (SetVar m a b) reply root r is = absurd (applied_tree root r.0 is)
+  replied_tree w w2 f f2 before after (SetType m a b) reply root r is = absurd (applied_tree root r.0 is)
+  replied_tree w w2 f f2 before after (Native m reg n) reply root r is = absurd (applied_tree root r.0 is)
+  replied_tree w w2 f f2 before after (RawNative m name namespace types func) reply root r is = absurd (applied_tree root r.0 is)
+  replied_tree w w2 f f2 before after (Script m def) reply root r is = absurd (applied_tree root r.0 is)
+  replied_tree w w2 f f2 before after (Clear m) reply root r is = absurd (applied_tree root r.0 is)
+  replied_tree w w2 f f2 before after (SubModule m name sub) reply root r is = absurd (applied_tree root r.0 is)
+  replied_tree w w2 f f2 before after (RegisterFn name id) reply root r is = absurd (applied_tree root r.0 is)
+  replied_tree w w2 f f2 before after (RegisterRaw name types id) reply root r is = absurd (applied_tree root r.0 is)
+  replied_tree w w2 f f2 before after (RegisterType kind display) reply root r is = absurd (applied_tree root r.0 is)
+  replied_tree w w2 f f2 before after (PushLib m) reply root r is = absurd (applied_tree root r.0 is)
+  replied_tree w w2 f f2 before after (CountOf m) reply root r is = absurd (applied_tree root r.0 is)
+  replied_tree w w2 f f2 before after (Contains m key) reply root r is = absurd (applied_tree root r.0 is)
   replied_tree w w2 f f2 before after (Call request) reply root r is = record { request = request; asked = refl; replied = subst (λ (x : Reply). CallReplied o w f before request x after) is r.0 }
 
   -- the tree at a place of the replies

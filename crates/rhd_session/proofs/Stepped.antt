@@ -11,19 +11,28 @@ use Rattle.rhd_func.specs.declared.request.Carry.{Carry}
 use Rattle.rhd_func.specs.declared.request.CallDone.{CallDone}
 use Rattle.rhd_func.specs.declared.request.NativeStep.{NativeStep}
 use Rattle.rhd_func.specs.declared.request.NativeCallContext.{NativeCallContext}
-use Rattle.rhd_func.specs.Funcs.{native_of, has_context}
+use Rattle.rhd_func.specs.Funcs.{native_of, has_context, is_pure}
 use Rattle.rhd_func.specs.GivenBack.{GivesBack}
 use Rattle.rhd_func.specs.Infos.{infos_of}
 use Rattle.rhd_func.specs.Natives.{NativeInfo}
 use Rattle.rhd_func.specs.declared.natives.Natives.{Natives}
 use Rattle.rhd_session.specs.World.{Objects, Moment}
-use Rattle.rhd_session.specs.Received.{Received}
+use Rattle.rhd_func.specs.declared.request.CallShape.{CallShape}
+use Rattle.rhd_session.specs.Received.{Received, received, convention_of, first_received, is_read_only}
 use Rattle.rhd_session.specs.Entered.{context_if}
 use Rattle.rhd_session.specs.Steps.{Starts, native_starts, body_starts, Resumes, native_resumes, body_resumes}
 
 -- equal tables of natives say the same of a function's context
 pub context_asked : {X : Type 0} {F : X → Type 0} (info : (x : X) × F x → NativeInfo) (func : RhaiFunc) (natives same : Natives X F) → natives ≡ same → has_context (infos_of info natives) func ≡ has_context (infos_of info same) func
 context_asked info func natives same e = λ i. has_context (infos_of info (e i)) func
+
+-- the same of whether it may be called on a constant, and whether it gets one
+pub pure_asked : {X : Type 0} {F : X → Type 0} (info : (x : X) × F x → NativeInfo) (func : RhaiFunc) (natives same : Natives X F) → natives ≡ same → is_pure (infos_of info natives) func ≡ is_pure (infos_of info same) func
+pure_asked info func natives same e = λ i. is_pure (infos_of info (e i)) func
+
+pub constant_asked : {X : Type 0} {F : X → Type 0} (info : (x : X) × F x → NativeInfo) (func : RhaiFunc) (shape : CallShape) (natives same : Natives X F) → natives ≡ same
+    → is_read_only (first_received (received (convention_of (infos_of info natives) func) shape)) ≡ is_read_only (first_received (received (convention_of (infos_of info same) func) shape))
+constant_asked info func shape natives same e = λ i. is_read_only (first_received (received (convention_of (infos_of info (e i)) func) shape))
 
 -- what holds of an answer by two clauses
 both_ok : {E A : Type 0} (P Q : A → Type 0) (r : Result A E) → IfOk r P → IfOk r Q → IfOk r (λ x. P x × Q x)

@@ -3,7 +3,7 @@
 ghost use Rattle.std.specs.Prelude.{◌≡◌, ◌<◌, ◌+◌, ℕ, List, true, false, IfOk, OnOk, IfSome, length, Some, None};
 ghost use Rattle.rhd_func.specs.declared.request.CallRequest.{CallRequest};
 ghost use Rattle.rhd_func.specs.declared.request.HostAnswer.{HostAnswer};
-ghost use Rattle.rhd_func.specs.Funcs.{has_context};
+ghost use Rattle.rhd_func.specs.Funcs.{has_context, is_pure};
 ghost use Rattle.rhd_func.specs.Infos.{infos_of};
 ghost use Rattle.rhd_func.specs.Natives.{StartAllowed};
 ghost use Rattle.rhd_func.specs.GivenBack.{GivesBack};
@@ -16,6 +16,7 @@ ghost use Rattle.rhd_engine.specs.Of.{lists_of};
 ghost use Rattle.rhd_session.specs.World.{Moment, moment};
 ghost use Rattle.rhd_session.specs.Objects.{objects_of};
 ghost use Rattle.rhd_session.specs.Plans.{only_natives, plan_of};
+ghost use Rattle.rhd_session.specs.Received.{received, convention_of, first_received, is_read_only};
 ghost use Rattle.rhd_session.specs.Decisions.{refusal, decision, runs, pick_of, is_on_constant, constant_end};
 ghost use Rattle.rhd_session.specs.Filling.{is_begun, with_end, ended_unfound, ended_by_host, picking};
 ghost use Rattle.rhd_session.specs.Entered.{context, context_if};
@@ -36,7 +37,7 @@ use rhd_call::{CallNode, Pick};
 use rhd_dispatch::resolve;
 use rhd_engine::{Engine, GlobalRuntimeState};
 use rhd_func::{
-    Bodies, CallDone, CallRequest, Carry, Host, HostAnswer, NativeCallContext, NativeStep, Natives,
+    Bodies, CallDone, CallRequest, CallShape, Carry, Host, HostAnswer, NativeCallContext, NativeStep, Natives,
     RhaiFunc, ScriptFuncDef,
 };
 use rhd_hash::Steps;
@@ -168,9 +169,22 @@ fn ask_host<H: Host>(
 fn on_constant(engine: &Engine, call: &CallRequest, pick: &Pick) -> bool
     ensures { result ≡ is_on_constant (lists_of info engine.now) (plan_of call.now) pick.now }
 {
-    let natives = engine.natives();
     !pick.func.is_script()
-        && (!pick.func.is_pure(natives) && receives_constant(natives, &pick.func, shape_of(call)))
+        && (!is_pure(engine, &pick.func) && gets_constant(engine, &pick.func, shape_of(call)))
+}
+
+/// Whether a function of an engine may be called on a constant.
+fn is_pure(engine: &Engine, func: &RhaiFunc) -> bool
+    ensures { result ≡ is_pure (lists_of info engine.now).natives func.now }
+{
+    func.is_pure(engine.natives())
+}
+
+/// Whether the first that a function of an engine receives is read-only.
+fn gets_constant(engine: &Engine, func: &RhaiFunc, shape: &CallShape) -> bool
+    ensures { result ≡ is_read_only (first_received (received (convention_of (lists_of info engine.now).natives func.now) shape.now)) }
+{
+    receives_constant(engine.natives(), func, shape)
 }
 
 /// Ends a call whose function isn't for a constant.

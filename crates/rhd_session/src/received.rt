@@ -5,6 +5,7 @@ ghost use Rattle.std.specs.Option.{option_copied};
 ghost use Rattle.rhd_value.specs.Tree.{copied};
 ghost use Rattle.rhd_value.specs.Firsts.{first_and_rest};
 ghost use Rattle.rhd_func.specs.Shapes.{first_given, given, all_args, is_method_shape};
+ghost use Rattle.rhd_func.specs.Funcs.{is_method};
 ghost use Rattle.rhd_func.specs.Infos.{infos_of};
 ghost use Rattle.rhd_session.specs.Received.{received, convention_of, has_the_given, first_after, first_received, is_read_only};
 ghost use Rattle.rhd_session.specs.Entered.{context_if};
@@ -20,15 +21,22 @@ pub struct Received {
     pub args: Values,
 }
 
-/// Whether a function has the first argument by reference, or the object, itself and no copy.
+/// Whether a function is a native that takes its first argument by reference.
 #[tactic(auto, unfolding(rhd_func::specs::Infos::infos_of))]
+fn is_method(natives: &Natives, func: &RhaiFunc) -> bool
+    ensures { result ≡ is_method (infos_of info natives.now) func.now }
+{
+    func.is_method(natives)
+}
+
+/// Whether a function has the first argument by reference, or the object, itself and no copy.
 pub fn has_the_given(natives: &Natives, func: &RhaiFunc, shape: &CallShape) -> bool
     ensures { result ≡ has_the_given (convention_of (infos_of info natives.now) func.now) shape.now }
 {
     match shape {
         CallShape::Plain(_) => false,
-        CallShape::ByRef(_, _) => func.is_method(natives),
-        CallShape::Method(_, _) => func.is_method(natives) || func.is_script(),
+        CallShape::ByRef(_, _) => is_method(natives, func),
+        CallShape::Method(_, _) => is_method(natives, func) || func.is_script(),
     }
 }
 
@@ -41,9 +49,9 @@ pub fn receives_constant(natives: &Natives, func: &RhaiFunc, shape: &CallShape) 
             [] => false,
             [first, ..] => first.is_read_only(),
         },
-        CallShape::ByRef(first, _) => func.is_method(natives) && first.is_read_only(),
+        CallShape::ByRef(first, _) => is_method(natives, func) && first.is_read_only(),
         CallShape::Method(object, _) => {
-            (func.is_method(natives) || func.is_script()) && object.is_read_only()
+            (is_method(natives, func) || func.is_script()) && object.is_read_only()
         }
     }
 }
@@ -94,7 +102,7 @@ pub fn receive(
 {
     let itself = has_the_given(natives, func, shape);
     match shape {
-        CallShape::Plain(args) => receive_plain(alloc, func.is_method(natives), args),
+        CallShape::Plain(args) => receive_plain(alloc, is_method(natives, func), args),
         CallShape::ByRef(first, args) => receive_first(alloc, itself, first, args),
         CallShape::Method(object, args) => receive_first(alloc, itself, object, args),
     }

@@ -1,7 +1,7 @@
 use Rattle.std.proofs.Common.{rules, ◌≡◌, ap, false, ℕ}
 use Rattle.rhd_session.specs.Commands.{is_call}
 use Rattle.rhd_session.specs.World.{moment}
-use Rattle.rhd_session.proofs.Lists.{declares_replied, declares_begins}
+use Rattle.rhd_session.proofs.Lists.{begins_none, declares_replied, declares_begins}
 use Rattle.rhd_session.proofs.session.Session.perform.Goals as goal
 
 pub returns-in_ok-declare-in_default-clause-replied : goal.returns-in_ok-declare-in_default-clause-replied
@@ -16,3 +16,6 @@ pub returns-in_ok-declare-in_default-clause-begins : goal.returns-in_ok-declare-
 returns-in_ok-declare-in_default-clause-begins g c =
     let no : is_call c.args.command ≡ false = search rules in
     declares_begins c.args.command _ _ no c.in_ok-declare-in_default.ensures.begun
+
+pub returns-in_err-reserve-clause-begins : goal.returns-in_err-reserve-clause-begins
+returns-in_err-reserve-clause-begins g c = begins_none c.args.command c.args.self.now.begun
