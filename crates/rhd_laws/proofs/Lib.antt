@@ -1,4 +1,5 @@
-pub mod FirstAnswered
+pub mod Conventions
+mod FirstAnswered
 pub mod TreeLaws
 pub mod TreeFaults
 pub mod TreePlants

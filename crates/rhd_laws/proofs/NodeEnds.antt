@@ -9,7 +9,6 @@ use Rattle.rhd_value.specs.declared.tag.TypeTag.{TypeTag}
 use Rattle.rhd_value.specs.declared.fault.EvalAltResult.{EvalAltResult}
 use Rattle.rhd_value.specs.declared.fault.EvalAltResult.TheVariants.{ErrorNonPureMethodCallOnConstant, ErrorDataRace, ErrorMismatchOutputType, ErrorTooManyOperations, ErrorStackOverflow, ErrorDataTooLarge}
 use Rattle.rhd_func.specs.declared.func.RhaiFunc.{RhaiFunc}
-use Rattle.rhd_func.specs.declared.func.RhaiFunc.TheVariants as funcs
 use Rattle.rhd_func.specs.declared.request.Carry.{Carry}
 use Rattle.rhd_func.specs.declared.request.CallRequest.{CallRequest}
 use Rattle.rhd_func.specs.declared.request.CallRequest.TheVariants.{Named}
@@ -30,7 +29,7 @@ use Rattle.rhd_call.specs.declared.node.Whose.TheVariants.{Call, Called, Host}
 use Rattle.rhd_call.specs.declared.pick.Pick.{Pick}
 use Rattle.rhd_engine.specs.Display.{display}
 use Rattle.rhd_session.specs.Plans.{Plan, plan_of}
-use Rattle.rhd_session.specs.Received.{convention_of, has_the_given}
+use Rattle.rhd_session.specs.Received.{Convention, native_method, convention_of, has_the_given}
 use Rattle.rhd_engine.specs.NotFound.{not_found}
 use Rattle.rhd_session.specs.Ends.{first_at_end, end_of, missing_end}
 use Rattle.rhd_session.specs.Decisions.{locked_place, refusal, constant_end}
@@ -49,6 +48,7 @@ use Rattle.rhd_laws.proofs.UnfoundRows.{missing_number}
 use Rattle.rhd_laws.proofs.HostEnds.{HostSays, says_nothing, says_fault, says_other, says_value, host_says, host_other, host_first}
 use Rattle.rhd_laws.proofs.LastSteps.{EndsBy, fails, is_large, is_other, fits, ends_by, large_ends, other_ends}
 use Rattle.rhd_laws.proofs.Locked.{place_first, first_place}
+use Rattle.rhd_laws.proofs.Conventions.{method_no_script, native_convention, script_convention}
 
 -- a call is refused for its level, or else for a locked argument
 pub refused_parts : (call : CallRequest) (limit level : ℕ) (deep : Bool) (locked : Option ℕ) (end : End) → ltb limit level ≡ deep → refused_where call deep locked ≡ Some end
@@ -69,27 +69,22 @@ pub given_shape : (call : CallRequest) → first_given (plan_of call).shape ≡ 
 given_shape (Named name token native_only shape want pos) = refl
 
 -- what of its first argument a function has itself
+method_has : (shape : CallShape) (first : Tree) → first_given shape ≡ Some first → has_the_given native_method shape ≡ true
+method_has (Plain args) first h = absurd cc
+method_has (ByRef a args) first h = refl
+method_has (Method a args) first h = refl
+
 copies_native : (e : EngineLists) (func : RhaiFunc) (shape : CallShape) → is_script func ≡ false → is_method e.natives func ≡ false → has_the_given (convention_of e.natives func) shape ≡ false
-copies_native e (funcs.Pure id context pure volatile) shape s m = refl
-copies_native e (funcs.Method id context pure volatile) shape s m = absurd cc
-copies_native e (funcs.Script def env) shape s m = absurd cc
+copies_native e func shape s m = ap (λ (c : Convention). has_the_given c shape) (native_convention e.natives func false s m)
 
 copies_script : (e : EngineLists) (func : RhaiFunc) (first : Tree) (args : List Tree) → is_script func ≡ true → has_the_given (convention_of e.natives func) (ByRef first args) ≡ false
-copies_script e (funcs.Pure id context pure volatile) first args s = absurd cc
-copies_script e (funcs.Method id context pure volatile) first args s = absurd cc
-copies_script e (funcs.Script def env) first args s = refl
+copies_script e func first args s = ap (λ (c : Convention). has_the_given c (ByRef first args)) (script_convention e.natives func s)
 
 has_in_method : (e : EngineLists) (func : RhaiFunc) (shape : CallShape) (first : Tree) → is_method e.natives func ≡ true → first_given shape ≡ Some first → has_the_given (convention_of e.natives func) shape ≡ true
-has_in_method e (funcs.Pure id context pure volatile) shape first m h = absurd cc
-has_in_method e (funcs.Method id context pure volatile) (Plain args) first m h = absurd cc
-has_in_method e (funcs.Method id context pure volatile) (ByRef a args) first m h = refl
-has_in_method e (funcs.Method id context pure volatile) (Method a args) first m h = refl
-has_in_method e (funcs.Script def env) shape first m h = absurd cc
+has_in_method e func shape first m h = ap (λ (c : Convention). has_the_given c shape) (native_convention e.natives func true (method_no_script e.natives func m) m) ∙ method_has shape first h
 
 has_object : (e : EngineLists) (func : RhaiFunc) (object : Tree) (args : List Tree) → is_script func ≡ true → has_the_given (convention_of e.natives func) (Method object args) ≡ true
-has_object e (funcs.Pure id context pure volatile) object args s = absurd cc
-has_object e (funcs.Method id context pure volatile) object args s = absurd cc
-has_object e (funcs.Script def env) object args s = refl
+has_object e func object args s = ap (λ (c : Convention). has_the_given c (Method object args)) (script_convention e.natives func s)
 
 -- a script may be called on a constant
 no_script : (e : EngineLists) (plan : Plan) (pick : Pick) → is_script pick.func ≡ true → IsOnConstant e plan pick → ⊥

@@ -1,14 +1,15 @@
 -- What a function receives at each place.
-use Rattle.std.proofs.Common.{◌≡◌, ℕ, false, List, [], ◌∷◌, refl, sym, ap, ◌∙◌}
+use Rattle.std.proofs.Common.{◌≡◌, ℕ, Bool, true, false, List, [], ◌∷◌, refl, sym, ap, ◌∙◌}
 use Rattle.std.specs.Prelude.{◌↔◌, zero, suc, Option, None, Some, slice_get}
 use Rattle.rhd_value.specs.Tree.{Tree, Kind, unit, boolean, integer, character, text, array, object, pointer, custom, Items, no_items, item, Members, no_members, member, copied, copied_kind, copied_items, copied_members}
 use Rattle.rhd_func.specs.declared.func.RhaiFunc.{RhaiFunc}
-use Rattle.rhd_func.specs.declared.func.RhaiFunc.TheVariants as funcs
 use Rattle.rhd_func.specs.declared.request.CallShape.{CallShape}
 use Rattle.rhd_func.specs.declared.request.CallShape.TheVariants.{Plain, ByRef, Method}
 use Rattle.rhd_func.specs.Natives.{NativeInfo}
 use Rattle.rhd_func.specs.Shapes.{all_args}
-use Rattle.rhd_session.specs.Received.{received, convention_of}
+use Rattle.rhd_func.specs.Funcs.{is_method, is_script}
+use Rattle.rhd_session.specs.Received.{Convention, script, native_method, other_native, received, convention_of}
+use Rattle.rhd_laws.proofs.Conventions.{told, native_convention, script_convention}
 use Rattle.rhd_laws.specs.Arguments.{HasFirstGiven, by_reference, of_method, GetsCopy, native_by_value, script_by_reference, HasItself, native_has_first, script_has_object, IsKindWritable, AreItemsWritable, AreMembersWritable, IsWritable}
 use Rattle.rhd_laws.specs.Matches.{all_received}
 
@@ -18,31 +19,32 @@ got x y e = cc
 head_same : (a b : Tree) (xs ys : List Tree) → a ∷ xs ≡ b ∷ ys → a ≡ b
 head_same a b xs ys h = cc
 
-object_same : (a b : Tree) (xs ys : List Tree) → Method a xs ≡ Method b ys → a ≡ b
-object_same a b xs ys h = cc
-
 -- all but a copied argument is as given
+place_told : (natives : List NativeInfo) (func : RhaiFunc) (s m : Bool) → is_script func ≡ s → is_method natives func ≡ m → (shape : CallShape) (n : ℕ) → ((n ≡ 0) × GetsCopy natives func shape → ⊥)
+    → slice_get (all_received (received (told s m) shape)) n ≡ slice_get (all_args shape) n
+place_told natives func true m s is (Plain args) n none = refl
+place_told natives func true m s is (ByRef a args) zero none = absurd (none (refl, script_by_reference a args s refl))
+place_told natives func true m s is (ByRef a args) (suc n) none = refl
+place_told natives func true m s is (Method target args) n none = refl
+place_told natives func false true s is (Plain []) n none = refl
+place_told natives func false true s is (Plain (a ∷ args)) n none = refl
+place_told natives func false true s is (ByRef a args) n none = refl
+place_told natives func false true s is (Method target args) n none = refl
+place_told natives func false false s is (Plain args) n none = refl
+place_told natives func false false s is (ByRef a args) zero none = absurd (none (refl, native_by_value s is (by_reference a args refl)))
+place_told natives func false false s is (ByRef a args) (suc n) none = refl
+place_told natives func false false s is (Method target args) zero none = absurd (none (refl, native_by_value s is (of_method target args refl)))
+place_told natives func false false s is (Method target args) (suc n) none = refl
+
 pub place_given : (natives : List NativeInfo) (func : RhaiFunc) (shape : CallShape) (n : ℕ) → ((n ≡ 0) × GetsCopy natives func shape → ⊥)
     → slice_get (all_received (received (convention_of natives func) shape)) n ≡ slice_get (all_args shape) n
-place_given natives (funcs.Pure id context pure volatile) (Plain args) n none = refl
-place_given natives (funcs.Pure id context pure volatile) (ByRef a args) zero none = absurd (none (refl, native_by_value refl refl (by_reference a args refl)))
-place_given natives (funcs.Pure id context pure volatile) (ByRef a args) (suc n) none = refl
-place_given natives (funcs.Pure id context pure volatile) (Method target args) zero none = absurd (none (refl, native_by_value refl refl (of_method target args refl)))
-place_given natives (funcs.Pure id context pure volatile) (Method target args) (suc n) none = refl
-place_given natives (funcs.Method id context pure volatile) (Plain []) n none = refl
-place_given natives (funcs.Method id context pure volatile) (Plain (a ∷ args)) n none = refl
-place_given natives (funcs.Method id context pure volatile) (ByRef a args) n none = refl
-place_given natives (funcs.Method id context pure volatile) (Method target args) n none = refl
-place_given natives (funcs.Script def env) (Plain args) n none = refl
-place_given natives (funcs.Script def env) (ByRef a args) zero none = absurd (none (refl, script_by_reference a args refl refl))
-place_given natives (funcs.Script def env) (ByRef a args) (suc n) none = refl
-place_given natives (funcs.Script def env) (Method target args) n none = refl
+place_given natives func shape n none = place_told natives func (is_script func) (is_method natives func) refl refl shape n none
 
 -- a copied one stands at its place
 copy_head : (a value : Tree) (args : List Tree) → slice_get (a ∷ args) 0 ≡ Some value → slice_get (copied a ∷ args) 0 ≡ Some (copied value)
 copy_head a value args h = ap (λ (t : Tree). Some (copied t)) (got a value h)
 
-value_head : (natives : List NativeInfo) (func : RhaiFunc) (shape : CallShape) (value : Tree) → convention_of natives func ≡ convention_of natives (funcs.Pure (record { 0 = 0 }) false false false)
+value_head : (natives : List NativeInfo) (func : RhaiFunc) (shape : CallShape) (value : Tree) → convention_of natives func ≡ other_native
     → HasFirstGiven shape → slice_get (all_args shape) 0 ≡ Some value
     → slice_get (all_received (received (convention_of natives func) shape)) 0 ≡ Some (copied value)
 value_head natives func (Plain args) value is (by_reference first others same) h = absurd cc
@@ -58,38 +60,38 @@ script_head natives func shape value first args is h c r =
 
 pub place_copied : (natives : List NativeInfo) (func : RhaiFunc) (shape : CallShape) (value : Tree) → GetsCopy natives func shape → slice_get (all_args shape) 0 ≡ Some value
     → slice_get (all_received (received (convention_of natives func) shape)) 0 ≡ Some (copied value)
-place_copied natives (funcs.Pure id context pure volatile) shape value (native_by_value s m has) h = value_head natives (funcs.Pure id context pure volatile) shape value refl has h
-place_copied natives (funcs.Pure id context pure volatile) shape value (script_by_reference first args s is) h = absurd cc
-place_copied natives (funcs.Method id context pure volatile) shape value (native_by_value s m has) h = absurd cc
-place_copied natives (funcs.Method id context pure volatile) shape value (script_by_reference first args s is) h = absurd cc
-place_copied natives (funcs.Script def env) shape value (native_by_value s m has) h = absurd cc
-place_copied natives (funcs.Script def env) shape value (script_by_reference first args s is) h = script_head natives (funcs.Script def env) shape value first args is h (convention_of natives (funcs.Script def env)) refl
+place_copied natives func shape value (native_by_value s m has) h = value_head natives func shape value (native_convention natives func false s m) has h
+place_copied natives func shape value (script_by_reference first args s is) h =
+    script_head natives func shape value first args is h (convention_of natives func) (ap (λ (c : Convention). received c (ByRef first args)) (script_convention natives func s))
 
 -- what it has itself
+told_first : (natives : List NativeInfo) (func : RhaiFunc) (s m : Bool) → is_script func ≡ s → is_method natives func ≡ m → (shape : CallShape) (value : Tree) → (received (told s m) shape).first ≡ Some value
+    → HasItself natives func shape value
+told_first natives func true m s is (Plain args) value h = absurd cc
+told_first natives func true m s is (ByRef a args) value h = absurd cc
+told_first natives func true m s is (Method target args) value h = script_has_object args s (ap (λ (t : Tree). Method t args) (got target value h))
+told_first natives func false true s is (Plain []) value h = absurd cc
+told_first natives func false true s is (Plain (a ∷ args)) value h = native_has_first args s is (ap (λ (t : Tree). t ∷ args) (got a value h))
+told_first natives func false true s is (ByRef a args) value h = native_has_first args s is (ap (λ (t : Tree). t ∷ args) (got a value h))
+told_first natives func false true s is (Method target args) value h = native_has_first args s is (ap (λ (t : Tree). t ∷ args) (got target value h))
+told_first natives func false false s is (Plain args) value h = absurd cc
+told_first natives func false false s is (ByRef a args) value h = absurd cc
+told_first natives func false false s is (Method target args) value h = absurd cc
+
 has_first : (natives : List NativeInfo) (func : RhaiFunc) (shape : CallShape) (value : Tree) → (received (convention_of natives func) shape).first ≡ Some value → HasItself natives func shape value
-has_first natives (funcs.Pure id context pure volatile) (Plain args) value h = absurd cc
-has_first natives (funcs.Pure id context pure volatile) (ByRef a args) value h = absurd cc
-has_first natives (funcs.Pure id context pure volatile) (Method target args) value h = absurd cc
-has_first natives (funcs.Method id context pure volatile) (Plain []) value h = absurd cc
-has_first natives (funcs.Method id context pure volatile) (Plain (a ∷ args)) value h = native_has_first args refl refl (ap (λ (t : Tree). t ∷ args) (got a value h))
-has_first natives (funcs.Method id context pure volatile) (ByRef a args) value h = native_has_first args refl refl (ap (λ (t : Tree). t ∷ args) (got a value h))
-has_first natives (funcs.Method id context pure volatile) (Method target args) value h = native_has_first args refl refl (ap (λ (t : Tree). t ∷ args) (got target value h))
-has_first natives (funcs.Script def env) (Plain args) value h = absurd cc
-has_first natives (funcs.Script def env) (ByRef a args) value h = absurd cc
-has_first natives (funcs.Script def env) (Method target args) value h = script_has_object args refl (ap (λ (t : Tree). Method t args) (got target value h))
+has_first natives func shape value h = told_first natives func (is_script func) (is_method natives func) refl refl shape value h
+
+method_first : (shape : CallShape) (value : Tree) (others : List Tree) → all_args shape ≡ value ∷ others → (received native_method shape).first ≡ Some value
+method_first (Plain []) value others is = absurd cc
+method_first (Plain (a ∷ args)) value others is = ap Some (head_same a value args others is)
+method_first (ByRef a args) value others is = ap Some (head_same a value args others is)
+method_first (Method target args) value others is = ap Some (head_same target value args others is)
 
 first_has : (natives : List NativeInfo) (func : RhaiFunc) (shape : CallShape) (value : Tree) → HasItself natives func shape value → (received (convention_of natives func) shape).first ≡ Some value
-first_has natives (funcs.Pure id context pure volatile) shape value (native_has_first others s m is) = absurd cc
-first_has natives (funcs.Pure id context pure volatile) shape value (script_has_object others s is) = absurd cc
-first_has natives (funcs.Method id context pure volatile) (Plain []) value (native_has_first others s m is) = absurd cc
-first_has natives (funcs.Method id context pure volatile) (Plain (a ∷ args)) value (native_has_first others s m is) = ap Some (head_same a value args others is)
-first_has natives (funcs.Method id context pure volatile) (ByRef a args) value (native_has_first others s m is) = ap Some (head_same a value args others is)
-first_has natives (funcs.Method id context pure volatile) (Method target args) value (native_has_first others s m is) = ap Some (head_same target value args others is)
-first_has natives (funcs.Method id context pure volatile) shape value (script_has_object others s is) = absurd cc
-first_has natives (funcs.Script def env) shape value (native_has_first others s m is) = absurd cc
-first_has natives (funcs.Script def env) (Plain args) value (script_has_object others s is) = absurd cc
-first_has natives (funcs.Script def env) (ByRef a args) value (script_has_object others s is) = absurd cc
-first_has natives (funcs.Script def env) (Method target args) value (script_has_object others s is) = ap Some (object_same target value args others is)
+first_has natives func shape value (native_has_first others s m is) =
+    ap (λ (c : Convention). (received c shape).first) (native_convention natives func true s m) ∙ method_first shape value others is
+first_has natives func shape value (script_has_object others s is) =
+    ap (λ (c : Convention). (received c shape).first) (script_convention natives func s) ∙ ap (λ (sh : CallShape). (received script sh).first) is
 
 pub first_exactly : (natives : List NativeInfo) (func : RhaiFunc) (shape : CallShape) (value : Tree) → ((received (convention_of natives func) shape).first ≡ Some value) ↔ HasItself natives func shape value
 first_exactly natives func shape value = (has_first natives func shape value, first_has natives func shape value)

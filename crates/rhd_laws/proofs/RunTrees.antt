@@ -45,15 +45,15 @@ same_change a b h = cc
 
 -- a change that answers no tree
 one_tree : (a c : Change) (root : CallNode) → (a.reply ≡ Called root → ⊥) → Some a ≡ Some c → c.reply ≡ Called root → ⊥
-one_tree a c root no h is = no (ap (λ (x : Change). x.reply) (same_change a c h) ∙ is)
+one_tree a c root never h is = never (ap (λ (x : Change). x.reply) (same_change a c h) ∙ is)
 
 mapped_tree : {A : Type 0} (g : A → Change) (o : Option A) (c : Change) (root : CallNode) → ((a : A) → (g a).reply ≡ Called root → ⊥) → option_map g o ≡ Some c → c.reply ≡ Called root → ⊥
-mapped_tree g None c root no h is = absurd cc
-mapped_tree g (Some a) c root no h is = one_tree (g a) c root (no a) h is
+mapped_tree g None c root never h is = absurd cc
+mapped_tree g (Some a) c root never h is = one_tree (g a) c root (never a) h is
 
 then_tree : {A : Type 0} (g : A → Option Change) (o : Option A) (c : Change) (root : CallNode) → ((a : A) → g a ≡ Some c → c.reply ≡ Called root → ⊥) → option_and_then g o ≡ Some c → c.reply ≡ Called root → ⊥
-then_tree g None c root no h is = absurd cc
-then_tree g (Some a) c root no h is = no a h is
+then_tree g None c root never h is = absurd cc
+then_tree g (Some a) c root never h is = never a h is
 
 change_tree : (w : World) (f : Frame) (command : Command) (c : Change) (root : CallNode) → change w f command ≡ Some c → c.reply ≡ Called root → ⊥
 change_tree w f NewModule c root h is = one_tree _ c root (made_tree _ root) h is
@@ -166,6 +166,8 @@ module _ {H B : Type 0} (o : Objects H B) where
   replied_call w f before after request Done r = absurd r
   replied_call w f before after request (Made id) r = absurd r
   replied_call w f before after request (Refused fault) r = absurd r
+  replied_call w f before after request (Count a b c) r = absurd r
+  replied_call w f before after request (Truth b) r = absurd r
 
   call_replied : (w w2 : World) (f f2 : Frame) (before after : Moment H B) (command : Command) (reply : Reply) (request : CallRequest) → Replied o w f before command reply w2 f2 after
       → command ≡ Call request → (root : CallNode) × (reply ≡ Called root)
