@@ -37,8 +37,8 @@ use rhd_call::{CallNode, Pick};
 use rhd_dispatch::resolve;
 use rhd_engine::{Engine, GlobalRuntimeState};
 use rhd_func::{
-    Bodies, CallDone, CallRequest, CallShape, Carry, Host, HostAnswer, NativeCallContext, NativeStep, Natives,
-    RhaiFunc, ScriptFuncDef,
+    Bodies, CallDone, CallRequest, CallShape, Carry, Host, HostAnswer, NativeCallContext,
+    NativeStep, Natives, RhaiFunc, ScriptFuncDef,
 };
 use rhd_hash::Steps;
 use rhd_value::{EvalAltResult, FnId, OutOfMemory};

@@ -166,7 +166,14 @@ fn commands(alloc: Global) -> Commands {
 fn check_run(rt: &impl Abort, alloc: Global, natives: Natives) {
     let builtins = Builtins::new(alloc);
     assert!(rt; builtins.fits(&natives), "no built-in function");
-    let made = Session::new(alloc, natives, SEEDS, Limits::DEFAULT, builtins, Printers::NONE);
+    let made = Session::new(
+        alloc,
+        natives,
+        SEEDS,
+        Limits::DEFAULT,
+        builtins,
+        Printers::NONE,
+    );
     let Ok(mut session) = made else {
         panic!(rt; "a session");
     };

@@ -10,8 +10,8 @@ use crate::{PlanBodies, TableHost, kit};
 use rhd_call::{Command, Commands, ModuleId, Replies, Reply};
 use rhd_engine::{Builtins, Limits, Printers};
 use rhd_func::{
-    BodyId, CallRequest, CallShape, FnAccess, HostAnswer, NativeCallContext, Natives,
-    RhaiFunc, ScriptFuncDef, SharedDef,
+    BodyId, CallRequest, CallShape, FnAccess, HostAnswer, NativeCallContext, Natives, RhaiFunc,
+    ScriptFuncDef, SharedDef,
 };
 use rhd_module::{Module, SharedModule};
 use rhd_names::OpToken;
@@ -163,7 +163,14 @@ fn a_session_answers_twice(rt: HostRuntime) {
     let set = builtins.set(alloc, OpToken::Plus, TypeTag::Int, TypeTag::Int, FnId(7));
     holds(&rt, set.is_ok(), "a built-in function");
     assert!(&rt; builtins.fits(&natives), "natives that are held");
-    let made = Session::new(alloc, natives, SEEDS, Limits::DEFAULT, builtins, Printers::NONE);
+    let made = Session::new(
+        alloc,
+        natives,
+        SEEDS,
+        Limits::DEFAULT,
+        builtins,
+        Printers::NONE,
+    );
     let Ok(mut session) = made else {
         panic!(&rt; "a session");
     };
