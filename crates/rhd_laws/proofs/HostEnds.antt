@@ -2,7 +2,6 @@
 use Rattle.std.proofs.Common.{◌≡◌, refl, ap, ◌∙◌}
 use Rattle.std.specs.Prelude.{Option, None, Some, Ok, Err}
 use Rattle.rhd_value.specs.Tree.{Tree}
-use Rattle.rhd_value.specs.Kinds.{type_name}
 use Rattle.rhd_value.specs.declared.tag.TypeTag.{TypeTag}
 use Rattle.rhd_value.specs.declared.fault.EvalAltResult.{EvalAltResult}
 use Rattle.rhd_value.specs.declared.fault.EvalAltResult.TheVariants.{ErrorMismatchOutputType}
@@ -15,7 +14,7 @@ use Rattle.rhd_engine.specs.Engine.{EngineLists}
 use Rattle.rhd_engine.specs.Display.{display}
 use Rattle.rhd_session.specs.Plans.{Plan}
 use Rattle.rhd_engine.specs.NotFound.{not_found}
-use Rattle.rhd_session.specs.Ends.{not_wanted, accepted, host_end}
+use Rattle.rhd_session.specs.Ends.{wanted_name, not_wanted, accepted, host_end}
 use Rattle.rhd_laws.specs.Causes.{IsOfOtherKind}
 use Rattle.rhd_laws.proofs.LastSteps.{unwanted_other, other_unwanted}
 
@@ -42,7 +41,7 @@ value_tests engine plan v = value_is plan v (not_wanted engine plan.want plan.po
 pub data HostSays (engine : EngineLists) (plan : Plan) (answer : HostAnswer) (end : End) : Type 0 where
   says_nothing : answer ≡ Nothing → end ≡ failed plan.given (not_found engine plan.pos plan.name (all_args plan.shape)) → HostSays engine plan answer end
   says_fault : (fault : EvalAltResult) → answer ≡ Fault fault → end ≡ fault_end plan fault → HostSays engine plan answer end
-  says_other : (v : Tree) (kind : TypeTag) → answer ≡ Value v → IsOfOtherKind plan.want kind v → end ≡ refusing plan.given v (ErrorMismatchOutputType (type_name kind) (display engine v) plan.pos) → HostSays engine plan answer end
+  says_other : (v : Tree) (kind : TypeTag) → answer ≡ Value v → IsOfOtherKind plan.want kind v → end ≡ refusing plan.given v (ErrorMismatchOutputType (wanted_name engine kind) (display engine v) plan.pos) → HostSays engine plan answer end
   says_value : (v : Tree) → answer ≡ Value v → end ≡ value_end plan v → HostSays engine plan answer end
 
 value_by : (engine : EngineLists) (plan : Plan) (v : Tree) (end : End) (o : Option EvalAltResult) → not_wanted engine plan.want plan.pos v ≡ o → end ≡ value_from plan v o → HostSays engine plan (Value v) end
@@ -59,7 +58,7 @@ host_says engine plan (Fault fault) end h = says_fault fault refl h
 
 -- a value of the host that isn't of the wanted kind
 pub host_other : (engine : EngineLists) (plan : Plan) (v : Tree) (kind : TypeTag) (end : End) → IsOfOtherKind plan.want kind v → end ≡ host_end engine plan (Value v)
-    → end ≡ refusing plan.given v (ErrorMismatchOutputType (type_name kind) (display engine v) plan.pos)
+    → end ≡ refusing plan.given v (ErrorMismatchOutputType (wanted_name engine kind) (display engine v) plan.pos)
 unfolding host_end
 host_other engine plan v kind end other h = h ∙ value_tests engine plan v ∙ ap (value_from plan v) (other_unwanted engine plan.want plan.pos v kind other)
 

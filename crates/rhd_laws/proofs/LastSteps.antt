@@ -4,7 +4,7 @@ use Rattle.std.specs.Prelude.{Option, None, Some, not, if◌then◌else◌, opti
 use Rattle.std.specs.Option.{option_or}
 use Rattle.std.proofs.lemmas.Bool.{lt-ltb, le-ltb, ltb-true, ltb-false}
 use Rattle.rhd_value.specs.Tree.{Bytes, Tree}
-use Rattle.rhd_value.specs.Kinds.{tag_of, type_name}
+use Rattle.rhd_value.specs.Kinds.{tag_of}
 use Rattle.rhd_value.specs.Sums.{sizes_of}
 use Rattle.rhd_value.specs.Same.{tag_eq, tag_eq-Decides}
 use Rattle.rhd_value.specs.Firsts.{first_some, where_holds}
@@ -24,7 +24,7 @@ use Rattle.rhd_call.specs.declared.node.Whose.TheVariants.{Called}
 use Rattle.rhd_call.specs.declared.pick.Pick.{Pick}
 use Rattle.rhd_engine.specs.Display.{display}
 use Rattle.rhd_session.specs.Plans.{Plan}
-use Rattle.rhd_session.specs.Ends.{not_wanted, too_large, first_at_end, first_too_large, unfit, done, handed_on, end_of}
+use Rattle.rhd_session.specs.Ends.{wanted_name, not_wanted, too_large, first_at_end, first_too_large, unfit, done, handed_on, end_of}
 use Rattle.rhd_session.specs.Printed.{printer, no_text, printed_text, answer_after_printing}
 use Rattle.rhd_laws.specs.Prints.{IsPrintable, Makes}
 use Rattle.rhd_laws.specs.Causes.{IsWithin, Passes, by_arrays, by_maps, by_texts, HasFirst, AreWithin, IsTooLarge, the_value, the_first, IsOfOtherKind, IsMismatch, isnt_text, isnt_wanted}
@@ -153,7 +153,7 @@ within_fit engine plan pick back v h =
 
 -- the test of a kind that is wanted
 kind_tested : (e : EngineLists) (kind : TypeTag) (pos : Position) (v : Tree) → (kind ≡ tags.Dynamic → ⊥)
-    → not_wanted e (Some kind) pos v ≡ where_holds (not (tag_eq kind (tag_of v))) (ErrorMismatchOutputType (type_name kind) (display e v) pos)
+    → not_wanted e (Some kind) pos v ≡ where_holds (not (tag_eq kind (tag_of v))) (ErrorMismatchOutputType (wanted_name e kind) (display e v) pos)
 kind_tested e tags.Unit pos v h = refl
 kind_tested e tags.Bool pos v h = refl
 kind_tested e tags.Int pos v h = refl
@@ -168,18 +168,18 @@ kind_tested e tags.Str pos v h = refl
 kind_tested e tags.StdString pos v h = refl
 
 kind_by : (e : EngineLists) (kind : TypeTag) (pos : Position) (v : Tree) (fault : EvalAltResult) (same : Bool) → tag_eq kind (tag_of v) ≡ same
-    → where_holds (not same) (ErrorMismatchOutputType (type_name kind) (display e v) pos) ≡ Some fault
-    → (kind ≡ tag_of v → ⊥) × (fault ≡ ErrorMismatchOutputType (type_name kind) (display e v) pos)
+    → where_holds (not same) (ErrorMismatchOutputType (wanted_name e kind) (display e v) pos) ≡ Some fault
+    → (kind ≡ tag_of v → ⊥) × (fault ≡ ErrorMismatchOutputType (wanted_name e kind) (display e v) pos)
 kind_by e kind pos v fault true is h = absurd (none_some fault h)
 kind_by e kind pos v fault false is h = ((λ same. let q : false ≡ true = sym is ∙ (tag_eq-Decides kind (tag_of v)).1 same in absurd cc), some_same _ fault h)
 
 kind_other : (e : EngineLists) (kind : TypeTag) (pos : Position) (v : Tree) (same : Bool) → tag_eq kind (tag_of v) ≡ same → (kind ≡ tag_of v → ⊥)
-    → where_holds (not same) (ErrorMismatchOutputType (type_name kind) (display e v) pos) ≡ Some (ErrorMismatchOutputType (type_name kind) (display e v) pos)
+    → where_holds (not same) (ErrorMismatchOutputType (wanted_name e kind) (display e v) pos) ≡ Some (ErrorMismatchOutputType (wanted_name e kind) (display e v) pos)
 kind_other e kind pos v true is h = absurd (h ((tag_eq-Decides kind (tag_of v)).0 is))
 kind_other e kind pos v false is h = refl
 
 any_by : (e : EngineLists) (kind : TypeTag) (pos : Position) (v : Tree) (fault : EvalAltResult) (any : Bool) → tag_eq kind tags.Dynamic ≡ any → not_wanted e (Some kind) pos v ≡ Some fault
-    → (kind ≡ tags.Dynamic → ⊥) × (kind ≡ tag_of v → ⊥) × (fault ≡ ErrorMismatchOutputType (type_name kind) (display e v) pos)
+    → (kind ≡ tags.Dynamic → ⊥) × (kind ≡ tag_of v → ⊥) × (fault ≡ ErrorMismatchOutputType (wanted_name e kind) (display e v) pos)
 any_by e kind pos v fault true is h = absurd (none_some fault (sym (ap (λ (k : TypeTag). not_wanted e (Some k) pos v) ((tag_eq-Decides kind tags.Dynamic).0 is)) ∙ h))
 any_by e kind pos v fault false is h =
     let not_any : kind ≡ tags.Dynamic → ⊥ = λ same. let q : false ≡ true = sym is ∙ (tag_eq-Decides kind tags.Dynamic).1 same in absurd cc in
@@ -188,11 +188,11 @@ any_by e kind pos v fault false is h =
 
 -- a value isn't wanted exactly where it is of another kind
 pub unwanted_other : (e : EngineLists) (want : Option TypeTag) (pos : Position) (v : Tree) (fault : EvalAltResult) → not_wanted e want pos v ≡ Some fault
-    → (kind : TypeTag) × IsOfOtherKind want kind v × (fault ≡ ErrorMismatchOutputType (type_name kind) (display e v) pos)
+    → (kind : TypeTag) × IsOfOtherKind want kind v × (fault ≡ ErrorMismatchOutputType (wanted_name e kind) (display e v) pos)
 unwanted_other e None pos v fault h = absurd (none_some fault h)
 unwanted_other e (Some kind) pos v fault h = let p = any_by e kind pos v fault (tag_eq kind tags.Dynamic) refl h in (kind, (refl, p.0, p.1), p.2)
 
-pub other_unwanted : (e : EngineLists) (want : Option TypeTag) (pos : Position) (v : Tree) (kind : TypeTag) → IsOfOtherKind want kind v → not_wanted e want pos v ≡ Some (ErrorMismatchOutputType (type_name kind) (display e v) pos)
+pub other_unwanted : (e : EngineLists) (want : Option TypeTag) (pos : Position) (v : Tree) (kind : TypeTag) → IsOfOtherKind want kind v → not_wanted e want pos v ≡ Some (ErrorMismatchOutputType (wanted_name e kind) (display e v) pos)
 other_unwanted e want pos v kind h = ap (λ (o : Option TypeTag). not_wanted e o pos v) h.0 ∙ kind_tested e kind pos v h.1 ∙ kind_other e kind pos v (tag_eq kind (tag_of v)) refl h.2
 
 -- how a call ends whose function answered a value, by the tests: of sizes, of a text for a printer, and of its kind
@@ -236,7 +236,7 @@ done_tests e plan pick back v =
 pub data EndsBy (e : EngineLists) (plan : Plan) (pick : Pick) (step : NativeStep) (end : End) : Type 0 where
   fails : (fault : EvalAltResult) (back : Option Tree) → step ≡ Failed fault back → end ≡ handed_on e plan pick back fault → EndsBy e plan pick step end
   is_large : (v : Tree) (back : Option Tree) (what : Bytes) → step ≡ Done v back → IsTooLarge e plan pick back v what → end ≡ refusing (first_at_end e plan pick back) v (ErrorDataTooLarge what plan.pos) → EndsBy e plan pick step end
-  is_other : (v made : Tree) (back : Option Tree) (wanted : Bytes) → step ≡ Done v back → AreWithin e plan pick back v → IsMismatch e.printers plan pick v wanted made
+  is_other : (v made : Tree) (back : Option Tree) (wanted : Bytes) → step ≡ Done v back → AreWithin e plan pick back v → IsMismatch e plan pick v wanted made
       → end ≡ with_printed (shown_by e plan pick v) (refusing (first_at_end e plan pick back) made (ErrorMismatchOutputType wanted (display e made) plan.pos)) → EndsBy e plan pick step end
   fits : (v made : Tree) (back : Option Tree) → step ≡ Done v back → AreWithin e plan pick back v → IsPrintable e.printers plan pick v → Makes e.printers plan pick v made → not_wanted e plan.want plan.pos made ≡ None
       → end ≡ with_printed (shown_by e plan pick v) (fits_end (first_at_end e plan pick back) made) → EndsBy e plan pick step end
@@ -253,7 +253,7 @@ done_by e plan pick v back end None (Some fault) p is n k h =
     (h ∙ (λ i. with_printed (sym u.unprinted i) (refusing (first_at_end e plan pick back) v (u.says i))))
 done_by e plan pick v back end None None (Some fault) is n k h =
     let l = unwanted_other e plan.want plan.pos (made_by e plan pick v) fault k in
-    is_other v (made_by e plan pick v) back (type_name l.0) refl (fit_within e plan pick back v is)
+    is_other v (made_by e plan pick v) back (wanted_name e l.0) refl (fit_within e plan pick back v is)
     (isnt_wanted l.0 (printable e plan pick v n) (makes_printing e plan pick v (printer e.printers plan pick) refl) l.1 refl)
     (h ∙ ap (λ (x : EvalAltResult). with_printed (shown_by e plan pick v) (refusing (first_at_end e plan pick back) (made_by e plan pick v) x)) l.2)
 done_by e plan pick v back end None None None is n k h =
@@ -284,7 +284,7 @@ within_ends e plan pick v back end within h =
     ∙ ap (λ (o : Option EvalAltResult). tests e plan pick back v o (no_text e (printer e.printers plan pick) plan.pos v) (not_wanted e plan.want plan.pos (made_by e plan pick v))) (within_fit e plan pick back v within)
 
 pub other_ends : (e : EngineLists) (plan : Plan) (pick : Pick) (v made : Tree) (back : Option Tree) (wanted : Bytes) (end : End) → AreWithin e plan pick back v
-    → IsMismatch e.printers plan pick v wanted made → end_of e plan pick (Done v back) ≡ Some end
+    → IsMismatch e plan pick v wanted made → end_of e plan pick (Done v back) ≡ Some end
     → end ≡ with_printed (shown_by e plan pick v) (refusing (first_at_end e plan pick back) made (ErrorMismatchOutputType wanted (display e made) plan.pos))
 other_ends e plan pick v made back wanted end within (isnt_text prints none says is) h =
     within_ends e plan pick v back end within h
@@ -314,7 +314,7 @@ wanted_by e want pos v None is none = refl
 wanted_by e want pos v (Some fault) is none = let l = unwanted_other e want pos v fault is in absurd (none l.0 l.1)
 
 pub none_other : (e : EngineLists) (want : Option TypeTag) (pos : Position) (v : Tree) (kind : TypeTag) → not_wanted e want pos v ≡ None → IsOfOtherKind want kind v → ⊥
-none_other e want pos v kind h other = none_some (ErrorMismatchOutputType (type_name kind) (display e v) pos) (sym h ∙ other_unwanted e want pos v kind other)
+none_other e want pos v kind h other = none_some (ErrorMismatchOutputType (wanted_name e kind) (display e v) pos) (sym h ∙ other_unwanted e want pos v kind other)
 
 pub value_ends : (e : EngineLists) (plan : Plan) (pick : Pick) (v made : Tree) (back : Option Tree) (end : End) → AreWithin e plan pick back v → IsPrintable e.printers plan pick v → Makes e.printers plan pick v made
     → ((kind : TypeTag) → IsOfOtherKind plan.want kind made → ⊥) → end_of e plan pick (Done v back) ≡ Some end → end ≡ with_printed (shown_by e plan pick v) (fits_end (first_at_end e plan pick back) made)

@@ -3,7 +3,6 @@ use Rattle.std.proofs.Common.{◌≡◌, ℕ, ◌<◌, ◌≤◌, Bool, true, fa
 use Rattle.std.specs.Prelude.{◌↔◌, if◌then◌else◌, Option, None, Some, Err}
 use Rattle.std.proofs.lemmas.Bool.{ltb-true, ltb-false}
 use Rattle.rhd_value.specs.Tree.{Bytes, Tree}
-use Rattle.rhd_value.specs.Kinds.{type_name}
 use Rattle.rhd_value.specs.declared.tag.Position.{Position}
 use Rattle.rhd_value.specs.declared.tag.TypeTag.{TypeTag}
 use Rattle.rhd_value.specs.declared.fault.EvalAltResult.{EvalAltResult}
@@ -31,7 +30,7 @@ use Rattle.rhd_engine.specs.Display.{display}
 use Rattle.rhd_session.specs.Plans.{Plan, plan_of}
 use Rattle.rhd_session.specs.Received.{Convention, native_method, convention_of, has_the_given}
 use Rattle.rhd_engine.specs.NotFound.{not_found}
-use Rattle.rhd_session.specs.Ends.{first_at_end, end_of, missing_end}
+use Rattle.rhd_session.specs.Ends.{wanted_name, first_at_end, end_of, missing_end}
 use Rattle.rhd_session.specs.Decisions.{locked_place, refusal, constant_end}
 use Rattle.rhd_session.specs.Decisions as decisions
 use Rattle.rhd_laws.specs.FirstAsks.{EndsAlone, is_refused, isnt_found, on_constant, IsAnsweredFirst, IsOnConstant}
@@ -145,7 +144,7 @@ record OwnKind (e : EngineLists) (plan : Plan) (pick : Pick) (step : NativeStep)
   wanted : Bytes
   step_is : step ≡ Done answer back
   within : AreWithin e plan pick back answer
-  other : IsMismatch e.printers plan pick answer wanted value
+  other : IsMismatch e plan pick answer wanted value
   says : fault ≡ ErrorMismatchOutputType wanted (display e value) plan.pos
   refused : end.refused ≡ Some value
 
@@ -362,8 +361,8 @@ module _ {H B : Type 0} (o : Objects H B) (w : World) where
   -- a value of the host's that isn't of the wanted kind
   hosts_other : (node : CallNode) {from to : H} {answer : HostAnswer} (v : Tree) (kind : TypeTag) → (seen node).pick ≡ None → HostEnds o w.engine (seen node).call from answer to (seen node).end
       → answer ≡ Value v → IsOfOtherKind (plan_of (seen node).call).want kind v
-      → (seen node).end ≡ refusing (plan_of (seen node).call).given v (ErrorMismatchOutputType (type_name kind) (display w.engine v) (plan_of (seen node).call).pos)
-      → RefusesHosts o w.engine (seen node) (ErrorMismatchOutputType (type_name kind) (display w.engine v) (plan_of (seen node).call).pos)
+      → (seen node).end ≡ refusing (plan_of (seen node).call).given v (ErrorMismatchOutputType (wanted_name w.engine kind) (display w.engine v) (plan_of (seen node).call).pos)
+      → RefusesHosts o w.engine (seen node) (ErrorMismatchOutputType (wanted_name w.engine kind) (display w.engine v) (plan_of (seen node).call).pos)
   hosts_other node {from} {to} v kind alone asked is other e = record {
     from = from;
     to = to;
@@ -372,7 +371,7 @@ module _ {H B : Type 0} (o : Objects H B) (w : World) where
     alone = alone;
     ended = subst (λ (x : HostAnswer). HostEnds o w.engine (seen node).call from x to (seen node).end) is asked;
     other = other;
-    says = ap (λ (p : Position). ErrorMismatchOutputType (type_name kind) (display w.engine v) p) (plan_pos (seen node).call);
+    says = ap (λ (p : Position). ErrorMismatchOutputType (wanted_name w.engine kind) (display w.engine v) p) (plan_pos (seen node).call);
     refused = ap (λ (x : End). x.refused) e;
   }
 
@@ -418,7 +417,7 @@ module _ {H B : Type 0} (o : Objects H B) (w : World) where
   hosts_back : (node : CallNode) (fault : EvalAltResult) → RefusesHosts o w.engine (seen node) fault → IsOwn (seen node).end fault
   hosts_back node fault r =
       let e = host_other w.engine (plan_of (seen node).call) r.value r.kind (seen node).end r.other r.ended.ends in
-      (ap (λ (x : End). x.whose) e, ap (λ (x : End). x.answer) e ∙ ap (λ (p : Position). Err (ErrorMismatchOutputType (type_name r.kind) (display w.engine r.value) p)) (plan_pos (seen node).call) ∙ ap Err (sym r.says))
+      (ap (λ (x : End). x.whose) e, ap (λ (x : End). x.answer) e ∙ ap (λ (p : Position). Err (ErrorMismatchOutputType (wanted_name w.engine r.kind) (display w.engine r.value) p)) (plan_pos (seen node).call) ∙ ap Err (sym r.says))
 
   kinds_back : {f : Frame} (node : CallNode) (fault : EvalAltResult) → RefusesKind o w f (seen node) fault ⊎ RefusesHosts o w.engine (seen node) fault → IsOwn (seen node).end fault
   kinds_back node fault (inl r) = kind_back node fault r

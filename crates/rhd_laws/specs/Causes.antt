@@ -1,7 +1,7 @@
 -- Why a call ends with a fault of its own, said without a search.
 use Rattle.std.specs.Prelude.{◌≡◌, ℕ, ◌+◌, ◌<◌, ◌≤◌, true, false, List, slice_get, Option, None, Some, Err, codes}
 use Rattle.rhd_value.specs.Tree.{Bytes, Tree}
-use Rattle.rhd_value.specs.Kinds.{tag_of, type_name, text_in}
+use Rattle.rhd_value.specs.Kinds.{tag_of, text_in}
 use Rattle.rhd_value.specs.Sums.{sizes_of}
 use Rattle.rhd_value.specs.declared.tag.Sizes.{Sizes}
 use Rattle.rhd_value.specs.declared.tag.TypeTag.{TypeTag}
@@ -26,7 +26,7 @@ use Rattle.rhd_call.specs.declared.node.Whose.TheVariants.{Call}
 use Rattle.rhd_call.specs.declared.pick.Pick.{Pick}
 use Rattle.rhd_engine.specs.Display.{display}
 use Rattle.rhd_session.specs.Plans.{Plan, plan_of}
-use Rattle.rhd_session.specs.Ends.{first_at_end, end_of}
+use Rattle.rhd_session.specs.Ends.{wanted_name, first_at_end, end_of}
 use Rattle.rhd_session.specs.Decisions.{locked_text, refusal}
 use Rattle.rhd_laws.specs.FirstAsks.{IsAnsweredFirst, IsOnConstant}
 use Rattle.rhd_session.specs.Entered.{context}
@@ -103,10 +103,10 @@ abbrev pub IsOfOtherKind : Option TypeTag → TypeTag → Tree → Type 0
 IsOfOtherKind want kind v = (want ≡ Some kind) × (kind ≡ tags.Dynamic → ⊥) × (kind ≡ tag_of v → ⊥)
 
 -- What a function answered is no text for a printer that is set; or else what the call makes of it isn't of the wanted kind. The text says which type was wanted, and the value at the end was refused.
-pub data IsMismatch (printers : Printers) (plan : Plan) (pick : Pick) (answer : Tree) : Bytes → Tree → Type 0 where
-  isnt_text : {wanted : Bytes} {value : Tree} → Prints printers plan pick true → text_in answer.kind ≡ None → wanted ≡ codes "string" → value ≡ answer → IsMismatch printers plan pick answer wanted value
-  isnt_wanted : {wanted : Bytes} {value : Tree} (kind : TypeTag) → IsPrintable printers plan pick answer → Makes printers plan pick answer value → IsOfOtherKind plan.want kind value
-      → wanted ≡ type_name kind → IsMismatch printers plan pick answer wanted value
+pub data IsMismatch (e : EngineLists) (plan : Plan) (pick : Pick) (answer : Tree) : Bytes → Tree → Type 0 where
+  isnt_text : {wanted : Bytes} {value : Tree} → Prints e.printers plan pick true → text_in answer.kind ≡ None → wanted ≡ codes "string" → value ≡ answer → IsMismatch e plan pick answer wanted value
+  isnt_wanted : {wanted : Bytes} {value : Tree} (kind : TypeTag) → IsPrintable e.printers plan pick answer → Makes e.printers plan pick answer value → IsOfOtherKind plan.want kind value
+      → wanted ≡ wanted_name e kind → IsMismatch e plan pick answer wanted value
 
 -- The function that a node shows came through the node's children to this last step, and the call ends with it.
 pub record EndsWith {H B : Type 0} (o : Objects H B) (w : World) (f : Frame) (node : Seen) (pick : Pick) (last : NativeStep) : Type 0 where
@@ -128,7 +128,7 @@ pub record RefusesKind {H B : Type 0} (o : Objects H B) (w : World) (f : Frame) 
   pub wanted : Bytes
   pub ended : EndsWith o w f node pick (Done answer back)
   pub within : AreWithin w.engine (plan_of node.call) pick back answer
-  pub other : IsMismatch w.engine.printers (plan_of node.call) pick answer wanted value
+  pub other : IsMismatch w.engine (plan_of node.call) pick answer wanted value
   pub says : fault ≡ ErrorMismatchOutputType wanted (display w.engine value) (pos_of node.call)
   pub refused : node.end.refused ≡ Some value
 
@@ -152,7 +152,7 @@ pub record RefusesHosts {H B : Type 0} (o : Objects H B) (e : EngineLists) (node
   pub alone : node.pick ≡ None
   pub ended : HostEnds o e node.call from (Value value) to node.end
   pub other : IsOfOtherKind (plan_of node.call).want kind value
-  pub says : fault ≡ ErrorMismatchOutputType (type_name kind) (display e value) (pos_of node.call)
+  pub says : fault ≡ ErrorMismatchOutputType (wanted_name e kind) (display e value) (pos_of node.call)
   pub refused : node.end.refused ≡ Some value
 
 -- The node's call refuses this value, for its kind or for a size, or for its kind where it is the host's.

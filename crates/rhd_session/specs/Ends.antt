@@ -1,6 +1,6 @@
 -- How a call ends: its answer, and what the checks of the answer make of it.
 use Rattle.std.specs.Prelude.{Bool, not, nat_lt, [], ◌∷◌, if◌then◌else◌, Option, None, Some, option_and_then, Ok, Err, codes}
-use Rattle.rhd_value.specs.Tree.{Tree}
+use Rattle.rhd_value.specs.Tree.{Bytes, Tree}
 use Rattle.rhd_value.specs.Kinds.{tag_of, type_name}
 use Rattle.rhd_value.specs.Sums.{sizes_of}
 use Rattle.rhd_value.specs.Same.{tag_eq}
@@ -22,17 +22,21 @@ use Rattle.rhd_call.specs.declared.node.Whose.{Whose}
 use Rattle.rhd_call.specs.declared.node.Whose.TheVariants.{Called, Host}
 use Rattle.rhd_call.specs.End.{End, answered, failed, refusing, with_printed}
 use Rattle.rhd_call.specs.declared.pick.Pick.{Pick}
-use Rattle.rhd_engine.specs.Display.{display}
+use Rattle.rhd_engine.specs.Display.{display, map_type_name}
 use Rattle.rhd_engine.specs.Engine.{EngineLists}
 use Rattle.rhd_session.specs.Plans.{Plan}
 use Rattle.rhd_session.specs.Printed.{printer, no_text, printed_text, answer_after_printing}
 use Rattle.rhd_session.specs.Received.{convention_of, first_after}
 
+-- how a wanted kind is named
+abbrev pub wanted_name : EngineLists → TypeTag → Bytes
+wanted_name e kind = map_type_name e (type_name kind)
+
 -- The value isn't of the wanted kind. A call that wants no kind, or the kind of any value, takes each.
 abbrev pub not_wanted : EngineLists → Option TypeTag → Position → Tree → Option EvalAltResult
 not_wanted e None pos v = None
 not_wanted e (Some tags.Dynamic) pos v = None
-not_wanted e (Some want) pos v = where_holds (not (tag_eq want (tag_of v))) (ErrorMismatchOutputType (type_name want) (display e v) pos)
+not_wanted e (Some want) pos v = where_holds (not (tag_eq want (tag_of v))) (ErrorMismatchOutputType (wanted_name e want) (display e v) pos)
 
 -- a value that is tested for the wanted kind alone
 abbrev pub accepted : EngineLists → Plan → Whose → Option Tree → Tree → End

@@ -40,7 +40,7 @@ fn not_wanted(
         return Ok(None);
     }
     Ok(Some(EvalAltResult::ErrorMismatchOutputType(
-        want.type_name(alloc)?,
+        engine.map_type_name(alloc, &want.type_name(alloc)?)?,
         engine.display_type(alloc, value)?,
         pos,
     )))
