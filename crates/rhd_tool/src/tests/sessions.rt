@@ -10,8 +10,8 @@ use crate::{PlanBodies, TableHost, kit};
 use rhd_call::{Command, Commands, ModuleId, Replies, Reply};
 use rhd_engine::{Builtins, Limits, Printers};
 use rhd_func::{
-    BodyId, CallRequest, CallShape, FnAccess, HostAnswer, NativeCallContext, Natives, RhaiFunc,
-    ScriptFuncDef, SharedDef,
+    BodyId, CallRequest, CallShape, FnAccess, HostAnswer, NativeCallContext, Natives, PluginFunc,
+    RhaiFunc, ScriptFuncDef, SharedDef,
 };
 use rhd_module::{Module, SharedModule};
 use rhd_names::OpToken;
