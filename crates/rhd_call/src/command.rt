@@ -65,6 +65,10 @@ pub enum Command {
         name: Text,
         sub: ModuleId,
     },
+    /// Builds the index of a module's tree.
+    Index {
+        module: ModuleId,
+    },
     /// Takes all out of a module but its id and own flags.
     Clear {
         module: ModuleId,
@@ -85,12 +89,28 @@ pub enum Command {
         kind: u32,
         display: Text,
     },
+    /// Puts a module, as it is then, second among the modules whose functions all calls find.
+    GlobalModule {
+        module: ModuleId,
+    },
+    /// Puts a module, as it is then and indexed, under a name among the static modules.
+    StaticModule {
+        name: Text,
+        module: ModuleId,
+    },
     /// Puts a module last among the libraries, as it is then.
     PushLib {
         module: ModuleId,
     },
     /// Takes the last library off.
     PopLib,
+    /// Puts a module, as it is then and indexed, under a name last among the imports.
+    PushImport {
+        name: Text,
+        module: ModuleId,
+    },
+    /// Takes the last import off.
+    PopImport,
     /// Makes a call.
     Call(CallRequest),
     /// How many variables and functions a module has.
@@ -164,6 +184,7 @@ impl Command {
                 name: name.dup(alloc)?,
                 sub: *sub,
             }),
+            Command::Index { module } => Ok(Command::Index { module: *module }),
             Command::Clear { module } => Ok(Command::Clear { module: *module }),
             Command::RegisterFn { name, id } => Ok(Command::RegisterFn {
                 name: name.dup(alloc)?,
@@ -178,8 +199,18 @@ impl Command {
                 kind: *kind,
                 display: display.dup(alloc)?,
             }),
+            Command::GlobalModule { module } => Ok(Command::GlobalModule { module: *module }),
+            Command::StaticModule { name, module } => Ok(Command::StaticModule {
+                name: name.dup(alloc)?,
+                module: *module,
+            }),
             Command::PushLib { module } => Ok(Command::PushLib { module: *module }),
             Command::PopLib => Ok(Command::PopLib),
+            Command::PushImport { name, module } => Ok(Command::PushImport {
+                name: name.dup(alloc)?,
+                module: *module,
+            }),
+            Command::PopImport => Ok(Command::PopImport),
             Command::Call(request) => Ok(Command::Call(request.dup(alloc)?)),
             Command::Count { module } => Ok(Command::Count { module: *module }),
             Command::Contains { module, key } => Ok(Command::Contains {

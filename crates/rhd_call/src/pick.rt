@@ -13,6 +13,10 @@ pub enum Layer {
     Library(u64),
     /// A module whose functions all calls find.
     Global(u64),
+    /// An import of the frame. The oldest is the first.
+    Import(u64),
+    /// A static module. They stand in ascending order of name.
+    Static(u64),
     /// The table of built-in operators.
     Builtin,
 }

@@ -5,7 +5,7 @@ use Rattle.rhd_value.specs.declared.tag.Position.{Position}
 use Rattle.rhd_func.specs.declared.request.CallShape.{CallShape}
 use Rattle.rhd_func.specs.declared.request.CallShape.TheVariants.{Plain, ByRef, Method}
 use Rattle.rhd_func.specs.declared.request.CallRequest.{CallRequest}
-use Rattle.rhd_func.specs.declared.request.CallRequest.TheVariants.{Named}
+use Rattle.rhd_func.specs.declared.request.CallRequest.TheVariants.{Named, Qualified}
 
 -- all arguments in order, a first one by reference or an object included
 abbrev pub all_args : CallShape → List Tree
@@ -22,9 +22,17 @@ first_given (Method object args) = Some object
 -- the same of a request
 abbrev pub given : CallRequest → Option Tree
 given (Named name token native_only shape want pos) = first_given shape
+given (Qualified path name shape pos) = first_given shape
 
 abbrev pub pos_of : CallRequest → Position
 pos_of (Named name token native_only shape want pos) = pos
+pos_of (Qualified path name shape pos) = pos
+
+-- in a call of a function of a module an object counts as a first argument by reference
+abbrev pub by_reference : CallShape → CallShape
+by_reference (Plain args) = Plain args
+by_reference (ByRef first args) = ByRef first args
+by_reference (Method object args) = ByRef object args
 
 -- whether it is the call of a method, with an object
 abbrev pub is_method_shape : CallShape → Bool

@@ -3,7 +3,7 @@
 ghost use Rattle.std.specs.Prelude.{IfOk, ◌≡◌};
 
 use rhd_names::OpToken;
-use rhd_value::{Dynamic, EvalAltResult, OutOfMemory, Position, Text, TypeTag, Values};
+use rhd_value::{Dynamic, EvalAltResult, OutOfMemory, Position, Text, Texts, TypeTag, Values};
 use std::alloc::Global;
 
 /// An equal text, where there is one.
@@ -52,6 +52,14 @@ pub enum CallRequest {
         want: Option<TypeTag>,
         pos: Position,
     },
+    /// A call of a function of a module: of an import or a static module, or of a module below it.
+    Qualified {
+        /// The name of the import or static module, then those of the modules below.
+        path: Texts,
+        name: Text,
+        shape: CallShape,
+        pos: Position,
+    },
 }
 
 impl CallShape {
@@ -90,6 +98,17 @@ impl CallRequest {
                 native_only: *native_only,
                 shape: shape.dup(alloc)?,
                 want: *want,
+                pos: *pos,
+            }),
+            CallRequest::Qualified {
+                path,
+                name,
+                shape,
+                pos,
+            } => Ok(CallRequest::Qualified {
+                path: path.dup(alloc)?,
+                name: name.dup(alloc)?,
+                shape: shape.dup(alloc)?,
                 pos: *pos,
             }),
         }

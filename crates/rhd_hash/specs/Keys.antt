@@ -5,10 +5,12 @@ use Rattle.std.specs.declared.option.Option.TheVariants.{None, Some}
 use Rattle.std.specs.Bool.{Decides}
 use Rattle.std.specs.Cmp.{IsEquivalence, decided}
 use Rattle.std.specs.Hash as fed
+use Rattle.std.specs.List.{list_any}
 use Rattle.std.proofs.Common.{ap}
 use Rattle.std.proofs.lemmas.Slice.Eq.{bytes_eq-Decides}
 use Rattle.std.proofs.lemmas.Bool.Decides.{Decides-eqb, Decides-and, Decides-like}
-use Rattle.rhd_value.specs.Same.{text_eq, texts_eq, types_eq, texts_eq-Decides, types_eq-Decides}
+use Rattle.rhd_value.specs.declared.tag.TypeTag.TheVariants.{Dynamic}
+use Rattle.rhd_value.specs.Same.{tag_eq, text_eq, texts_eq, types_eq, texts_eq-Decides, types_eq-Decides}
 use Rattle.rhd_hash.specs.declared.key.Key.{Key}
 use Rattle.rhd_hash.specs.declared.key.Key.TheVariants.{Script, Typed, Native}
 
@@ -79,6 +81,24 @@ abbrev pub is_script_key : Key → Bool
 is_script_key (Script path name params) = true
 is_script_key (Typed path name params this_type) = true
 is_script_key (Native path name types) = false
+
+-- the key of a script method of a type
+abbrev pub is_typed_key : Key → Bool
+is_typed_key (Script path name params) = false
+is_typed_key (Typed path name params this_type) = true
+is_typed_key (Native path name types) = false
+
+-- the same function in a module: below the first name of a path, under these further names
+abbrev pub with_path : List (List ℕ) → Key → Key
+with_path names (Script path name params) = Script (Some names) name params
+with_path names (Typed path name params this_type) = Typed (Some names) name params this_type
+with_path names (Native path name types) = Native (Some names) name types
+
+-- a native's key with a parameter of any type
+abbrev pub has_dynamic : Key → Bool
+has_dynamic (Script path name params) = false
+has_dynamic (Typed path name params this_type) = false
+has_dynamic (Native path name types) = list_any (λ t. tag_eq t Dynamic) types
 
 -- what a hash of a key is made of
 abbrev pub key_input : Key → List (List ℕ)

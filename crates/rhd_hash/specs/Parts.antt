@@ -8,6 +8,7 @@ use Rattle.rhd_value.specs.declared.tag.TypeTag.TheVariants as tag
 use Rattle.rhd_hash.specs.declared.mixer.Seeds.{Seeds}
 use Rattle.rhd_hash.specs.declared.key.Key.{Key}
 use Rattle.rhd_hash.specs.declared.key.Key.TheVariants.{Script, Typed, Native}
+use Rattle.rhd_hash.specs.Keys.{key_name, key_params}
 use Rattle.rhd_hash.specs.Mix.{mix}
 
 -- a number in eight bytes, and in four, the lowest first
@@ -83,3 +84,11 @@ unfoldable pub mixed : Seeds → Key → ℕ
 mixed s (Script path name params) = mix s (fn_part path name params)
 mixed s (Typed path name params this_type) = bit_xor (mix s (this_part this_type)) (mix s (fn_part path name params))
 mixed s (Native path name types) = bit_xor (mix s (types_part types)) (mix s (fn_part path name (length types)))
+
+-- the hash of a name and a number of parameters alone
+unfoldable pub untyped : Seeds → List ℕ → ℕ → ℕ
+untyped s name params = mix s (fn_part None name params)
+
+-- the same of a key, whatever its path and its types
+abbrev pub untyped_key : Seeds → Key → ℕ
+untyped_key s k = untyped s (key_name k) (key_params k)

@@ -4,7 +4,7 @@ ghost use Rattle.std.specs.Prelude.{◌≡◌, bit_xor};
 ghost use Rattle.std.specs.List.{flat_map};
 ghost use Rattle.rhd_hash.specs.declared.key.Key.TheVariants.{Script, Native};
 ghost use Rattle.rhd_hash.specs.Mix.{mix, after};
-ghost use Rattle.rhd_hash.specs.Parts.{tag_bytes, texts_bytes, path_bytes, path_of, path_names, path_count, fn_bytes, var_part, types_part, this_part, mixed};
+ghost use Rattle.rhd_hash.specs.Parts.{tag_bytes, texts_bytes, path_bytes, path_of, path_names, path_count, fn_bytes, var_part, types_part, this_part, mixed, untyped, untyped_key};
 
 use crate::key::Key;
 use crate::mixer::{Mixer, Seeds, get_hasher};
@@ -164,7 +164,22 @@ pub fn calc_native_fn_hash(seeds: Seeds, path: &[Text], name: &Text, types: &[Ty
     calc_fn_hash_full(seeds, base, types)
 }
 
+/// The hash of a function's name and number of parameters alone: that of its key without path and types.
+#[tactic(auto, unfolding(crate::specs::Parts::untyped))]
+pub fn calc_untyped_fn_hash(seeds: Seeds, name: &Text, num: u64) -> u64
+    ensures { result ≡ untyped seeds name.now num }
+{
+    fn_hash(seeds, &[], 0, name, num)
+}
+
 impl Key {
+    /// The hash of its name and its number of parameters alone.
+    pub fn untyped(&self, seeds: Seeds) -> u64
+        ensures { result ≡ untyped_key seeds self.now }
+    {
+        calc_untyped_fn_hash(seeds, self.name(), self.num_params())
+    }
+
     /// The hash of the key.
     pub fn mixed(&self, seeds: Seeds) -> u64
         ensures { result ≡ mixed seeds self.now }

@@ -4,7 +4,10 @@ ghost use Rattle.std.specs.Prelude.{◌≡◌, ◌++◌, IfOk, length};
 ghost use Rattle.std.specs.Option.{option_copied};
 ghost use Rattle.std.specs.Cmp.{partial_equiv_from_equiv};
 ghost use Rattle.std.specs.Hash as fed;
-ghost use Rattle.rhd_hash.specs.Keys.{path_eq, key_eq, key_eq_equiv, key_name, key_params, key_input, key_alike, native_name, is_script_key};
+ghost use Rattle.std.specs.List.{list_any};
+ghost use Rattle.rhd_value.specs.Same.{tag_eq};
+ghost use Rattle.rhd_value.specs.declared.tag.TypeTag.TheVariants.{Dynamic};
+ghost use Rattle.rhd_hash.specs.Keys.{path_eq, key_eq, key_eq_equiv, key_name, key_params, key_input, key_alike, native_name, is_script_key, is_typed_key, with_path, has_dynamic};
 ghost use Rattle.rhd_hash.specs.Matching.{types_match, key_matches};
 
 use rhd_value::{OutOfMemory, Text, Texts, TypeTag, Types};
@@ -56,6 +59,18 @@ fn dup_path(alloc: Global, path: &Option<Texts>) -> Result<Option<Texts>, OutOfM
         None => Ok(None),
         Some(names) => Ok(Some(names.dup(alloc)?)),
     }
+}
+
+/// Whether one of these types stands for any.
+fn any_dynamic(types: &[TypeTag]) -> bool
+    ensures { result ≡ list_any (λ t. tag_eq t Dynamic) types.now }
+{
+    for tag in types {
+        if *tag == TypeTag::Dynamic {
+            return true;
+        }
+    }
+    false
 }
 
 /// Whether each type is its kind, or, behind the first ones, `Dynamic`.
@@ -120,6 +135,37 @@ impl Key {
         }
     }
 
+    /// The key of the same function in a module: below the first name of a path, under these further
+    /// names.
+    pub fn dup_at(&self, alloc: Global, names: &Texts) -> Result<Key, OutOfMemory>
+        ensures { IfOk result (λ key. key ≡ with_path names.now self.now) }
+    {
+        let path = Some(names.dup(alloc)?);
+        match self {
+            Key::Script { name, params, .. } => Ok(Key::Script {
+                path,
+                name: name.dup(alloc)?,
+                params: *params,
+            }),
+            Key::Typed {
+                name,
+                params,
+                this_type,
+                ..
+            } => Ok(Key::Typed {
+                path,
+                name: name.dup(alloc)?,
+                params: *params,
+                this_type: this_type.dup(alloc)?,
+            }),
+            Key::Native { name, types, .. } => Ok(Key::Native {
+                path,
+                name: name.dup(alloc)?,
+                types: types.dup(alloc)?,
+            }),
+        }
+    }
+
     /// The name of the function.
     pub fn name(&self) -> &Text
         ensures { result.now ≡ key_name self.now }
@@ -150,6 +196,28 @@ impl Key {
             Key::Script { .. } => true,
             Key::Typed { .. } => true,
             Key::Native { .. } => false,
+        }
+    }
+
+    /// Whether it is that of a script method of a type.
+    pub fn is_typed(&self) -> bool
+        ensures { result ≡ is_typed_key self.now }
+    {
+        match self {
+            Key::Script { .. } => false,
+            Key::Typed { .. } => true,
+            Key::Native { .. } => false,
+        }
+    }
+
+    /// Whether it is that of a native with a parameter of any type.
+    pub fn has_dynamic(&self) -> bool
+        ensures { result ≡ has_dynamic self.now }
+    {
+        match self {
+            Key::Script { .. } => false,
+            Key::Typed { .. } => false,
+            Key::Native { types, .. } => any_dynamic(types.as_slice()),
         }
     }
 

@@ -18,6 +18,19 @@ pub struct Seeds {
     pub mask: u64,
 }
 
+/// The seeds where none are set: nothing is mixed in, and an answer may have every bit.
+impl Default for Seeds {
+    ghost is_default = { λ seeds. seeds ≡ record { seed0 = 0; seed1 = 0; mask = 0xffffffffffffffff } };
+
+    fn default() -> Self {
+        Seeds {
+            seed0: 0,
+            seed1: 0,
+            mask: u64::MAX,
+        }
+    }
+}
+
 /// A hash in the making: it takes bytes, and tells the hash of those that it took.
 #[derive(Clone, Copy, Debug)]
 pub struct Mixer {

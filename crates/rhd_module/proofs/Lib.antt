@@ -6,3 +6,7 @@ pub mod Refusals
 pub mod SubModules
 pub mod Both
 pub mod Commented
+pub mod Filled
+pub mod Fills
+pub mod Kept
+pub mod Absent

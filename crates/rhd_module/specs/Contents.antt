@@ -1,5 +1,5 @@
 -- What the calls on a module's contents change and find.
-use Rattle.std.specs.Prelude.{ℕ, Bool, true, false, List, [], ◌∷◌, ◌==◌, ◌&&◌, length, if◌then◌else◌, Option, None, Some}
+use Rattle.std.specs.Prelude.{ℕ, Bool, true, false, List, [], ◌∷◌, ◌==◌, ◌&&◌, length, if◌then◌else◌, Option, None, Some, is_none}
 use Rattle.std.specs.Option.{option_or}
 use Rattle.std.specs.Ordering.{match_ordering, nat_cmp}
 use Rattle.std.specs.Cmp.Lexicographic.{slice_cmp}
@@ -23,6 +23,10 @@ id_of (b ∷ bs) = Some (b ∷ bs)
 
 abbrev pub with_id : Bytes → ModuleTree → ModuleTree
 with_id id m = record m { own = record m.own { id = id_of id } }
+
+-- an id is set where none is
+abbrev pub named : Bytes → ModuleTree → ModuleTree
+named id m = if is_none m.own.id then with_id id m else m
 
 abbrev pub with_doc : Bytes → ModuleTree → ModuleTree
 with_doc doc m = record m { own = record m.own { doc = doc } }

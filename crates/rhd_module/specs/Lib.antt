@@ -3,6 +3,9 @@ pub mod Codes
 pub mod Contents
 pub mod Shown
 pub mod Registered
+pub mod Walk
+pub mod Below
+pub mod Index
 pub mod Matching
 pub mod NativeIndex
 pub mod Scripts

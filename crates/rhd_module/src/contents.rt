@@ -319,11 +319,10 @@ impl Module {
         ensures { self.new ≡ cleared self.old }
     {
         let alloc = self.allocator();
+        self.clear_fns(alloc);
         self.doc = Text::new(alloc);
         self.types.clear();
         self.vars = Entries::new(alloc);
         self.subs.clear();
-        self.flags.set_indexed(false);
-        self.clear_fns(alloc);
     }
 }

@@ -2,13 +2,17 @@
 #![tactic(auto)]
 
 mod contents;
+mod index;
 mod law;
 mod module;
 mod native_index;
+mod qualified;
 mod registration;
 mod script_search;
 mod setters;
 mod shared;
+#[cfg(test)]
+mod tests;
 
 pub use law::{a_declaration_leaves_the_others, a_key_finds_its_first_declaration};
 pub use module::Module;

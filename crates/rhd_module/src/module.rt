@@ -1,9 +1,10 @@
 //! A module.
 
-ghost use Rattle.std.specs.Prelude.{◌≡◌, ℕ, List, ◌++◌, [], None, is_none, is_some, OnOk, OnErr, IfOk, IfErr, IsErr};
+ghost use Rattle.std.specs.Prelude.{◌≡◌, ℕ, List, ◌||◌, ◌++◌, [], false, None, is_none, is_some, OnOk, OnErr, IfOk, IfErr, IsErr};
 ghost use Rattle.std.specs.List.{Contains};
 ghost use Rattle.std.specs.Map.{lookup, keys_of};
 ghost use Rattle.std.specs.Option.{option_copied, option_map};
+ghost use Rattle.rhd_hash.specs.Filter.{is_marked};
 ghost use Rattle.rhd_hash.specs.Keys.{key_eq};
 ghost use Rattle.rhd_hash.specs.Parts.{mixed};
 ghost use Rattle.rhd_hash.specs.Steps.{raised};
@@ -12,17 +13,19 @@ ghost use Rattle.rhd_hash.specs.Refusal.{IsRefusal};
 ghost use Rattle.rhd_hash.specs.declared.fault.TableFault.{TableFault};
 ghost use Rattle.rhd_decl.specs.Collisions.{collision};
 ghost use Rattle.rhd_module.specs.Tree.{empty_module};
+ghost use Rattle.rhd_module.specs.Below.{dynamic_hash, has_slot};
 ghost use Rattle.rhd_module.specs.Shown.{own_decl};
 ghost use Rattle.rhd_module.specs.Registered.{put, with_decl, Puts};
 ghost use Rattle.rhd_module.specs.Contents.{commented, comment_on, with_comments};
 ghost use Rattle.rhd_module.specs.Matching.{may_match};
 ghost use Rattle.rhd_module.specs.NativeIndex.{noted, place_at, matches_at};
 
+use crate::index::TreeIndex;
 use crate::native_index::NativeIndex;
 use indexmap::map::Values;
 use rhd_decl::{CustomTypesCollection, DeclFault, Declaration, Switches};
 use rhd_func::{RhaiFunc, SharedText};
-use rhd_hash::{Key, KeyTable, Seeds, Steps};
+use rhd_hash::{BloomFilterU64, Key, KeyTable, Seeds, Steps};
 use rhd_value::{Entries, OutOfMemory, Text, Texts, TypeTag};
 use std::alloc::{AllocError, Global};
 use std::collections::BTreeMap;
@@ -40,6 +43,10 @@ pub struct Module {
     pub(crate) eager: KeyTable<Declaration>,
     pub(crate) subs: BTreeMap<Text, Rc<Module>>,
     pub(crate) flags: Switches,
+    /// Marks the hashes of its own keys that have a parameter of any type.
+    pub(crate) filter: BloomFilterU64<8>,
+    /// What it has of its tree, while it is indexed. Copies share it.
+    pub(crate) index: Rc<TreeIndex>,
     /// Where the natives of a name stand among the declarations.
     natives: NativeIndex,
     /// Whether a script was ever declared: if not, a search for one ends at once.
@@ -53,6 +60,7 @@ impl Model for Module {
     ghost use Rattle.rhd_module.specs.Codes.{tree_code, most_le-depth};
     ghost use Rattle.rhd_module.specs.NativeIndex.{IsIndex};
     ghost use Rattle.rhd_module.specs.Scripts.{AreNoted};
+    ghost use Rattle.rhd_module.specs.Index.{IsFilter, IsKept};
 
     ghost Value = { ModuleTree };
 
@@ -75,7 +83,38 @@ impl Model for Module {
       subs = subs_of m.subs.entries;
     } };
 
-    ghost invariant = { λ m. IsIndex m.natives m.eager.pairs × AreNoted m.scripts m.eager.pairs };
+    ghost invariant = { λ m.
+        IsIndex m.natives m.eager.pairs
+        × AreNoted m.scripts m.eager.pairs
+        × IsFilter m.filter record {
+          id = m.id;
+          doc = m.doc;
+          types = m.types;
+          vars = m.vars;
+          eager = m.eager.pairs;
+          manifests = [];
+          iterators = [];
+          internal = m.flags.internal;
+          standard = m.flags.standard;
+          indexed = m.flags.indexed;
+          seeds = m.eager.seeds;
+        }
+        × IsKept m.index.value record {
+          own = record {
+            id = m.id;
+            doc = m.doc;
+            types = m.types;
+            vars = m.vars;
+            eager = m.eager.pairs;
+            manifests = [];
+            iterators = [];
+            internal = m.flags.internal;
+            standard = m.flags.standard;
+            indexed = m.flags.indexed;
+            seeds = m.eager.seeds;
+          };
+          subs = subs_of m.subs.entries;
+        } };
 
     ghost size = { λ t. depth t.subs };
 
@@ -119,6 +158,26 @@ fn put_pair(
     }
 }
 
+/// The hash of a key's name and number of parameters, where it has a parameter of any type.
+fn dynamic_hash(key: &Key, seeds: Seeds) -> Option<u64>
+    ensures { result ≡ dynamic_hash seeds key.now }
+{
+    if key.has_dynamic() {
+        Some(key.untyped(seeds))
+    } else {
+        None
+    }
+}
+
+/// Marks such a hash.
+fn mark_dynamic(filter: &mut BloomFilterU64<8>, hash: Option<u64>)
+    ensures { (v : _) → is_marked 8 filter.new v ≡ (is_marked 8 filter.old v || has_slot hash v) }
+{
+    if let Some(hash) = hash {
+        filter.mark(hash);
+    }
+}
+
 impl Module {
     /// A module in which nothing is. It is indexed.
     pub fn new(alloc: Global, seeds: Seeds) -> Result<Module, OutOfMemory>
@@ -134,6 +193,8 @@ impl Module {
             eager: KeyTable::new(alloc, seeds),
             subs: BTreeMap::new(alloc),
             flags,
+            filter: BloomFilterU64::new(),
+            index: Rc::new(alloc, TreeIndex::new(alloc, seeds))?,
             natives: NativeIndex::new(alloc),
             scripts: false,
         })
@@ -161,6 +222,7 @@ impl Module {
         ensures { Puts None key declaration self.old result self.new }
     {
         let place = self.eager.len();
+        let dynamic = dynamic_hash(&key, self.eager.seeds());
         self.scripts |= key.is_script();
         match put_pair(&mut self.eager, key, declaration) {
             Err(fault) => return Err(fault),
@@ -172,6 +234,7 @@ impl Module {
         }
         match note_place(&mut self.natives, alloc, &self.eager, place) {
             Ok(()) => {
+                mark_dynamic(&mut self.filter, dynamic);
                 self.flags.set_indexed(false);
                 Ok(())
             }
@@ -182,11 +245,13 @@ impl Module {
         }
     }
 
-    /// Takes all declarations out.
+    /// Takes all declarations out. The module isn't indexed any more.
     pub(crate) fn clear_fns(&mut self, alloc: Global)
-        ensures { self.new ≡ record self.old { own = record self.old.own { eager = [] } } }
+        ensures { self.new ≡ record self.old { own = record self.old.own { eager = []; indexed = false } } }
     {
+        self.flags.set_indexed(false);
         self.eager = KeyTable::new(alloc, self.eager.seeds());
+        self.filter = BloomFilterU64::new();
         self.natives = NativeIndex::new(alloc);
         self.scripts = false;
     }
@@ -273,6 +338,8 @@ impl Module {
             eager: dup_declarations(alloc, &self.eager)?,
             subs: self.subs.clone()?,
             flags: self.flags.dup(),
+            filter: self.filter.clone()?,
+            index: self.index.clone()?,
             natives: self.natives.dup(alloc)?,
             scripts: self.scripts,
         })

@@ -2,7 +2,8 @@
 
 ghost use Rattle.std.specs.Prelude.{◌≡◌, None, [], OnOk, OnErr, IfOk};
 ghost use Rattle.rhd_func.specs.Infos.{infos_of};
-ghost use Rattle.rhd_module.specs.Contents.{with_id, with_doc, with_var, with_type, cleared, with_sub};
+ghost use Rattle.rhd_module.specs.Contents.{with_id, named, with_doc, with_var, with_type, cleared, with_sub};
+ghost use Rattle.rhd_module.specs.Index.{Indexes};
 ghost use Rattle.rhd_module.specs.Registered.{Puts, Registers, RegistersRaw, native_at, registered_decl, script_key, script_decl};
 
 use crate::module::Module;
@@ -70,6 +71,29 @@ impl SharedModule {
     {
         let module = Rc::make_mut(&mut self.module)?;
         module.set_id(alloc, id)
+    }
+
+    /// Sets the id of this owner's module where it has none. It is copied first where it has other owners.
+    pub fn set_id_if_none(&mut self, alloc: Global, id: Text) -> Result<(), OutOfMemory>
+        ensures ok { OnOk result (self.new ≡ named id self.old) }
+        ensures err { OnErr result (self.new ≡ self.old) }
+    {
+        if self.module.id().is_some() {
+            return Ok(());
+        }
+        self.set_id(alloc, id)
+    }
+
+    /// Indexes this owner's module, as `Module::build_index` does. It is copied first where it isn't
+    /// indexed and has other owners.
+    pub fn build_index(&mut self, alloc: Global) -> Result<(), DeclFault>
+        ensures { Indexes self.old result self.new }
+    {
+        if self.module.has_index() {
+            return Ok(());
+        }
+        let module = Rc::make_mut(&mut self.module)?;
+        module.build_index(alloc)
     }
 
     /// Sets the documentation of this owner's module. It is copied first where it has other owners.

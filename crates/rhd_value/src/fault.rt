@@ -57,6 +57,8 @@ pub enum EvalAltResult {
     ErrorStackOverflow(Position),
     /// Fault 11: a value holds more than the limits allow; the text says of what.
     ErrorDataTooLarge(Text, Position),
+    /// Fault 12: there is no module of this path.
+    ErrorModuleNotFound(Text, Position),
     /// Fault 15: a function failed with this text.
     ErrorRuntime(Text, Position),
 }
@@ -97,6 +99,9 @@ impl EvalAltResult {
             EvalAltResult::ErrorStackOverflow(pos) => Ok(EvalAltResult::ErrorStackOverflow(*pos)),
             EvalAltResult::ErrorDataTooLarge(text, pos) => {
                 Ok(EvalAltResult::ErrorDataTooLarge(text.dup(alloc)?, *pos))
+            }
+            EvalAltResult::ErrorModuleNotFound(path, pos) => {
+                Ok(EvalAltResult::ErrorModuleNotFound(path.dup(alloc)?, *pos))
             }
             EvalAltResult::ErrorRuntime(text, pos) => {
                 Ok(EvalAltResult::ErrorRuntime(text.dup(alloc)?, *pos))

@@ -1,5 +1,15 @@
-use Rattle.std.proofs.Common.{◌≡◌, [], sym, ap, ◌∙◌, Global}
-use Rattle.rhd_module.specs.Tree.{ModuleTree}
+use Rattle.std.proofs.Common.{◌≡◌, ℕ, List, [], sym, ap, subst, ◌∙◌, Global}
+use Rattle.std.specs.List.{list_any}
+use Rattle.rhd_hash.specs.Filter.{is_marked}
+use Rattle.rhd_hash.specs.Table.{Table}
+use Rattle.rhd_decl.specs.Flags.{Flagged}
+use Rattle.rhd_decl.specs.declared.declaration.Declaration.{Declaration}
+use Rattle.rhd_module.specs.Tree.{ModuleTree, Subs}
+use Rattle.rhd_module.specs.Index.{Indexed, IsIndexOf}
+use Rattle.rhd_module.specs.NativeIndex.{places_from}
+use Rattle.rhd_module.specs.Scripts.{has_script}
+use Rattle.rhd_module.specs.contracts.module.Module.{the_view}
+use Rattle.rhd_module.proofs.Kept.{may_be}
 use Rattle.rhd_module.proofs.SubModules.{subs_clone}
 use Rattle.rhd_module.proofs.module.Module.dup.Goals as goal
 
@@ -27,3 +37,16 @@ returns c =
       subs = subs i;
     } in
     same ∙ c.self.view_is
+
+pub invariant_of-result : goal.invariant_of-result
+invariant_of-result c =
+    let inside = c.self.inside in
+    let eager = c.in_ok-dup_declarations.ensures in
+    let subs = subs_clone {Z = Global} inside.subs.entries c.in_ok-clone.field-0.entries c.in_ok-clone.ensures.cases in
+    let P : Indexed × (Table Declaration × Subs) → Type 0 =
+    λ p. IsIndexOf p.0 (record { own = record (the_view inside).own { eager = p.1.0.pairs; seeds = p.1.0.seeds }; subs = p.1.1 }) in (
+      λ name. c.in_ok-dup-4.ensures name ∙ c.self.invariant.0 name ∙ ap (λ (t : Table Declaration). places_from 0 name t.pairs) (sym eager),
+      λ none. ap (λ (t : Table Declaration). has_script t.pairs) eager ∙ c.self.invariant.1 none,
+      λ v. ap (λ (f : List ℕ). is_marked 8 f v) c.in_ok-clone-2.ensures.cases ∙ c.self.invariant.2 v ∙ ap (λ (t : Table Declaration). list_any (λ p. may_be t.seeds v p.0) t.pairs) (sym eager),
+      λ is. subst P (λ i. (sym c.in_ok-clone-3.ensures.cases i, (sym eager i, sym subs i))) (c.self.invariant.3 (sym (ap (λ (f : Flagged). f.indexed) c.dup-4.ensures) ∙ is)),
+    )

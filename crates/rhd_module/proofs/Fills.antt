@@ -1,0 +1,238 @@
+-- How an index is filled with one module after the other, and what it is then.
+use Rattle.std.proofs.Common.{◌≡◌, ℕ, Bool, true, false, ◌||◌, List, [], ◌∷◌, ◌++◌, length, Some, slice_get, Result, Ok, Err, refl, sym, ap, subst, ◌∙◌, append_assoc, append-nil, arith, inl, inr}
+use Rattle.std.specs.Map.{lookup, keys_of}
+use Rattle.std.specs.List.{IsDistinct, list_any}
+use Rattle.std.proofs.lemmas.List.Folds.{list_any-append}
+use Rattle.std.specs.Result.{IsErr, IsErrAnd, IfErr, OnOk}
+use Rattle.std.specs.declared.rc.Rc.{Rc}
+use Rattle.std.proofs.lemmas.Bool.Decides.{eqb_tells, leb_tells}
+use Rattle.std.proofs.lemmas.Grind.{flat_map-append}
+use Rattle.std.proofs.lemmas.List.Elements.{Contains-append_right}
+use Rattle.std.proofs.lemmas.Option.{slice_get_read}
+use Rattle.rhd_value.specs.Tree.{Bytes}
+use Rattle.rhd_hash.specs.declared.mixer.Seeds.{Seeds}
+use Rattle.rhd_hash.specs.declared.key.Key.{Key}
+use Rattle.rhd_hash.specs.declared.fault.TableFault.{TableFault}
+use Rattle.rhd_hash.specs.declared.fault.TableFault.TheVariants.{Clash, OutOfMemory as no_room}
+use Rattle.rhd_hash.specs.Keys.{key_eq}
+use Rattle.rhd_hash.specs.Filter.{is_marked}
+use Rattle.rhd_hash.specs.Table.{Table, HasOwnHashes, Clashes}
+use Rattle.rhd_hash.specs.Refusal.{IsRefusal}
+use Rattle.rhd_hash.proofs.HashedPairs.{own_apart}
+use Rattle.rhd_func.specs.declared.func.RhaiFunc.{RhaiFunc}
+use Rattle.rhd_decl.specs.Collisions.{collision}
+use Rattle.rhd_decl.specs.declared.declaration.Declaration.{Declaration}
+use Rattle.rhd_decl.specs.declared.fault.DeclFault.{DeclFault}
+use Rattle.rhd_decl.specs.declared.fault.DeclFault.TheVariants.{HashCollision, IndexerNotAllowed, NotCallable, UnknownNumber, OutOfMemory}
+use Rattle.rhd_module.specs.Tree.{ModuleTree, Lists, Pairs, subs_of}
+use Rattle.rhd_module.specs.Shown.{shown}
+use Rattle.rhd_module.specs.Walk.{unpathed, pathed, pairs_at, below, walk, tree}
+use Rattle.rhd_module.specs.Below.{some_below, some_in, declares_global, declares_dynamic}
+use Rattle.rhd_module.specs.Index.{Indexed, Fills, IsClash, IsFilter, IsIndexOf, NoneClash, Indexes, filled}
+use Rattle.rhd_module.proofs.Filled.{Funcs, has_key, has_filled, filled_append, first_filled_empty, clash_among, clash_before, clash_filled}
+
+pub or_false : (b : Bool) → (b || false) ≡ b
+or_false true = refl
+or_false false = refl
+
+pub or_assoc : (a b c : Bool) → ((a || b) || c) ≡ (a || (b || c))
+or_assoc true b c = refl
+or_assoc false b c = refl
+
+pub or_turned : (a b : Bool) → (a || b) ≡ (b || a)
+or_turned true true = refl
+or_turned true false = refl
+or_turned false true = refl
+or_turned false false = refl
+
+pub fills_none : (o : Indexed) → Fills o o [] (λ _. false) false
+fills_none o = record { same_seeds = refl; puts = refl; marks = λ v. sym (or_false (is_marked 8 o.marks v)); tells = sym (or_false o.has_global); apart = λ h. h }
+
+pub fills_then : (o m n : Indexed) (xs ys : Pairs) (d e : ℕ → Bool) (g h : Bool) → Fills o m xs d g → Fills m n ys e h → Fills o n (ys ++ xs) (λ v. d v || e v) (g || h)
+fills_then o m n xs ys d e g h a b = record {
+  same_seeds = b.same_seeds ∙ a.same_seeds;
+  puts = b.puts ∙ ap (λ (ps : Funcs). filled ys ps) a.puts ∙ sym (filled_append ys xs o.pairs);
+  marks = λ v. b.marks v ∙ ap (λ (x : Bool). x || e v) (a.marks v) ∙ or_assoc (is_marked 8 o.marks v) (d v) (e v);
+  tells = b.tells ∙ ap (λ (x : Bool). x || h) a.tells ∙ or_assoc o.has_global g h;
+  apart = λ own. b.apart (a.apart own);
+}
+
+pub fills_as : (o n : Indexed) (xs ys : Pairs) (d e : ℕ → Bool) (g h : Bool) → xs ≡ ys → ((v : ℕ) → d v ≡ e v) → g ≡ h → Fills o n xs d g → Fills o n ys e h
+fills_as o n xs ys d e g h same marks tells a = record {
+  same_seeds = a.same_seeds;
+  puts = a.puts ∙ ap (λ (more : Pairs). filled more o.pairs) same;
+  marks = λ v. a.marks v ∙ ap (λ (x : Bool). is_marked 8 o.marks v || x) (marks v);
+  tells = a.tells ∙ ap (λ (x : Bool). o.has_global || x) tells;
+  apart = a.apart;
+}
+
+-- a clash after some was filled in
+pub clash_then : (o m : Indexed) (xs ys : Pairs) (d : ℕ → Bool) (g : Bool) (fault : DeclFault) → Fills o m xs d g → IsClash m.seeds (keys_of ys ++ keys_of m.pairs) fault
+    → IsClash o.seeds (keys_of (ys ++ xs) ++ keys_of o.pairs) fault
+clash_then o m xs ys d g fault a c = clash_filled o.seeds m.seeds ys xs o.pairs m.pairs fault a.same_seeds a.puts c
+
+module _ {Z : Type 0} where
+  -- what is below some sub-modules and others
+  pub below_more : (path : List Bytes) (front rest : List (Bytes × Rc ModuleTree Z)) → below path (subs_of (front ++ rest)) ≡ below path (subs_of rest) ++ below path (subs_of front)
+  below_more path [] rest = sym (append-nil (below path (subs_of rest)))
+  below_more path ((name, m) ∷ front) rest =
+      let own = walk (path ++ name ∷ []) m.value in
+      ap (λ (ps : Pairs). ps ++ own) (below_more path front rest) ∙ append_assoc (below path (subs_of rest)) (below path (subs_of front)) own
+
+  pub some_more : (has : Lists → Bool) (front rest : List (Bytes × Rc ModuleTree Z)) → some_below has (subs_of (front ++ rest)) ≡ (some_below has (subs_of front) || some_below has (subs_of rest))
+  some_more has [] rest = refl
+  some_more has ((name, m) ∷ front) rest =
+      let own = has m.value.own in
+      let lower = some_below has m.value.subs in
+      let now = some_below has (subs_of front) in
+      let later = some_below has (subs_of rest) in
+      ap (λ (b : Bool). own || (lower || b)) (some_more has front rest)
+      ∙ ap (λ (b : Bool). own || b) (sym (or_assoc lower now later))
+      ∙ sym (or_assoc own (lower || now) later)
+
+  pub some_one : (has : Lists → Bool) (name : Bytes) (m : Rc ModuleTree Z) → some_below has (subs_of ((name, m) ∷ [])) ≡ some_in has m.value
+  some_one has name m = ap (λ (b : Bool). has m.value.own || b) (or_false (some_below has m.value.subs))
+
+-- why a table refuses a function
+module _ (t : Table RhaiFunc) (key : Key) where
+  refused_by : (clash : TableFault) → IsRefusal t key clash → IsClash t.seeds (key ∷ keys_of t.pairs) (collision clash)
+  refused_by (Clash held other) (is, stands, clash) = record {
+    held_there = Contains-append_right (key ∷ []) (keys_of t.pairs) held stands;
+    new_there = (0, omega arith, sym is);
+    clash = subst (λ (q : Key). Clashes t.seeds held q) (sym is) clash;
+  }
+  refused_by no_room why = tt
+
+  pub refused_clash : (clash : TableFault) (fault : DeclFault) → fault ≡ collision clash → IsRefusal t key clash → IsClash t.seeds (key ∷ keys_of t.pairs) fault
+  refused_clash clash fault is why = subst (λ (f : DeclFault). IsClash t.seeds (key ∷ keys_of t.pairs) f) (sym is) (refused_by clash why)
+
+-- a fault that is handed on
+pub if_err : {A : Type 0} (r : Result A DeclFault) (e : DeclFault) (P : DeclFault → Type 0) → IsErr r × IsErrAnd r (λ f. f ≡ e) → P e → IfErr r P
+if_err (Ok a) e P h p = tt
+if_err (Err f) e P h p = subst P (sym h.1) p
+
+pub if_more : {A : Type 0} (r : Result A DeclFault) (P Q : DeclFault → Type 0) → ((f : DeclFault) → P f → Q f) → IfErr r P → IfErr r Q
+if_more (Ok a) P Q more h = tt
+if_more (Err f) P Q more h = more f h
+
+-- no keys are keys of hashes of their own
+pub own_none : (seeds : Seeds) → HasOwnHashes seeds []
+unfolding HasOwnHashes IsDistinct
+own_none seeds = tt
+
+pub on_more : {A E : Type 0} (r : Result A E) (P Q : Type 0) → (P → Q) → OnOk r P → OnOk r Q
+on_more (Ok a) P Q more h = more h
+on_more (Err e) P Q more h = tt
+
+-- a declaration of a module that isn't put in
+pub clash_own : (o m : Indexed) (path : List Bytes) (front : Pairs) (p : Key × Declaration) (done all : Pairs) (d : ℕ → Bool) (g : Bool) (fault : DeclFault) → all ≡ front ++ p ∷ done → Fills o m (pairs_at path done) d g
+    → IsClash m.seeds (keys_of (unpathed p ++ pathed path p) ++ keys_of m.pairs) fault → IsClash o.seeds (keys_of (pairs_at path all) ++ keys_of o.pairs) fault
+clash_own o m path front p done all d g fault is fills c =
+    let P : Pairs → Type 0 = λ ps. IsClash o.seeds (keys_of ps ++ keys_of o.pairs) fault in
+    let here : P (pairs_at path (p ∷ done)) = clash_then o m (pairs_at path done) (unpathed p ++ pathed path p) d g fault fills c in
+    let before : P (pairs_at path front ++ pairs_at path (p ∷ done)) = clash_before o.seeds (pairs_at path front) (pairs_at path (p ∷ done)) (keys_of o.pairs) fault here in
+    subst P (sym (ap (pairs_at path) is ∙ flat_map-append (λ (q : Key × Declaration). unpathed q ++ pathed path q) front (p ∷ done))) before
+
+module _ {Z : Type 0} where
+  -- a sub-module that isn't put in
+  pub clash_below : (o m : Indexed) (path : List Bytes) (done : List (Bytes × Rc ModuleTree Z)) (x : Bytes × Rc ModuleTree Z) (next all : List (Bytes × Rc ModuleTree Z)) (own : Pairs) (d : ℕ → Bool) (g : Bool) (fault : DeclFault)
+      → all ≡ (done ++ x ∷ []) ++ next → Fills o m (below path (subs_of done)) d g → IsClash m.seeds (keys_of (walk (path ++ x.0 ∷ []) x.1.value) ++ keys_of m.pairs) fault
+      → IsClash o.seeds (keys_of (pairs_at path own ++ below path (subs_of all)) ++ keys_of o.pairs) fault
+  clash_below o m path done x next all own d g fault is fills c =
+      let P : Pairs → Type 0 = λ ps. IsClash o.seeds (keys_of ps ++ keys_of o.pairs) fault in
+      let here : P (walk (path ++ x.0 ∷ []) x.1.value ++ below path (subs_of done)) = clash_then o m (below path (subs_of done)) (walk (path ++ x.0 ∷ []) x.1.value) d g fault fills c in
+      let one : P (below path (subs_of (done ++ x ∷ []))) = subst P (sym (below_more path done (x ∷ []))) here in
+      let more : P (below path (subs_of next) ++ below path (subs_of (done ++ x ∷ []))) = clash_before o.seeds (below path (subs_of next)) (below path (subs_of (done ++ x ∷ []))) (keys_of o.pairs) fault one in
+      let whole : P (below path (subs_of all)) = subst P (sym (ap (λ (es : List (Bytes × Rc ModuleTree Z)). below path (subs_of es)) is ∙ below_more path (done ++ x ∷ []) next)) more in
+      clash_before o.seeds (pairs_at path own) (below path (subs_of all)) (keys_of o.pairs) fault whole
+
+  -- one sub-module more
+  pub fills_below : (o m n : Indexed) (path : List Bytes) (done : List (Bytes × Rc ModuleTree Z)) (x : Bytes × Rc ModuleTree Z)
+      → Fills o m (below path (subs_of done)) (λ v. some_below (declares_dynamic o.seeds v) (subs_of done)) (some_below declares_global (subs_of done))
+      → Fills m n (walk (path ++ x.0 ∷ []) x.1.value) (λ v. some_in (declares_dynamic m.seeds v) x.1.value) (some_in declares_global x.1.value)
+      → Fills o n (below path (subs_of (done ++ x ∷ []))) (λ v. some_below (declares_dynamic o.seeds v) (subs_of (done ++ x ∷ []))) (some_below declares_global (subs_of (done ++ x ∷ [])))
+  fills_below o m n path done x a b =
+      let tells : (has : Lists → Bool) → (some_below has (subs_of done) || some_in has x.1.value) ≡ some_below has (subs_of (done ++ x ∷ [])) =
+      λ has. ap (λ (c : Bool). some_below has (subs_of done) || c) (sym (some_one has x.0 x.1)) ∙ sym (some_more has done (x ∷ [])) in
+      fills_as o n (walk (path ++ x.0 ∷ []) x.1.value ++ below path (subs_of done)) (below path (subs_of (done ++ x ∷ []))) _ _ _ _ (sym (below_more path done (x ∷ [])))
+      (λ v. (λ i. some_below (declares_dynamic o.seeds v) (subs_of done) || some_in (declares_dynamic (a.same_seeds i) v) x.1.value) ∙ tells (declares_dynamic o.seeds v)) (tells declares_global)
+      (fills_then o m n (below path (subs_of done)) (walk (path ++ x.0 ∷ []) x.1.value) _ _ _ _ a b)
+
+-- what is below a module, then the marks of its own filter, then its own
+pub fills_module : (o a j n : Indexed) (path : List Bytes) (m : ModuleTree)
+    → Fills o a (below path m.subs) (λ v. some_below (declares_dynamic o.seeds v) m.subs) (some_below declares_global m.subs) → Fills a j [] (λ v. declares_dynamic a.seeds v m.own) false
+    → Fills j n (pairs_at path (shown m.own)) (λ _. false) (declares_global m.own) → Fills o n (walk path m) (λ v. some_in (declares_dynamic o.seeds v) m) (some_in declares_global m)
+fills_module o a j n path m lower marks own =
+    let lowers : Bool = some_below declares_global m.subs in
+    fills_as o n (walk path m) (walk path m) (λ v. (some_below (declares_dynamic o.seeds v) m.subs || declares_dynamic a.seeds v m.own) || false) (λ v. some_in (declares_dynamic o.seeds v) m) ((lowers || false) || declares_global m.own) (some_in declares_global m) refl
+    (λ v. or_false (some_below (declares_dynamic o.seeds v) m.subs || declares_dynamic a.seeds v m.own) ∙ (λ i. some_below (declares_dynamic o.seeds v) m.subs || declares_dynamic (lower.same_seeds i) v m.own)
+    ∙ or_turned (some_below (declares_dynamic o.seeds v) m.subs) (declares_dynamic o.seeds v m.own))
+    (ap (λ (b : Bool). b || declares_global m.own) (or_false lowers) ∙ or_turned lowers (declares_global m.own))
+    (fills_then o j n (below path m.subs) (pairs_at path (shown m.own)) _ _ _ _ (fills_then o a j (below path m.subs) [] _ _ _ _ lower marks) own)
+
+pub clash_module : (o a j : Indexed) (path : List Bytes) (m : ModuleTree) (d e : ℕ → Bool) (g h : Bool) (fault : DeclFault) → Fills o a (below path m.subs) d g → Fills a j [] e h
+    → IsClash j.seeds (keys_of (pairs_at path (shown m.own)) ++ keys_of j.pairs) fault → IsClash o.seeds (keys_of (walk path m) ++ keys_of o.pairs) fault
+clash_module o a j path m d e g h fault lower marks c = clash_then o j (below path m.subs) (pairs_at path (shown m.own)) _ _ fault (fills_then o a j (below path m.subs) [] d e g h lower marks) c
+
+-- keys of hashes of their own don't clash
+pub none_clash : (seeds : Seeds) (keys : List Key) → HasOwnHashes seeds keys → NoneClash seeds keys
+none_clash seeds keys own held new c =
+    let i = c.held_there.0 in
+    let j = c.new_there.0 in
+    let at : slice_get keys i ≡ Some held = slice_get_read keys (length keys) i held refl c.held_there.1 (sym c.held_there.2) in
+    let there : slice_get keys j ≡ Some new = slice_get_read keys (length keys) j new refl c.new_there.1 (sym c.new_there.2) in
+    let apart = own_apart seeds keys own in
+    elim (leb_tells i j) [
+      | inl p ↦ elim (eqb_tells i j) [
+        | inl q ↦ (let one : Some held ≡ Some new = sym at ∙ ap (λ (k : ℕ). slice_get keys k) q.1 ∙ there in c.clash.differ (cc))
+        | inr q ↦ (apart i j held new (omega (arith, p.1, q.1)) at there).1 c.clash
+      ]
+      | inr p ↦ (apart j i new held (omega (arith, p.1)) there at).1 (record { differ = λ e. c.clash.differ (sym e); one_hash = sym c.clash.one_hash })
+    ]
+
+-- marks of one key more, and by a filter of other declarations of the same seeds
+pub marks_more : (o m n : Indexed) (test : Seeds → ℕ → Key × Declaration → Bool) (p : Key × Declaration) (front : Pairs) → Fills o m [] (λ v. list_any (test o.seeds v) front) false → Fills m n [] (λ v. test m.seeds v p) false
+    → Fills o n [] (λ v. list_any (test o.seeds v) (front ++ p ∷ [])) false
+marks_more o m n test p front a b =
+    fills_as o n [] [] (λ v. list_any (test o.seeds v) front || test m.seeds v p) (λ v. list_any (test o.seeds v) (front ++ p ∷ [])) (false || false) false refl
+    (λ v. (λ i. list_any (test o.seeds v) front || (ap (λ (s : Seeds). test s v p) a.same_seeds ∙ sym (or_false (test o.seeds v p))) i) ∙ sym (list_any-append (test o.seeds v) front (p ∷ []))) refl
+    (fills_then o m n [] [] _ _ _ _ a b)
+
+pub marks_by : (o n : Indexed) (test : Seeds → ℕ → Key × Declaration → Bool) (seeds : Seeds) (marks : List ℕ) (ps : Pairs) → seeds ≡ o.seeds → ((v : ℕ) → is_marked 8 marks v ≡ list_any (test seeds v) ps)
+    → Fills o n [] (λ v. is_marked 8 marks v) false → Fills o n [] (λ v. list_any (test o.seeds v) ps) false
+marks_by o n test seeds marks ps same right a = fills_as o n [] [] _ _ _ _ refl (λ v. right v ∙ (λ i. list_any (test (same i) v) ps)) refl a
+
+-- an empty index that was filled with a tree
+pub is_index : (o n : Indexed) (path : List Bytes) (m : ModuleTree) → o.seeds ≡ m.own.seeds → o.pairs ≡ [] → ((v : ℕ) → is_marked 8 o.marks v ≡ false) → o.has_global ≡ false → path ≡ []
+    → Fills o n (walk path m) (λ v. some_in (declares_dynamic o.seeds v) m) (some_in declares_global m) → IsIndexOf n m
+is_index o n path m seeds none marks tells root f =
+    let puts : n.pairs ≡ filled (tree m) [] = f.puts ∙ (λ i. filled (walk (root i) m) (none i)) in
+    let own : HasOwnHashes n.seeds (keys_of n.pairs) = f.apart (subst (λ (ps : Funcs). HasOwnHashes o.seeds (keys_of ps)) (sym none) (own_none o.seeds)) in
+    let same : n.seeds ≡ m.own.seeds = f.same_seeds ∙ seeds in
+    let held : (k : Key) → has_key k (keys_of (tree m)) ≡ true → has_key k (keys_of n.pairs) ≡ true =
+    λ k h. ap (λ (ps : Funcs). has_key k (keys_of ps)) puts ∙ has_filled k (tree m) [] ∙ ap (λ (b : Bool). b || false) h in (
+      same,
+      λ one other c. none_clash n.seeds (keys_of n.pairs) own one other (clash_among m.own.seeds n.seeds (keys_of (tree m)) (keys_of n.pairs) (HashCollision one other) (sym same) held c),
+      λ k. ap (λ (ps : Funcs). lookup (key_eq k) ps) puts ∙ first_filled_empty k (tree m),
+      λ v. f.marks v ∙ (λ i. marks v i || some_in (declares_dynamic (seeds i) v) m),
+      f.tells ∙ ap (λ (b : Bool). b || some_in declares_global m) tells,
+    )
+
+pub clash_tree : (o : Indexed) (path : List Bytes) (m : ModuleTree) (fault : DeclFault) → o.seeds ≡ m.own.seeds → o.pairs ≡ [] → path ≡ [] → IsClash o.seeds (keys_of (walk path m) ++ keys_of o.pairs) fault → IsClash m.own.seeds (keys_of (tree m)) fault
+clash_tree o path m fault seeds none root c =
+    subst (λ (ks : List Key). IsClash m.own.seeds ks fault) (append-nil (keys_of (tree m))) (subst (λ (s : Seeds). IsClash s (keys_of (tree m) ++ []) fault) seeds (transp c))
+  where
+    transp : IsClash o.seeds (keys_of (walk path m) ++ keys_of o.pairs) fault → IsClash o.seeds (keys_of (tree m) ++ []) fault
+    transp h = subst (λ (ks : List Key). IsClash o.seeds ks fault) (λ i. keys_of (walk (root i) m) ++ keys_of (none i)) h
+
+-- a refused index leaves the module as it was
+refused_with : (A : Type 0) (old new : ModuleTree) (fault : DeclFault) → IsClash old.own.seeds (keys_of (tree old)) fault → new ≡ old → Indexes {A = A} old (Err fault) new
+refused_with A old new (HashCollision held other) c same = (c, same)
+refused_with A old new (IndexerNotAllowed key) c same = c
+refused_with A old new NotCallable c same = c
+refused_with A old new (UnknownNumber n m) c same = c
+refused_with A old new OutOfMemory c same = same
+
+pub index_refused : {A : Type 0} (old new : ModuleTree) (r : Result A DeclFault) (fault : DeclFault) → IsErr r × IsErrAnd r (λ f. f ≡ fault) → IsClash old.own.seeds (keys_of (tree old)) fault → new ≡ old → Indexes old r new
+index_refused old new (Ok a) fault h c same = absurd h.1
+index_refused {A} old new (Err f) fault h c same = subst (λ (g : DeclFault). Indexes {A = A} old (Err g) new) (sym h.1) (refused_with A old new fault c same)

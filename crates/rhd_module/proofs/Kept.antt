@@ -1,0 +1,172 @@
+-- What a module keeps of its own declarations and of its tree, after a declaration is put or its comments are set.
+use Rattle.std.proofs.Common.{◌≡◌, ℕ, ◌==◌, ◌&&◌, ◌||◌, not, Bool, true, false, cond, List, [], ◌∷◌, ◌++◌, map, Option, None, Some, is_none, refl, sym, ap, subst, ◌∙◌, true≢false}
+use Rattle.std.specs.Option.{option_map}
+use Rattle.std.specs.List.{list_any}
+use Rattle.std.specs.Map.{lookup, keys_of}
+use Rattle.rhd_value.specs.Tree.{Bytes}
+use Rattle.rhd_hash.specs.declared.key.Key.{Key}
+use Rattle.rhd_hash.specs.declared.mixer.Seeds.{Seeds}
+use Rattle.rhd_hash.specs.Keys.{key_eq, key_eq-Decides, has_dynamic, with_path, is_typed_key}
+use Rattle.rhd_hash.specs.Parts.{untyped_key}
+use Rattle.rhd_hash.specs.Filter.{slot, is_marked}
+use Rattle.rhd_func.specs.declared.func.RhaiFunc.{RhaiFunc}
+use Rattle.rhd_func.specs.Access.{is_private, is_global_namespace}
+use Rattle.rhd_decl.specs.declared.declaration.Declaration.{Declaration}
+use Rattle.rhd_module.specs.Tree.{ModuleTree, Lists, Pairs}
+use Rattle.rhd_module.specs.Contents.{commented, comment_on}
+use Rattle.rhd_module.specs.Registered.{put}
+use Rattle.rhd_module.specs.Walk.{unpathed, pathed, pairs_at, below, tree}
+use Rattle.rhd_module.specs.Below.{dynamic_hash, has_slot, some_below, some_in, declares_global, declares_dynamic}
+use Rattle.rhd_module.specs.Index.{Indexed, IsFilter, IsIndexOf, IsKept, NoneClash}
+
+or_false : (b : Bool) → (b || false) ≡ b
+or_false true = refl
+or_false false = refl
+
+or_assoc : (a b c : Bool) → ((a || b) || c) ≡ (a || (b || c))
+or_assoc true b c = refl
+or_assoc false b c = refl
+
+or_again : (a b : Bool) → (a || b) ≡ ((a || b) || a)
+or_again true b = refl
+or_again false true = refl
+or_again false false = refl
+
+-- a test of keys after a declaration is put
+module _ (test : Key → Bool) (k : Key) (d : Declaration) where
+  put_step : (p : Key × Declaration) (ps : Pairs) (same : Bool) → key_eq k p.0 ≡ same → list_any (λ q. test q.0) (put k d ps) ≡ (list_any (λ q. test q.0) ps || test k)
+      → list_any (λ q. test q.0) (cond same ((p.0, d) ∷ ps) (p ∷ put k d ps)) ≡ ((test p.0 || list_any (λ q. test q.0) ps) || test k)
+  put_step p ps true s ih = or_again (test p.0) (list_any (λ q. test q.0) ps) ∙ ap (λ (q : Key). (test p.0 || list_any (λ r. test r.0) ps) || test q) (sym ((key_eq-Decides k p.0).0 s))
+  put_step p ps false s ih = ap (λ (b : Bool). test p.0 || b) ih ∙ sym (or_assoc (test p.0) (list_any (λ q. test q.0) ps) (test k))
+
+  pub any_put : (ps : Pairs) → list_any (λ q. test q.0) (put k d ps) ≡ (list_any (λ q. test q.0) ps || test k)
+  any_put [] = or_false (test k)
+  any_put (p ∷ ps) = put_step p ps (key_eq k p.0) refl (any_put ps)
+
+  there_step : (p : Key × Declaration) (ps : Pairs) (same : Bool) → key_eq k p.0 ≡ same → (is_none (lookup (key_eq k) ps) ≡ false → list_any (λ q. test q.0) (put k d ps) ≡ list_any (λ q. test q.0) ps)
+      → is_none (cond same (Some p.1) (lookup (key_eq k) ps)) ≡ false → list_any (λ q. test q.0) (cond same ((p.0, d) ∷ ps) (p ∷ put k d ps)) ≡ (test p.0 || list_any (λ q. test q.0) ps)
+  there_step p ps true s ih there = refl
+  there_step p ps false s ih there = ap (λ (b : Bool). test p.0 || b) (ih there)
+
+  -- where one stood there
+  pub any_put_there : (ps : Pairs) → is_none (lookup (key_eq k) ps) ≡ false → list_any (λ q. test q.0) (put k d ps) ≡ list_any (λ q. test q.0) ps
+  any_put_there [] there = absurd (true≢false there)
+  any_put_there (p ∷ ps) there = there_step p ps (key_eq k p.0) refl (any_put_there ps) there
+
+-- whether a key has a parameter of any type, and a hash that is this one modulo 64
+abbrev pub may_be : Seeds → ℕ → Key → Bool
+may_be seeds v k = has_dynamic k && (slot 8 v == slot 8 (untyped_key seeds k))
+
+slot_step : (seeds : Seeds) (v : ℕ) (k : Key) (b : Bool) → has_slot (cond b (Some (untyped_key seeds k)) None) v ≡ (b && (slot 8 v == slot 8 (untyped_key seeds k)))
+slot_step seeds v k true = refl
+slot_step seeds v k false = refl
+
+-- the filter, where a key was put in the place of an equal one
+pub filter_there : (marks : List ℕ) (s t : Seeds) (k : Key) (d : Declaration) (old new : Pairs) → ((v : ℕ) → is_marked 8 marks v ≡ list_any (λ p. may_be s v p.0) old) → is_none (lookup (key_eq k) old) ≡ false
+    → t ≡ s → new ≡ put k d old → (v : ℕ) → is_marked 8 marks v ≡ list_any (λ p. may_be t v p.0) new
+filter_there marks s t k d old new right there same is v = right v ∙ sym (any_put_there (may_be s v) k d old there) ∙ (λ i. list_any (λ p. may_be (sym same i) v p.0) (sym is i))
+
+-- and where it was put last, and its hash was marked
+pub filter_last : (marks marks2 : List ℕ) (s t : Seeds) (k : Key) (d : Declaration) (old new : Pairs) (dynamic : Option ℕ) → ((v : ℕ) → is_marked 8 marks v ≡ list_any (λ p. may_be s v p.0) old)
+    → dynamic ≡ dynamic_hash s k → ((v : ℕ) → is_marked 8 marks2 v ≡ (is_marked 8 marks v || has_slot dynamic v)) → t ≡ s → new ≡ put k d old
+    → (v : ℕ) → is_marked 8 marks2 v ≡ list_any (λ p. may_be t v p.0) new
+filter_last marks marks2 s t k d old new dynamic right hash more same is v =
+    more v
+    ∙ (λ i. right v i || (ap (λ (o : Option ℕ). has_slot o v) hash ∙ slot_step s v k (has_dynamic k)) i)
+    ∙ sym (any_put (may_be s v) k d old)
+    ∙ (λ i. list_any (λ p. may_be (sym same i) v p.0) (sym is i))
+
+-- a module that isn't indexed keeps nothing
+pub not_kept : (index : Indexed) (m : ModuleTree) → m.own.indexed ≡ false → IsKept index m
+not_kept index m none = λ is. absurd (true≢false (sym is ∙ none))
+
+-- the functions of declarations
+abbrev funcs : Pairs → List (Key × RhaiFunc)
+funcs [] = []
+funcs (p ∷ ps) = (p.0, p.1.func) ∷ funcs ps
+
+keys_funcs : (ps : Pairs) → keys_of (funcs ps) ≡ keys_of ps
+keys_funcs [] = refl
+keys_funcs (p ∷ ps) = ap (λ (ks : List Key). p.0 ∷ ks) (keys_funcs ps)
+
+cond_func : (b : Bool) (d : Declaration) (o : Option Declaration) → cond b (Some d.func) (option_map (λ (x : Declaration). x.func) o) ≡ option_map (λ (x : Declaration). x.func) (cond b (Some d) o)
+cond_func true d o = refl
+cond_func false d o = refl
+
+lookup_funcs : (k : Key) (ps : Pairs) → lookup (key_eq k) (funcs ps) ≡ option_map (λ (x : Declaration). x.func) (lookup (key_eq k) ps)
+lookup_funcs k [] = refl
+lookup_funcs k (p ∷ ps) = ap (λ (o : Option RhaiFunc). cond (key_eq k p.0) (Some p.1.func) o) (lookup_funcs k ps) ∙ cond_func (key_eq k p.0) p.1 (lookup (key_eq k) ps)
+
+funcs_append : (xs ys : Pairs) → funcs (xs ++ ys) ≡ funcs xs ++ funcs ys
+funcs_append [] ys = refl
+funcs_append (x ∷ xs) ys = ap (λ (fs : List (Key × RhaiFunc)). (x.0, x.1.func) ∷ fs) (funcs_append xs ys)
+
+module _ (k : Key) (comments : List Bytes) where
+  either : (b : Bool) (q : Key) (d : Declaration) → funcs (cond b ((q, commented comments d) ∷ []) []) ≡ funcs (cond b ((q, d) ∷ []) [])
+  either true q d = refl
+  either false q d = refl
+
+  neither : (b : Bool) (q : Key) (d : Declaration) → funcs (cond b [] ((q, commented comments d) ∷ [])) ≡ funcs (cond b [] ((q, d) ∷ []))
+  neither true q d = refl
+  neither false q d = refl
+
+  one_commented : (path : List Bytes) (p : Key × Declaration) → funcs (unpathed (p.0, commented comments p.1) ++ pathed path (p.0, commented comments p.1)) ≡ funcs (unpathed p ++ pathed path p)
+  one_commented path p =
+      funcs_append (unpathed (p.0, commented comments p.1)) (pathed path (p.0, commented comments p.1))
+      ∙ (λ i. either (is_global_namespace p.1.metadata.namespace && (not (is_private p.1.metadata.access) || is_typed_key p.0)) p.0 p.1 i ++ neither (is_private p.1.metadata.access) (with_path path p.0) p.1 i)
+      ∙ sym (funcs_append (unpathed p) (pathed path p))
+
+  pairs_step : (path : List Bytes) (p : Key × Declaration) (ps : Pairs) (same : Bool) → funcs (pairs_at path (comment_on k comments ps)) ≡ funcs (pairs_at path ps)
+      → funcs (pairs_at path (cond same ((p.0, commented comments p.1) ∷ ps) (p ∷ comment_on k comments ps))) ≡ funcs (pairs_at path (p ∷ ps))
+  pairs_step path p ps true ih =
+      funcs_append (unpathed (p.0, commented comments p.1) ++ pathed path (p.0, commented comments p.1)) (pairs_at path ps)
+      ∙ ap (λ (fs : List (Key × RhaiFunc)). fs ++ funcs (pairs_at path ps)) (one_commented path p)
+      ∙ sym (funcs_append (unpathed p ++ pathed path p) (pairs_at path ps))
+  pairs_step path p ps false ih =
+      funcs_append (unpathed p ++ pathed path p) (pairs_at path (comment_on k comments ps))
+      ∙ ap (λ (fs : List (Key × RhaiFunc)). funcs (unpathed p ++ pathed path p) ++ fs) ih
+      ∙ sym (funcs_append (unpathed p ++ pathed path p) (pairs_at path ps))
+
+  -- comments change no function of the pairs of a module
+  pairs_commented : (path : List Bytes) (ps : Pairs) → funcs (pairs_at path (comment_on k comments ps)) ≡ funcs (pairs_at path ps)
+  pairs_commented path [] = refl
+  pairs_commented path (p ∷ ps) = pairs_step path p ps (key_eq k p.0) (pairs_commented path ps)
+
+  any_step : (test : Key × Declaration → Bool) → ((p : Key × Declaration) → test (p.0, commented comments p.1) ≡ test p) → (p : Key × Declaration) (ps : Pairs) (same : Bool)
+      → list_any test (comment_on k comments ps) ≡ list_any test ps → list_any test (cond same ((p.0, commented comments p.1) ∷ ps) (p ∷ comment_on k comments ps)) ≡ (test p || list_any test ps)
+  any_step test still p ps true ih = ap (λ (b : Bool). b || list_any test ps) (still p)
+  any_step test still p ps false ih = ap (λ (b : Bool). test p || b) ih
+
+  any_commented : (test : Key × Declaration → Bool) → ((p : Key × Declaration) → test (p.0, commented comments p.1) ≡ test p) → (ps : Pairs) → list_any test (comment_on k comments ps) ≡ list_any test ps
+  any_commented test still [] = refl
+  any_commented test still (p ∷ ps) = any_step test still p ps (key_eq k p.0) (any_commented test still ps)
+
+  dynamic_commented : (v : ℕ) (old new : Lists) → new.eager ≡ comment_on k comments old.eager → new.seeds ≡ old.seeds → declares_dynamic new.seeds v new ≡ declares_dynamic old.seeds v old
+  dynamic_commented v old new is same =
+      (λ i. list_any (λ p. may_be (same i) v p.0) (is i)) ∙ any_commented (λ p. may_be old.seeds v p.0) (λ p. refl) old.eager
+
+  global_commented : (old new : Lists) → new.eager ≡ comment_on k comments old.eager → declares_global new ≡ declares_global old
+  global_commented old new is =
+      ap (list_any (λ p. is_global_namespace p.1.metadata.namespace)) is ∙ any_commented (λ p. is_global_namespace p.1.metadata.namespace) (λ p. refl) old.eager
+
+  pub filter_commented : (marks : List ℕ) (old new : Lists) → new.eager ≡ comment_on k comments old.eager → new.seeds ≡ old.seeds → IsFilter marks old → IsFilter marks new
+  filter_commented marks old new is same right v = right v ∙ sym (dynamic_commented v old new is same)
+
+  tree_commented : (old new : ModuleTree) → new.own.eager ≡ comment_on k comments old.own.eager → new.subs ≡ old.subs → funcs (tree new) ≡ funcs (tree old)
+  tree_commented old new is subs =
+      (λ i. funcs (pairs_at [] (is i) ++ below [] (subs i)))
+      ∙ funcs_append (pairs_at [] (comment_on k comments old.own.eager)) (below [] old.subs)
+      ∙ ap (λ (fs : List (Key × RhaiFunc)). fs ++ funcs (below [] old.subs)) (pairs_commented [] old.own.eager)
+      ∙ sym (funcs_append (pairs_at [] old.own.eager) (below [] old.subs))
+
+  -- the index of a tree is that of the tree with comments
+  pub index_commented : (index : Indexed) (old new : ModuleTree) → new.own.eager ≡ comment_on k comments old.own.eager → new.own.seeds ≡ old.own.seeds → new.subs ≡ old.subs → IsIndexOf index old → IsIndexOf index new
+  index_commented index old new is same subs it =
+      let alike : funcs (tree old) ≡ funcs (tree new) = sym (tree_commented old new is subs) in
+      let keys : keys_of (tree old) ≡ keys_of (tree new) = sym (keys_funcs (tree old)) ∙ ap (λ (fs : List (Key × RhaiFunc)). keys_of fs) alike ∙ keys_funcs (tree new) in (
+        it.0 ∙ sym same,
+        subst (λ (p : Seeds × List Key). NoneClash p.0 p.1) (λ i. (sym same i, keys i)) it.1,
+        λ key. it.2 key ∙ sym (lookup_funcs key (tree old)) ∙ ap (λ (fs : List (Key × RhaiFunc)). lookup (key_eq key) fs) alike ∙ lookup_funcs key (tree new),
+        λ v. it.3 v ∙ (λ i. sym (dynamic_commented v old.own new.own is same) i || some_below (declares_dynamic (sym same i) v) (sym subs i)),
+        it.4 ∙ (λ i. sym (global_commented old.own new.own is) i || some_below declares_global (sym subs i)),
+      )

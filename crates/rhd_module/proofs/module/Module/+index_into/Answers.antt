@@ -1,0 +1,73 @@
+use Rattle.std.proofs.Common.{◌≡◌, ◌∷◌, [], ◌++◌, List, Bool, sym, ap, subst, ◌∙◌, append_assoc, append-nil, Global, ℕ}
+use Rattle.std.specs.declared.rc.Rc.{Rc}
+use Rattle.std.specs.Map.{keys_of}
+use Rattle.std.specs.Result.{OnOk, IfErr}
+use Rattle.rhd_value.specs.Tree.{Bytes}
+use Rattle.rhd_module.specs.Tree.{ModuleTree, Pairs, subs_of}
+use Rattle.rhd_module.specs.Shown.{shown}
+use Rattle.rhd_module.specs.Walk.{walk, below, pairs_at}
+use Rattle.rhd_module.specs.Below.{some_below, some_in, declares_global, declares_dynamic}
+use Rattle.rhd_module.specs.Index.{Fills, IsClash}
+use Rattle.rhd_module.specs.contracts.module.Module.{the_view}
+use Rattle.rhd_module.proofs.Fills.{if_err, if_more, on_more, clash_below, clash_module, fills_below, fills_module}
+use Rattle.rhd_module.proofs.module.Module.+index_into.Goals as goal
+
+pub returns-in_err-index_into-clause-clash : goal.returns-in_err-index_into-clause-clash
+returns-in_err-index_into-clause-clash t c =
+    let path = c.args.path.now in
+    let x : Bytes × Rc ModuleTree Global = (c.in-Some.name.now, c.in-Some.child.now) in
+    let done = c.loop-name.invariant.0 in
+    let next = c.next.new.self in
+    let m = the_view c.self.inside in
+    let fault = c.in_err-index_into.field-0.0 in
+    let lower = c.in_ok-push.ensures ∙ (λ i. c.in_ok-below.ensures i ++ c.in_ok-dup.ensures i ∷ []) in
+    let source = c.into_iter-name-iterator.ensures.into_iter_gives ∙ c.iter-name-items.ensures.rest in
+    let all : c.self.inside.subs.entries ≡ (done ++ x ∷ []) ++ next =
+    sym source ∙ c.loop-name.invariant.1 ∙ ap (λ (r : List (Bytes × Rc ModuleTree Global)). done ++ r) c.in-Some.ensures.steps ∙ sym (append_assoc done (x ∷ []) next) in
+    let at : IsClash c.loop-name.index.seeds (keys_of (walk (path ++ x.0 ∷ []) x.1.value) ++ keys_of c.loop-name.index.pairs) fault =
+    subst (λ (ps : Pairs). IsClash c.loop-name.index.seeds (keys_of ps ++ keys_of c.loop-name.index.pairs) fault) (λ i. walk (lower i) (c.deref.ensures i)) c.in_err-index_into.ensures.clash in
+    let P : ModuleTree → Type 0 = λ m. IsClash c.args.index.now.seeds (keys_of (walk path m) ++ keys_of c.args.index.now.pairs) fault in
+    if_err c.from_residual-in_err-index_into.result fault _ c.from_residual-in_err-index_into.ensures
+    (subst P c.self.view_is (clash_below {Z = Global} c.args.index.now c.loop-name.index path done x next c.self.inside.subs.entries (shown m.own) _ _ fault all c.loop-name.invariant.2 at))
+
+pub loop-name-preserved : goal.loop-name-preserved
+loop-name-preserved t c =
+    let path = c.args.path.now in
+    let x : Bytes × Rc ModuleTree Global = (c.in-Some.name.now, c.in-Some.child.now) in
+    let done = c.loop-name.invariant.0 in
+    let next = c.next.new.self in
+    let lower = c.in_ok-push.ensures ∙ (λ i. c.in_ok-below.ensures i ++ c.in_ok-dup.ensures i ∷ []) in
+    let more : Fills c.loop-name.index c.index_into.new.index (walk (path ++ x.0 ∷ []) x.1.value) (λ v. some_in (declares_dynamic c.loop-name.index.seeds v) x.1.value) (some_in declares_global x.1.value) =
+    subst (λ (p : List Bytes × ModuleTree). Fills c.loop-name.index c.index_into.new.index (walk p.0 p.1) (λ v. some_in (declares_dynamic c.loop-name.index.seeds v) p.1) (some_in declares_global p.1)) (λ i. (lower i, c.deref.ensures i)) c.in_ok-index_into.ensures.fills in (
+      done ++ x ∷ [],
+      c.loop-name.invariant.1 ∙ ap (λ (r : List (Bytes × Rc ModuleTree Global)). done ++ r) c.in-Some.ensures.steps ∙ sym (append_assoc done (x ∷ []) next),
+      fills_below {Z = Global} c.args.index.now c.loop-name.index c.index_into.new.index path done x c.loop-name.invariant.2 more,
+    )
+
+pub returns-clause-fills : goal.returns-clause-fills
+returns-clause-fills t c =
+    let path = c.args.path.now in
+    let done = c.loop-name.invariant.0 in
+    let m = the_view c.self.inside in
+    let source = c.into_iter-name-iterator.ensures.into_iter_gives ∙ c.iter-name-items.ensures.rest in
+    let all : done ≡ c.self.inside.subs.entries =
+    sym (append-nil done) ∙ sym (c.loop-name.invariant.1 ∙ ap (λ (r : List (Bytes × Rc ModuleTree Global)). done ++ r) c.in-None.ensures.steps.0) ∙ source in
+    let F : List (Bytes × Rc ModuleTree Global) → Type 0 =
+    λ es. Fills c.args.index.now c.loop-name.index (below path (subs_of es)) (λ v. some_below (declares_dynamic c.args.index.now.seeds v) (subs_of es)) (some_below declares_global (subs_of es)) in
+    let P : ModuleTree → Type 0 = λ m. OnOk c.put_all.result (Fills c.args.index.now c.put_all.new.self (walk path m) (λ v. some_in (declares_dynamic c.args.index.now.seeds v) m) (some_in declares_global m)) in
+    subst P c.self.view_is
+    (on_more c.put_all.result _ _ (λ own. fills_module c.args.index.now c.loop-name.index c.mark_by.new.self c.put_all.new.self path m (subst F all c.loop-name.invariant.2) c.mark_by.ensures own) c.put_all.ensures.fills)
+
+pub returns-clause-clash : goal.returns-clause-clash
+returns-clause-clash t c =
+    let path = c.args.path.now in
+    let done = c.loop-name.invariant.0 in
+    let m = the_view c.self.inside in
+    let source = c.into_iter-name-iterator.ensures.into_iter_gives ∙ c.iter-name-items.ensures.rest in
+    let all : done ≡ c.self.inside.subs.entries =
+    sym (append-nil done) ∙ sym (c.loop-name.invariant.1 ∙ ap (λ (r : List (Bytes × Rc ModuleTree Global)). done ++ r) c.in-None.ensures.steps.0) ∙ source in
+    let F : List (Bytes × Rc ModuleTree Global) → Type 0 =
+    λ es. Fills c.args.index.now c.loop-name.index (below path (subs_of es)) (λ v. some_below (declares_dynamic c.args.index.now.seeds v) (subs_of es)) (some_below declares_global (subs_of es)) in
+    let P : ModuleTree → Type 0 = λ m. IfErr c.put_all.result (IsClash c.args.index.now.seeds (keys_of (walk path m) ++ keys_of c.args.index.now.pairs)) in
+    subst P c.self.view_is
+    (if_more c.put_all.result _ _ (λ f h. clash_module c.args.index.now c.loop-name.index c.mark_by.new.self path m _ _ _ _ f (subst F all c.loop-name.invariant.2) c.mark_by.ensures h) c.put_all.ensures.clash)

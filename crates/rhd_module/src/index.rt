@@ -1,0 +1,246 @@
+//! What a module keeps of its tree while it is indexed.
+
+ghost use Rattle.std.specs.Prelude.{ℕ, ◌&&◌, ◌==◌, ◌≡◌, ◌++◌, ◌∷◌, [], false, is_some, OnOk, IfOk, IfErr};
+ghost use Rattle.std.specs.Option.{option_copied};
+ghost use Rattle.std.specs.List.{list_any};
+ghost use Rattle.std.specs.Map.{lookup, keys_of};
+ghost use Rattle.rhd_hash.specs.Filter.{is_marked, slot};
+ghost use Rattle.rhd_hash.specs.Keys.{key_eq, has_dynamic};
+ghost use Rattle.rhd_hash.specs.Parts.{untyped_key};
+ghost use Rattle.rhd_hash.specs.PutIn.{put_in};
+ghost use Rattle.rhd_hash.specs.Refusal.{IsRefusal};
+ghost use Rattle.rhd_hash.specs.Table.{HasOwnHashes};
+ghost use Rattle.rhd_hash.specs.declared.fault.TableFault.{TableFault};
+ghost use Rattle.rhd_decl.specs.Collisions.{collision};
+ghost use Rattle.rhd_func.specs.Access.{is_global_namespace};
+ghost use Rattle.rhd_module.specs.Below.{some_in, declares_global, declares_dynamic};
+ghost use Rattle.rhd_module.specs.Index.{Fills, IsClash, IsIndexOf};
+ghost use Rattle.rhd_module.specs.Shown.{shown};
+ghost use Rattle.rhd_module.specs.Walk.{unpathed, pathed, pairs_at, walk, tree};
+
+use crate::module::Module;
+use rhd_decl::{DeclFault, Declaration};
+use rhd_func::RhaiFunc;
+use rhd_hash::{BloomFilterU64, Key, KeyTable, Seeds};
+use rhd_value::Texts;
+use std::alloc::Global;
+use std::marker::Model;
+use std::rc::Rc;
+
+/// The functions of a module's tree by key, and what is asked of the tree. Contracts see its parts.
+#[derive(Drop)]
+pub(crate) struct TreeIndex {
+    table: KeyTable<RhaiFunc>,
+    /// Marks the hashes of the keys that have a parameter of any type.
+    filter: BloomFilterU64<8>,
+    /// Whether a function is found without the module's name.
+    has_global: bool,
+}
+
+impl Model for TreeIndex {
+    ghost use Rattle.rhd_module.specs.Index.{Indexed};
+
+    ghost Value = { Indexed };
+
+    ghost view = { λ i. record { seeds = i.table.seeds; pairs = i.table.pairs; marks = i.filter; has_global = i.has_global } };
+}
+
+/// Puts a function under a key of a table.
+fn put_func(table: &mut KeyTable<RhaiFunc>, key: Key, func: RhaiFunc) -> Result<bool, DeclFault>
+    ensures replaced { IfOk result (λ replaced. replaced ≡ is_some (lookup (key_eq key) table.old.pairs)) }
+    ensures pairs { OnOk result (table.new ≡ record table.old { pairs = put_in key_eq key func table.old.pairs }) }
+    ensures apart { OnOk result (HasOwnHashes table.old.seeds (keys_of (put_in key_eq key func table.old.pairs))) }
+    ensures refused { IfErr result (λ fault. (clash : TableFault) × (fault ≡ collision clash) × IsRefusal table.old key clash) }
+{
+    match table.insert(key, func) {
+        Ok(old) => Ok(old.is_some()),
+        Err(fault) => Err(DeclFault::from(fault)),
+    }
+}
+
+impl TreeIndex {
+    /// The index of an empty tree.
+    pub(crate) fn new(alloc: Global, seeds: Seeds) -> TreeIndex
+        ensures seeds { result.seeds ≡ seeds }
+        ensures pairs { result.pairs ≡ [] }
+        ensures marks { (hash : _) → is_marked 8 result.marks hash ≡ false }
+        ensures tells { result.has_global ≡ false }
+    {
+        TreeIndex {
+            table: KeyTable::new(alloc, seeds),
+            filter: BloomFilterU64::new(),
+            has_global: false,
+        }
+    }
+
+    /// The function under a key.
+    pub(crate) fn get(&self, key: &Key) -> Option<&RhaiFunc>
+        ensures { option_copied result ≡ lookup (key_eq key.now) self.now.pairs }
+    {
+        self.table.get(key)
+    }
+
+    /// Whether a hash is marked.
+    pub(crate) fn may_contain(&self, hash: u64) -> bool
+        ensures { result ≡ is_marked 8 self.now.marks hash }
+    {
+        !self.filter.is_absent(hash)
+    }
+
+    /// Whether a function is found without the module's name.
+    pub(crate) fn has_global(&self) -> bool
+        ensures { result ≡ self.now.has_global }
+    {
+        self.has_global
+    }
+
+    /// Marks the hash of a key that has a parameter of any type.
+    fn mark(&mut self, key: &Key)
+        ensures { Fills self.old self.new [] (λ hash. has_dynamic key.now && (slot 8 hash == slot 8 (untyped_key self.old.seeds key.now))) false }
+    {
+        if key.has_dynamic() {
+            let hash = key.untyped(self.table.seeds());
+            self.filter.mark(hash);
+        }
+    }
+
+    /// Marks the hashes of the keys of declarations that have a parameter of any type.
+    fn mark_all(&mut self, declarations: &KeyTable<Declaration>)
+        ensures { Fills self.old self.new [] (λ hash. list_any (λ p. has_dynamic p.0 && (slot 8 hash == slot 8 (untyped_key self.old.seeds p.0))) declarations.now.pairs) false }
+    {
+        for (key, _declaration) in declarations.iter() {
+            self.mark(key);
+        }
+    }
+
+    /// The same, by a filter of these declarations, which is of use where it is of the same seeds.
+    fn mark_by(&mut self, declarations: &KeyTable<Declaration>, filter: &BloomFilterU64<8>)
+        requires { (hash : ℕ) → is_marked 8 filter.now hash ≡ list_any (λ p. has_dynamic p.0 && (slot 8 hash == slot 8 (untyped_key declarations.now.seeds p.0))) declarations.now.pairs }
+        ensures { Fills self.old self.new [] (λ hash. list_any (λ p. has_dynamic p.0 && (slot 8 hash == slot 8 (untyped_key self.old.seeds p.0))) declarations.now.pairs) false }
+    {
+        if declarations.seeds() == self.table.seeds() {
+            self.join(filter);
+        } else {
+            self.mark_all(declarations);
+        }
+    }
+
+    /// Puts the marks of another filter to its own.
+    fn join(&mut self, filter: &BloomFilterU64<8>)
+        ensures { Fills self.old self.new [] (λ hash. is_marked 8 filter.now hash) false }
+    {
+        self.filter += filter;
+    }
+
+    /// Puts a function under a key, in the place of one of an equal key.
+    fn put(&mut self, key: Key, func: RhaiFunc) -> Result<(), DeclFault>
+        ensures puts { OnOk result (self.new ≡ record self.old { pairs = put_in key_eq key func self.old.pairs }) }
+        ensures apart { OnOk result (HasOwnHashes self.new.seeds (keys_of self.new.pairs)) }
+        ensures clash { IfErr result (IsClash self.old.seeds (key ∷ keys_of self.old.pairs)) }
+    {
+        put_func(&mut self.table, key, func)?;
+        Ok(())
+    }
+
+    /// Puts a declaration under its key with a path, if it is found there.
+    fn put_pathed(
+        &mut self,
+        alloc: Global,
+        path: &Texts,
+        key: &Key,
+        declaration: &Declaration,
+    ) -> Result<(), DeclFault>
+        ensures fills { OnOk result (Fills self.old self.new (pathed path.now (key.now, declaration.now)) (λ _. false) false) }
+        ensures clash { IfErr result (IsClash self.old.seeds (keys_of (pathed path.now (key.now, declaration.now)) ++ keys_of self.old.pairs)) }
+    {
+        if declaration.metadata.access.is_private() {
+            return Ok(());
+        }
+        let func = declaration.func.dup(alloc)?;
+        self.put(key.dup_at(alloc, path)?, func)
+    }
+
+    /// Puts a declaration under its key without a path, if it is found there.
+    fn put_unpathed(
+        &mut self,
+        alloc: Global,
+        key: &Key,
+        declaration: &Declaration,
+    ) -> Result<(), DeclFault>
+        ensures fills { OnOk result (Fills self.old self.new (unpathed (key.now, declaration.now)) (λ _. false) (is_global_namespace declaration.now.metadata.namespace)) }
+        ensures clash { IfErr result (IsClash self.old.seeds (keys_of (unpathed (key.now, declaration.now)) ++ keys_of self.old.pairs)) }
+    {
+        if !declaration.metadata.namespace.is_global_namespace() {
+            return Ok(());
+        }
+        self.has_global = true;
+        if declaration.metadata.access.is_private() && !key.is_typed() {
+            return Ok(());
+        }
+        let func = declaration.func.dup(alloc)?;
+        self.put(key.dup(alloc)?, func)
+    }
+
+    /// Puts a declaration under the keys by which it is found.
+    fn put_pairs(
+        &mut self,
+        alloc: Global,
+        path: &Texts,
+        key: &Key,
+        declaration: &Declaration,
+    ) -> Result<(), DeclFault>
+        ensures fills { OnOk result (Fills self.old self.new (unpathed (key.now, declaration.now) ++ pathed path.now (key.now, declaration.now)) (λ _. false) (is_global_namespace declaration.now.metadata.namespace)) }
+        ensures clash { IfErr result (IsClash self.old.seeds (keys_of (unpathed (key.now, declaration.now) ++ pathed path.now (key.now, declaration.now)) ++ keys_of self.old.pairs)) }
+    {
+        self.put_pathed(alloc, path, key, declaration)?;
+        self.put_unpathed(alloc, key, declaration)
+    }
+
+    /// Puts declarations under the keys by which they are found at a path, the last first.
+    fn put_all(
+        &mut self,
+        alloc: Global,
+        path: &Texts,
+        declarations: &KeyTable<Declaration>,
+    ) -> Result<(), DeclFault>
+        ensures fills { OnOk result (Fills self.old self.new (pairs_at path.now declarations.now.pairs) (λ _. false) (list_any (λ p. is_global_namespace p.1.metadata.namespace) declarations.now.pairs)) }
+        ensures clash { IfErr result (IsClash self.old.seeds (keys_of (pairs_at path.now declarations.now.pairs) ++ keys_of self.old.pairs)) }
+    {
+        for (key, declaration) in declarations.iter().rev() {
+            self.put_pairs(alloc, path, key, declaration)?;
+        }
+        Ok(())
+    }
+}
+
+impl Module {
+    /// Puts what is found in the module and below it into an index, the last first.
+    fn index_into(
+        &self,
+        alloc: Global,
+        path: &Texts,
+        index: &mut TreeIndex,
+    ) -> Result<(), DeclFault>
+        ensures fills { OnOk result (Fills index.old index.new (walk path.now self.now) (λ hash. some_in (declares_dynamic index.old.seeds hash) self.now) (some_in declares_global self.now)) }
+        ensures clash { IfErr result (IsClash index.old.seeds (keys_of (walk path.now self.now) ++ keys_of index.old.pairs)) }
+    {
+        for (name, child) in self.subs.iter() {
+            let mut below = path.dup(alloc)?;
+            below.push(name.dup(alloc)?)?;
+            child.index_into(alloc, &below, index)?;
+        }
+        index.mark_by(&self.eager, &self.filter);
+        index.put_all(alloc, path, &self.eager)
+    }
+
+    /// The index of its tree.
+    pub(crate) fn tree_index(&self, alloc: Global) -> Result<Rc<TreeIndex>, DeclFault>
+        ensures index { IfOk result (λ index. IsIndexOf index.value self.now) }
+        ensures clash { IfErr result (IsClash self.now.own.seeds (keys_of (tree self.now))) }
+    {
+        let mut index = TreeIndex::new(alloc, self.eager.seeds());
+        let path = Texts::new(alloc);
+        self.index_into(alloc, &path, &mut index)?;
+        Ok(Rc::new(alloc, index)?)
+    }
+}
