@@ -1,8 +1,11 @@
 pub mod Firsts
-pub mod Places
+pub mod Founds
+pub mod Passes
+pub mod Layers
 pub mod PatternWalk
 pub mod NativeLooks
 pub mod Tables
 pub mod Picks
 pub mod HeldPicks
 pub mod Looks
+pub mod Roots

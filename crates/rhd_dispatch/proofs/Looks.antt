@@ -1,5 +1,5 @@
 -- How many look-ups a search makes.
-use Rattle.std.proofs.Common.{◌≡◌, ◌≤◌, ◌<◌, ℕ, ◌+◌, ◌-◌, ◌*◌, List, [], ◌∷◌, length, map, drop, get_or, set, sym, ap, ◌∙◌, arith}
+use Rattle.std.proofs.Common.{◌≡◌, ◌≤◌, ◌<◌, ℕ, ◌+◌, ◌-◌, ◌*◌, List, [], ◌∷◌, ◌++◌, length, map, drop, get_or, set, sym, ap, ◌∙◌, arith}
 use Rattle.std.specs.Prelude.{zero, suc, reverse}
 use Rattle.std.specs.List.{enumerate_from}
 use Rattle.std.proofs.lemmas.List.{length-append, length-map, length-reverse, drop-set-lt}
@@ -12,18 +12,29 @@ use Rattle.rhd_hash.specs.Steps.{raised}
 use Rattle.rhd_module.specs.Tree.{ModuleTree}
 use Rattle.rhd_engine.specs.Engine.{EngineLists, Imports}
 use Rattle.rhd_dispatch.specs.Patterns.{patterns_to, patterns}
-use Rattle.rhd_dispatch.specs.Searched.{searched, libraries, global_modules}
+use Rattle.rhd_dispatch.specs.Searched.{searched, libraries, global_modules, import_places, static_modules}
 
 -- one module asked
 pub raised_once : (old new : ℕ) → new ≡ raised old 1 → new ≤ old + 1
 unfolding raised
 raised_once old new is = omega (arith, is)
 
-pub places_count : (e : EngineLists) (libs : List ModuleTree) (imports : Imports) → length (searched e libs imports) ≡ length libs + length e.globals
+pub places_count : (e : EngineLists) (libs : List ModuleTree) (imports : Imports) → length (searched e libs imports) ≡ length libs + length e.globals + length imports + length e.statics
 places_count e libs imports =
     let l : length (libraries e libs) ≡ length libs = length-map (reverse (enumerate_from 0 libs)) _ ∙ length-reverse (enumerate_from 0 libs) ∙ length-enumerate_from 0 libs in
     let g : length (global_modules e) ≡ length e.globals = length-map (enumerate_from 0 e.globals) _ ∙ length-enumerate_from 0 e.globals in
-    length-append (libraries e libs) (global_modules e) ∙ (λ i. l i + g i)
+    let i : length (import_places e imports) ≡ length imports = length-map (reverse (enumerate_from 0 imports)) _ ∙ length-reverse (enumerate_from 0 imports) ∙ length-enumerate_from 0 imports in
+    let s : length (static_modules e) ≡ length e.statics = length-map (enumerate_from 0 e.statics) _ ∙ length-enumerate_from 0 e.statics in
+    omega (
+      arith,
+      l,
+      g,
+      i,
+      s,
+      length-append (libraries e libs) (global_modules e ++ (import_places e imports ++ static_modules e)),
+      length-append (global_modules e) (import_places e imports ++ static_modules e),
+      length-append (import_places e imports) (static_modules e),
+    )
 
 -- Patterns: there is one, and one place more makes twice as many.
 
@@ -119,22 +130,18 @@ both_less kinds same place m s first second small within is one two =
 
 -- The questions of a call.
 
--- the places counted as modules
-pub both_lists : (e : EngineLists) (libs lists globals : List ModuleTree) (imports : Imports) (s first second : ℕ) → lists ≡ libs → globals ≡ e.globals → first ≤ s + length lists → second ≤ first + length globals → second ≤ s + length (searched e libs imports)
-both_lists e libs lists globals imports s first second l g one two =
-    omega (arith, places_count e libs imports, ap length l, ap length g, one, two)
+-- how many modules there are
+abbrev modules : EngineLists → List ModuleTree → Imports → ℕ
+modules e libs imports = length libs + length e.globals + length imports + length e.statics
 
-pub first_list : (e : EngineLists) (libs lists : List ModuleTree) (imports : Imports) (s first : ℕ) → lists ≡ libs → first ≤ s + length lists → first ≤ s + length (searched e libs imports)
-first_list e libs lists imports s first l one = omega (arith, places_count e libs imports, ap length l, one)
-
-pub as_modules : (e : EngineLists) (libs : List ModuleTree) (imports : Imports) (s new : ℕ) → new ≤ s + length (searched e libs imports) → new ≤ s + (length libs + length e.globals)
+pub as_modules : (e : EngineLists) (libs : List ModuleTree) (imports : Imports) (s new : ℕ) → new ≤ s + length (searched e libs imports) → new ≤ s + modules e libs imports
 as_modules e libs imports s new h = omega (arith, places_count e libs imports, h)
 
 -- the patterns after the exact one
-pub other_patterns : (e : EngineLists) (libs : List ModuleTree) (imports : Imports) (types kinds : List TypeTag) (s new : ℕ) → types ≡ kinds → new + (length libs + length e.globals) ≤ s + length (patterns types) * (length libs + length e.globals)
+pub other_patterns : (e : EngineLists) (libs : List ModuleTree) (imports : Imports) (types kinds : List TypeTag) (s new : ℕ) → types ≡ kinds → new + modules e libs imports ≤ s + length (patterns types) * modules e libs imports
     → new + length (searched e libs imports) ≤ s + length (patterns kinds) * length (searched e libs imports)
 other_patterns e libs imports types kinds s new k h =
-    let p : length (patterns types) * (length libs + length e.globals) ≡ length (patterns kinds) * length (searched e libs imports) = λ i. length (patterns (k i)) * sym (places_count e libs imports) i in
+    let p : length (patterns types) * modules e libs imports ≡ length (patterns kinds) * length (searched e libs imports) = λ i. length (patterns (k i)) * sym (places_count e libs imports) i in
     omega (arith, p, places_count e libs imports, h)
 
 pub no_pattern : (kinds : List TypeTag) (s m : ℕ) → s + m ≤ s + length (patterns kinds) * m
@@ -147,3 +154,13 @@ pub exact_looks : (kinds : List TypeTag) (s m new : ℕ) → new ≤ s + m → n
 exact_looks kinds s m new h =
     let l : m ≤ length (patterns kinds) * m = at_least_once (length (patterns kinds)) m (some_pattern 16 kinds) in
     omega (arith, l, h)
+
+-- In one module.
+
+pub few_looks : (kinds : List TypeTag) (s new : ℕ) → new ≤ s + 1 → new ≤ s + length (patterns kinds)
+few_looks kinds s new h = omega (arith, h, some_pattern 16 kinds)
+
+pub other_looks : (types kinds : List TypeTag) (s first new : ℕ) → types ≡ kinds → first ≤ s + 1 → new + 1 ≤ first + length (patterns types) * 1 → new ≤ s + length (patterns kinds)
+other_looks types kinds s first new is one others =
+    let l : length (patterns types) ≡ length (patterns kinds) = ap (λ (ts : List TypeTag). length (patterns ts)) is in
+    omega (arith, l, one, others)

@@ -1,6 +1,6 @@
 -- Where no module may have a native, none is found.
-use Rattle.std.proofs.Common.{◌≡◌, ℕ, ◌+◌, Bool, true, false, cond, ◌&&◌, ◌||◌, List, [], ◌∷◌, refl, sym, ap, ◌∙◌}
-use Rattle.std.specs.Prelude.{Option, Some, None, reverse, option_map}
+use Rattle.std.proofs.Common.{◌≡◌, ℕ, ◌+◌, Bool, true, false, cond, ◌&&◌, ◌||◌, List, [], ◌∷◌, ◌++◌, length, refl, sym, ap, ◌∙◌}
+use Rattle.std.specs.Prelude.{suc, not, ◌-◌, Option, Some, None, reverse, option_map}
 use Rattle.std.specs.List.{list_any, enumerate_from}
 use Rattle.std.specs.Map.{lookup}
 use Rattle.std.proofs.lemmas.Slice.Eq.{bytes_eq-Decides}
@@ -12,16 +12,20 @@ use Rattle.rhd_hash.specs.declared.key.Key.{Key}
 use Rattle.rhd_hash.specs.declared.key.Key.TheVariants.{Native}
 use Rattle.rhd_decl.specs.declared.declaration.Declaration.{Declaration}
 use Rattle.rhd_hash.specs.Keys.{key_eq, key_eq-Decides}
+use Rattle.rhd_hash.specs.Parts.{untyped}
 use Rattle.rhd_hash.specs.Matching.{types_match, key_matches}
+use Rattle.rhd_module.proofs.Absent.{absent_qualified}
 use Rattle.rhd_module.specs.Matching.{may_match}
 use Rattle.rhd_module.specs.Tree.{ModuleTree, Pairs}
 use Rattle.rhd_call.specs.declared.pick.Layer.{Layer}
-use Rattle.rhd_call.specs.declared.pick.Layer.TheVariants.{Library, Global}
+use Rattle.rhd_call.specs.declared.pick.Layer.TheVariants.{Library, Global, Import, Static}
 use Rattle.rhd_call.specs.declared.pick.Pick.{Pick}
 use Rattle.rhd_engine.specs.Engine.{EngineLists, Imports}
+use Rattle.rhd_engine.specs.Lists.{all_indexed}
+use Rattle.rhd_engine.proofs.HeldLaws.{parts}
 use Rattle.rhd_dispatch.specs.Asks.{native_found}
 use Rattle.rhd_dispatch.specs.Searched.{pick_at, found}
-use Rattle.rhd_dispatch.specs.Walks.{place_of, library_places, global_places, native_in}
+use Rattle.rhd_dispatch.specs.Walks.{alone, rooted, place_of, place_of_tree, library_places, global_places, import_trees, static_trees, native_in, any_dynamic, may_have, any_may_have}
 use Rattle.rhd_dispatch.proofs.Firsts.{or_nones, of_append, of_map, none_reverse}
 
 pub any_parts : (a b : Bool) → (a || b) ≡ false → (a ≡ false) × (b ≡ false)
@@ -48,9 +52,9 @@ no_entry n name kinds types (p ∷ ps) m h =
     ] in
     by (key_eq (Native None name types) p.0) refl
 
-no_own : (layer : Layer) (n : ℕ) (name : Bytes) (kinds types : List TypeTag) (k : ℕ) (m : ModuleTree) → types_match n types kinds ≡ true → may_match m n name kinds ≡ false → pick_at (Native None name types) (place_of (λ i. layer) (k, m)) ≡ None
+no_own : (layer : Layer) (n : ℕ) (name : Bytes) (kinds types : List TypeTag) (m : ModuleTree) → types_match n types kinds ≡ true → may_match m n name kinds ≡ false → pick_at (Native None name types) (alone layer m) ≡ None
 unfolding pick_at
-no_own layer n name kinds types k m matches h = ap (option_map (λ (d : Declaration). record { layer = layer; func = d.func; source = m.own.id })) (no_entry n name kinds types m.own.eager matches h)
+no_own layer n name kinds types m matches h = ap (option_map (λ (d : Declaration). record { layer = layer; func = d.func; source = m.own.id })) (no_entry n name kinds types m.own.eager matches h)
 
 no_place : (layer : ℕ → Layer) (n : ℕ) (name : Bytes) (kinds types : List TypeTag) (k : ℕ) (ms : List ModuleTree) → types_match n types kinds ≡ true → list_any (λ m. may_match m n name kinds) ms ≡ false
     → first_of (λ y. pick_at (Native None name types) (place_of layer y)) (enumerate_from k ms) ≡ None
@@ -58,26 +62,59 @@ no_place layer n name kinds types k [] matches h = refl
 no_place layer n name kinds types k (m ∷ ms) matches h =
     let r = any_parts (may_match m n name kinds) (list_any (λ x. may_match x n name kinds) ms) h in
     or_nones (pick_at (Native None name types) (place_of layer (k, m))) (first_of (λ y. pick_at (Native None name types) (place_of layer y)) (enumerate_from (k + 1) ms))
-    (no_own (layer k) n name kinds types k m matches r.0) (no_place layer n name kinds types (k + 1) ms matches r.1)
+    (no_own (layer k) n name kinds types m matches r.0) (no_place layer n name kinds types (k + 1) ms matches r.1)
 
--- where no library and no global module may have a native, none of these types is found
-pub not_found : (libs globals : List ModuleTree) (n : ℕ) (name : Bytes) (kinds types : List TypeTag) → types_match n types kinds ≡ true
-    → list_any (λ m. may_match m n name kinds) globals ≡ false → list_any (λ m. may_match m n name kinds) libs ≡ false → native_in libs globals name types ≡ None
-not_found libs globals n name kinds types matches g l =
+-- types that match are as many
+pub as_many : (n : ℕ) (types kinds : List TypeTag) → types_match n types kinds ≡ true → length types ≡ length kinds
+as_many n [] [] h = refl
+as_many n [] (k ∷ kinds) h = absurd cc
+as_many n (t ∷ types) [] h = absurd cc
+as_many n (t ∷ types) (k ∷ kinds) h = ap suc (as_many (n - 1) types kinds (parts _ (types_match (n - 1) types kinds) h).1)
+
+-- Trees, by their filters, below a path and without one.
+
+pub no_root : (path : Option (List Bytes)) (layer : Layer) (name : Bytes) (types : List TypeTag) (params : ℕ) (m : ModuleTree) → m.own.indexed ≡ true → any_dynamic types ≡ true → length types ≡ params → may_have name params m ≡ false
+    → pick_at (Native path name types) (rooted layer m) ≡ None
+unfolding pick_at
+no_root path layer name types params m is dynamic l h =
+    let none : may_have name (length types) m ≡ false = ap (λ (n : ℕ). may_have name n m) l ∙ h in
+    ap (option_map (λ (d : Declaration). record { layer = layer; func = d.func; source = m.own.id })) (absent_qualified m (Native path name types) (untyped m.own.seeds name (length types)) is none dynamic refl)
+
+no_tree : (layer : ℕ → Layer) (name : Bytes) (types : List TypeTag) (params k : ℕ) (es : Imports) → all_indexed es ≡ true → any_dynamic types ≡ true → length types ≡ params → any_may_have name params es ≡ false
+    → first_of (λ y. pick_at (Native None name types) (place_of_tree layer y)) (enumerate_from k es) ≡ None
+no_tree layer name types params k [] is dynamic l h = refl
+no_tree layer name types params k (e ∷ es) is dynamic l h =
+    let r = any_parts (may_have name params e.1) (any_may_have name params es) h in
+    let i = parts e.1.own.indexed (all_indexed es) is in
+    or_nones (pick_at (Native None name types) (place_of_tree layer (k, e))) (first_of (λ y. pick_at (Native None name types) (place_of_tree layer y)) (enumerate_from (k + 1) es))
+    (no_root None (layer k) name types params e.1 i.0 dynamic l r.0) (no_tree layer name types params (k + 1) es i.1 dynamic l r.1)
+
+-- where no module may have a native, none of these types is found
+pub not_found : (libs globals : List ModuleTree) (imports statics : Imports) (n : ℕ) (name : Bytes) (kinds types : List TypeTag) → all_indexed imports ≡ true → all_indexed statics ≡ true → types_match n types kinds ≡ true → any_dynamic types ≡ true
+    → list_any (λ m. may_match m n name kinds) globals ≡ false → list_any (λ m. may_match m n name kinds) libs ≡ false → any_may_have name (length kinds) imports ≡ false → any_may_have name (length kinds) statics ≡ false
+    → native_in libs globals imports statics name types ≡ None
+not_found libs globals imports statics n name kinds types ii si matches dynamic g l i s =
     let key = Native None name types in
-    of_append (pick_at key) (library_places libs) (global_places globals)
-    ∙ or_nones (first_of (pick_at key) (library_places libs)) (first_of (pick_at key) (global_places globals))
+    let many = as_many n types kinds matches in
+    of_append (pick_at key) (library_places libs) (global_places globals ++ (import_trees imports ++ static_trees statics))
+    ∙ or_nones (first_of (pick_at key) (library_places libs)) (first_of (pick_at key) (global_places globals ++ (import_trees imports ++ static_trees statics)))
     (of_map (pick_at key) (place_of Library) (reverse (enumerate_from 0 libs)) ∙ none_reverse (λ y. pick_at key (place_of Library y)) (enumerate_from 0 libs) (no_place Library n name kinds types 0 libs matches l))
+    (of_append (pick_at key) (global_places globals) (import_trees imports ++ static_trees statics)
+    ∙ or_nones (first_of (pick_at key) (global_places globals)) (first_of (pick_at key) (import_trees imports ++ static_trees statics))
     (of_map (pick_at key) (place_of Global) (enumerate_from 0 globals) ∙ no_place Global n name kinds types 0 globals matches g)
+    (of_append (pick_at key) (import_trees imports) (static_trees statics)
+    ∙ or_nones (first_of (pick_at key) (import_trees imports)) (first_of (pick_at key) (static_trees statics))
+    (of_map (pick_at key) (place_of_tree Import) (reverse (enumerate_from 0 imports)) ∙ none_reverse (λ y. pick_at key (place_of_tree Import y)) (enumerate_from 0 imports) (no_tree Import name types (length kinds) 0 imports ii dynamic many i))
+    (of_map (pick_at key) (place_of_tree Static) (enumerate_from 0 statics) ∙ no_tree Static name types (length kinds) 0 statics si dynamic many s)))
 
 -- the natives that an engine's lists say
-pub native_is : (e : EngineLists) (libs : List ModuleTree) (imports : Imports) (name : Bytes) (types : List TypeTag) → native_found e libs imports name types ≡ native_in libs e.globals name types
+pub native_is : (e : EngineLists) (libs : List ModuleTree) (imports : Imports) (name : Bytes) (types : List TypeTag) → native_found e libs imports name types ≡ native_in libs e.globals imports e.statics name types
 unfolding found
 native_is e libs imports name types = refl
 
 pub native_by : (e : EngineLists) (libs : List ModuleTree) (imports : Imports) (key : Key) (name same : Bytes) (types kinds : List TypeTag) (o : Option Pick) → key ≡ Native None name types → name ≡ same → types ≡ kinds
-    → o ≡ found e libs imports key → o ≡ native_in libs e.globals same kinds
+    → o ≡ found e libs imports key → o ≡ native_in libs e.globals imports e.statics same kinds
 native_by e libs imports key name same types kinds o k n t is = is ∙ ap (found e libs imports) (k ∙ (λ i. Native None (n i) (t i))) ∙ native_is e libs imports same kinds
 
-pub natives_are : (e : EngineLists) (libs : List ModuleTree) (imports : Imports) (name : Bytes) (ps : List (List TypeTag)) → first_of (native_in libs e.globals name) ps ≡ first_of (native_found e libs imports name) ps
+pub natives_are : (e : EngineLists) (libs : List ModuleTree) (imports : Imports) (name : Bytes) (ps : List (List TypeTag)) → first_of (native_in libs e.globals imports e.statics name) ps ≡ first_of (native_found e libs imports name) ps
 natives_are e libs imports name ps = (λ i. first_of (λ types. sym (native_is e libs imports name types) i) ps)

@@ -3,6 +3,7 @@ use Rattle.std.proofs.Common.{◌≡◌, ◌≤◌, ◌<◌, ℕ, ◌+◌, ◌-�
 use Rattle.std.specs.Prelude.{zero, suc, Option, Some, None, is_some}
 use Rattle.std.specs.Option.{option_or}
 use Rattle.std.proofs.lemmas.List.{take-append-drop, length-drop, take_more, take_more_set, drop-set-lt}
+use Rattle.std.proofs.lemmas.Bool.Decides.{Decides-eqb}
 use Rattle.std.proofs.Math.Seq.{drop-cons}
 use Rattle.rhd_value.specs.Firsts.{first_of}
 use Rattle.rhd_value.specs.Same.{tag_eq, tag_eq-Decides}
@@ -10,8 +11,9 @@ use Rattle.rhd_value.specs.declared.tag.TypeTag.{TypeTag}
 use Rattle.rhd_value.specs.declared.tag.TypeTag.TheVariants.{Dynamic}
 use Rattle.rhd_hash.specs.Matching.{types_match}
 use Rattle.rhd_call.specs.declared.pick.Pick.{Pick}
+use Rattle.rhd_engine.proofs.HeldLaws.{parts}
 use Rattle.rhd_dispatch.specs.Patterns.{patterns_to}
-use Rattle.rhd_dispatch.specs.Walks.{first_match}
+use Rattle.rhd_dispatch.specs.Walks.{first_match, any_dynamic}
 use Rattle.rhd_dispatch.proofs.Firsts.{or_none, or_nones, or_found, of_append, of_map}
 
 -- One place more.
@@ -156,3 +158,86 @@ walk_missed_last look kinds place h missed = walk_last look kinds place None h (
 
 pub walk_missed_over : (look : List TypeTag → Option Pick) (kinds : List TypeTag) (place : ℕ) → length kinds ≤ place → look kinds ≡ None → ◌≡◌ {A = Option Pick} None (first_match look (take place kinds) (16 - place) (drop place kinds))
 walk_missed_over look kinds place h missed = walk_over look kinds place None h (sym missed)
+
+-- Types of which one is `Dynamic`.
+
+not_zero : (n : ℕ) → (suc n == 0) ≡ false
+not_zero n = by (suc n == 0) refl
+  where
+    by : (b : Bool) → (suc n == 0) ≡ b → (suc n == 0) ≡ false
+    by true e = let z : suc n ≡ 0 = (Decides-eqb (suc n) 0).0 e in absurd (omega (arith, z))
+    by false e = e
+
+tag_is : (t k : TypeTag) → (tag_eq t k || (false && tag_eq t Dynamic)) ≡ true → t ≡ k
+tag_is t k h = by (tag_eq t k) refl h
+  where
+    by : (b : Bool) → tag_eq t k ≡ b → (b || (false && tag_eq t Dynamic)) ≡ true → t ≡ k
+    by true e h = (tag_eq-Decides t k).0 e
+    by false e h = absurd cc
+
+or_kept : (a b c d : Bool) → (a || b) ≡ true → (a ≡ true → c ≡ true) → (b ≡ true → d ≡ true) → (c || d) ≡ true
+or_kept true b c d h f g = ap (λ (x : Bool). x || d) (f refl)
+or_kept false b c d h f g = ap (λ (x : Bool). c || x) (g h) ∙ or_true c
+
+-- the exact types before a place have one, and so have types that match
+pub dynamic_kept : (n : ℕ) (types kinds : List TypeTag) → types_match n types kinds ≡ true → any_dynamic (take n kinds) ≡ true → any_dynamic types ≡ true
+dynamic_kept zero types kinds h any = absurd cc
+dynamic_kept (suc n) [] [] h any = absurd cc
+dynamic_kept (suc n) [] (k ∷ kinds) h any = absurd cc
+dynamic_kept (suc n) (t ∷ types) [] h any = absurd cc
+dynamic_kept (suc n) (t ∷ types) (k ∷ kinds) h any =
+    let p = parts (tag_eq t k || ((suc n == 0) && tag_eq t Dynamic)) (types_match (suc n - 1) types kinds) h in
+    let e : suc n - 1 ≡ n = omega arith in
+    let same : t ≡ k = tag_is t k (ap (λ (b : Bool). tag_eq t k || (b && tag_eq t Dynamic)) (sym (not_zero n)) ∙ p.0) in
+    let others : types_match n types kinds ≡ true = ap (λ (m : ℕ). types_match m types kinds) (sym e) ∙ p.1 in
+    or_kept (tag_eq k Dynamic) (any_dynamic (take n kinds)) (tag_eq t Dynamic) (any_dynamic types) any (λ e. ap (λ (x : TypeTag). tag_eq x Dynamic) same ∙ e) (λ e. dynamic_kept n types kinds others e)
+
+or_none_of : (a b : Bool) → (a || b) ≡ false → (a ≡ false) × (b ≡ false)
+or_none_of true b h = absurd cc
+or_none_of false b h = (refl, h)
+
+exact_or_dynamic : (anywhere : Bool) (t k : TypeTag) → (tag_eq t k || (anywhere && tag_eq t Dynamic)) ≡ true → tag_eq t Dynamic ≡ false → t ≡ k
+exact_or_dynamic anywhere t k h none = by (tag_eq t k) anywhere refl h
+  where
+    by : (b z : Bool) → tag_eq t k ≡ b → (b || (z && tag_eq t Dynamic)) ≡ true → t ≡ k
+    by true z e h = (tag_eq-Decides t k).0 e
+    by false true e h = let q : true ≡ false = sym h ∙ none in absurd cc
+    by false false e h = absurd cc
+
+-- types that match are the kinds themselves where none is `Dynamic`
+exact_types : (n : ℕ) (types kinds : List TypeTag) → types_match n types kinds ≡ true → any_dynamic types ≡ false → types ≡ kinds
+exact_types n [] [] h none = refl
+exact_types n [] (k ∷ kinds) h none = absurd cc
+exact_types n (t ∷ types) [] h none = absurd cc
+exact_types n (t ∷ types) (k ∷ kinds) h none =
+    let p = parts (tag_eq t k || ((n == 0) && tag_eq t Dynamic)) (types_match (n - 1) types kinds) h in
+    let q = or_none_of (tag_eq t Dynamic) (any_dynamic types) none in
+    (λ i. exact_or_dynamic (n == 0) t k p.0 q.0 i ∷ exact_types (n - 1) types kinds p.1 q.1 i)
+
+-- nothing has exactly these types, and a test says that nothing has others that match
+pub missed_prunes : (look : List TypeTag → Option Pick) (kinds : List TypeTag) (place : ℕ) → look kinds ≡ None → ((types : List TypeTag) → types_match place types kinds ≡ true → any_dynamic types ≡ true → look types ≡ None)
+    → (types : List TypeTag) → types_match place types kinds ≡ true → look types ≡ None
+missed_prunes look kinds place missed h types matches = by (any_dynamic types) refl
+  where
+    by : (b : Bool) → any_dynamic types ≡ b → look types ≡ None
+    by true e = h types matches e
+    by false e = ap look (exact_types place types kinds matches e) ∙ missed
+
+-- one place more
+pub dynamic_more : (kinds : List TypeTag) (place : ℕ) → any_dynamic (take place kinds) ≡ true → any_dynamic (take (place + 1) kinds) ≡ true
+dynamic_more [] zero h = absurd cc
+dynamic_more [] (suc place) h = absurd cc
+dynamic_more (k ∷ kinds) zero h = absurd cc
+dynamic_more (k ∷ kinds) (suc place) h =
+    let s : suc place + 1 ≡ suc (place + 1) = omega arith in
+    ap (λ (m : ℕ). any_dynamic (take m (k ∷ kinds))) s ∙ or_kept (tag_eq k Dynamic) (any_dynamic (take place kinds)) (tag_eq k Dynamic) (any_dynamic (take (place + 1) kinds)) h (λ e. e) (λ e. dynamic_more kinds place e)
+
+pub dynamic_set : (kinds same : List TypeTag) (place : ℕ) → place < length kinds → same ≡ kinds → any_dynamic (take (place + 1) (set same place Dynamic)) ≡ true
+dynamic_set kinds same place h is = ap (λ (ks : List TypeTag). any_dynamic (take (place + 1) (set ks place Dynamic))) is ∙ by kinds place h
+  where
+    by : (ks : List TypeTag) (n : ℕ) → n < length ks → any_dynamic (take (n + 1) (set ks n Dynamic)) ≡ true
+    by [] n h = absurd (omega arith)
+    by (k ∷ ks) zero h = refl
+    by (k ∷ ks) (suc n) h =
+        let s : suc n + 1 ≡ suc (n + 1) = omega arith in
+        ap (λ (m : ℕ). any_dynamic (take m (k ∷ set ks n Dynamic))) s ∙ ap (λ (b : Bool). tag_eq k Dynamic || b) (by ks n (omega arith)) ∙ or_true (tag_eq k Dynamic)

@@ -8,8 +8,9 @@ use Rattle.rhd_hash.specs.declared.key.Key.{Key}
 use Rattle.rhd_hash.specs.Keys.{key_eq}
 use Rattle.rhd_module.specs.Shown.{shown}
 use Rattle.rhd_module.specs.Tree.{ModuleTree, Pairs}
+use Rattle.rhd_module.specs.Walk.{tree}
 use Rattle.rhd_call.specs.declared.pick.Layer.{Layer}
-use Rattle.rhd_call.specs.declared.pick.Layer.TheVariants.{Library, Global}
+use Rattle.rhd_call.specs.declared.pick.Layer.TheVariants.{Library, Global, Import, Static}
 use Rattle.rhd_call.specs.declared.pick.Pick.{Pick}
 use Rattle.rhd_engine.specs.Engine.{EngineLists, Imports}
 
@@ -19,9 +20,13 @@ pub record Place : Type 0 where
   pub source : Option Bytes
   pub pairs : Pairs
 
--- a module by its number; its id is the source of its functions
+-- a library or a global module by its number has its own declarations; its id is the source of its functions
 abbrev pub own_place : EngineLists → (ℕ → Layer) → ℕ × ModuleTree → Place
 own_place e layer (n, m) = record { layer = layer n; source = m.own.id; pairs = shown m.own }
+
+-- an import or a static module by its number has those of its whole tree; the id of its root is the source of them all
+abbrev pub tree_place : EngineLists → (ℕ → Layer) → ℕ × (Bytes × ModuleTree) → Place
+tree_place e layer (n, named) = record { layer = layer n; source = named.1.own.id; pairs = tree named.1 }
 
 abbrev pub libraries : EngineLists → List ModuleTree → List Place
 libraries e libs = map (own_place e Library) (reverse (enumerate_from 0 libs))
@@ -29,9 +34,15 @@ libraries e libs = map (own_place e Library) (reverse (enumerate_from 0 libs))
 abbrev pub global_modules : EngineLists → List Place
 global_modules e = map (own_place e Global) (enumerate_from 0 e.globals)
 
--- libraries, latest first; then global modules in order; in imports nothing is searched yet
+abbrev pub import_places : EngineLists → Imports → List Place
+import_places e imports = map (tree_place e Import) (reverse (enumerate_from 0 imports))
+
+abbrev pub static_modules : EngineLists → List Place
+static_modules e = map (tree_place e Static) (enumerate_from 0 e.statics)
+
+-- libraries, latest first; global modules in order; imports, latest first; static modules in ascending order of name
 abbrev pub searched : EngineLists → List ModuleTree → Imports → List Place
-searched e libs imports = libraries e libs ++ global_modules e
+searched e libs imports = libraries e libs ++ (global_modules e ++ (import_places e imports ++ static_modules e))
 
 -- what a place has for a key: the first of its declarations under it
 unfoldable pub pick_at : Key → Place → Option Pick

@@ -1,33 +1,97 @@
 -- The machine's own words, by which its loops are proved; nothing here has to be believed.
-use Rattle.std.specs.Prelude.{ℕ, List, [], ◌++◌, map, reverse, Option, None}
-use Rattle.std.specs.List.{enumerate_from}
+use Rattle.std.specs.Prelude.{ℕ, Bool, true, not, ◌==◌, ◌&&◌, ◌||◌, List, [], ◌++◌, map, reverse, Option, None, Some, if◌then◌else◌}
+use Rattle.std.specs.List.{enumerate_from, list_any}
 use Rattle.rhd_value.specs.Tree.{Bytes}
 use Rattle.rhd_value.specs.Firsts.{first_of}
+use Rattle.rhd_value.specs.Same.{tag_eq, text_eq}
 use Rattle.rhd_value.specs.declared.tag.TypeTag.{TypeTag}
+use Rattle.rhd_value.specs.declared.tag.TypeTag.TheVariants.{Dynamic}
+use Rattle.rhd_hash.specs.declared.mixer.Seeds.{Seeds}
 use Rattle.rhd_hash.specs.declared.key.Key.{Key}
 use Rattle.rhd_hash.specs.declared.key.Key.TheVariants.{Script, Typed, Native}
+use Rattle.rhd_hash.specs.Parts.{untyped}
+use Rattle.rhd_func.specs.declared.func.RhaiFunc.{RhaiFunc}
+use Rattle.rhd_module.specs.Below.{may_contain}
 use Rattle.rhd_module.specs.Shown.{shown}
-use Rattle.rhd_module.specs.Tree.{ModuleTree}
+use Rattle.rhd_module.specs.Tree.{ModuleTree, Subs, no_subs, sub}
+use Rattle.rhd_module.specs.Walk.{tree}
 use Rattle.rhd_call.specs.declared.pick.Layer.{Layer}
-use Rattle.rhd_call.specs.declared.pick.Layer.TheVariants.{Library, Global}
+use Rattle.rhd_call.specs.declared.pick.Layer.TheVariants.{Library, Global, Import, Static}
 use Rattle.rhd_call.specs.declared.pick.Pick.{Pick}
+use Rattle.rhd_engine.specs.Engine.{Imports}
 use Rattle.rhd_dispatch.specs.Patterns.{patterns_to}
 use Rattle.rhd_dispatch.specs.Searched.{Place, pick_at}
 
+-- each with its number, and so with the latest first
+abbrev pub numbered : {X : Type 0} → List X → List (ℕ × X)
+numbered xs = enumerate_from 0 xs
+
+abbrev pub latest : {X : Type 0} → List X → List (ℕ × X)
+latest xs = reverse (enumerate_from 0 xs)
+
+-- a module alone at a layer, and the root of a tree at one
+abbrev pub alone : Layer → ModuleTree → Place
+alone layer m = record { layer = layer; source = m.own.id; pairs = shown m.own }
+
+abbrev pub rooted : Layer → ModuleTree → Place
+rooted layer m = record { layer = layer; source = m.own.id; pairs = tree m }
+
 -- a module by its number
 abbrev pub place_of : (ℕ → Layer) → ℕ × ModuleTree → Place
-place_of layer (n, m) = record { layer = layer n; source = m.own.id; pairs = shown m.own }
+place_of layer (n, m) = alone (layer n) m
 
--- libraries, latest first, and global modules in order
+abbrev pub place_of_tree : (ℕ → Layer) → ℕ × (Bytes × ModuleTree) → Place
+place_of_tree layer (n, named) = rooted (layer n) named.1
+
+-- what it has for a key
+abbrev pub in_own : (ℕ → Layer) → Key → ℕ × ModuleTree → Option Pick
+in_own layer key y = pick_at key (place_of layer y)
+
+abbrev pub in_tree : (ℕ → Layer) → Key → ℕ × (Bytes × ModuleTree) → Option Pick
+in_tree layer key y = pick_at key (place_of_tree layer y)
+
+-- libraries, latest first, global modules in order, imports, latest first, static modules in order
 abbrev pub library_places : List ModuleTree → List Place
-library_places libs = map (place_of Library) (reverse (enumerate_from 0 libs))
+library_places libs = map (place_of Library) (latest libs)
 
 abbrev pub global_places : List ModuleTree → List Place
-global_places globals = map (place_of Global) (enumerate_from 0 globals)
+global_places globals = map (place_of Global) (numbered globals)
 
--- the native of a name that takes these types, in libraries and then in global modules
-abbrev pub native_in : List ModuleTree → List ModuleTree → Bytes → List TypeTag → Option Pick
-native_in libs globals name types = first_of (pick_at (Native None name types)) (library_places libs ++ global_places globals)
+abbrev pub import_trees : Imports → List Place
+import_trees imports = map (place_of_tree Import) (latest imports)
+
+abbrev pub static_trees : Imports → List Place
+static_trees statics = map (place_of_tree Static) (numbered statics)
+
+abbrev pub all_places : List ModuleTree → List ModuleTree → Imports → Imports → List Place
+all_places libs globals imports statics = library_places libs ++ (global_places globals ++ (import_trees imports ++ static_trees statics))
+
+-- the pick of a function that was found in a module
+abbrev pub picked : Layer → RhaiFunc → ModuleTree → Pick
+picked layer func m = record { layer = layer; func = func; source = m.own.id }
+
+-- the native of a name that takes these types
+abbrev pub native_in : List ModuleTree → List ModuleTree → Imports → Imports → Bytes → List TypeTag → Option Pick
+native_in libs globals imports statics name types = first_of (pick_at (Native None name types)) (all_places libs globals imports statics)
+
+-- the same below a path in one place
+abbrev pub native_at : Place → List Bytes → Bytes → List TypeTag → Option Pick
+native_at place path name types = pick_at (Native (Some path) name types) place
+
+-- some type is `Dynamic`
+abbrev pub any_dynamic : List TypeTag → Bool
+any_dynamic types = list_any (λ t. tag_eq t Dynamic) types
+
+-- a tree may have a native of this name with so many parameters, one of which is `Dynamic`, by its filter
+abbrev pub may_have : Bytes → ℕ → ModuleTree → Bool
+may_have name params m = may_contain m (untyped m.own.seeds name params)
+
+abbrev pub any_may_have : Bytes → ℕ → Imports → Bool
+any_may_have name params es = list_any (λ e. may_have name params e.1) es
+
+-- the root of a path's first name
+abbrev pub named_at : (ℕ → Layer) → Bytes → ℕ × (Bytes × ModuleTree) → Option Place
+named_at layer name y = if text_eq name y.1.0 then Some (place_of_tree layer y) else None
 
 -- what the first pattern gives that gives something, where some types are chosen and n of the others may change
 abbrev pub first_match : (List TypeTag → Option Pick) → List TypeTag → ℕ → List TypeTag → Option Pick

@@ -3,7 +3,7 @@
 ghost use Rattle.std.specs.Prelude.{◌≡◌, ◌≤◌, ◌+◌, ◌*◌, [], ◌∷◌, true, IfOk, IfSome, None, length};
 ghost use Rattle.rhd_value.specs.Firsts.{first_of};
 ghost use Rattle.rhd_hash.specs.declared.key.Key.TheVariants.{Script};
-ghost use Rattle.rhd_engine.specs.Held.{func_held, all_held};
+ghost use Rattle.rhd_engine.specs.Held.{func_held, all_held, named_held};
 ghost use Rattle.rhd_engine.specs.Of.{lists_of};
 ghost use Rattle.rhd_dispatch.specs.Asks.{looked, native, native_ask, typed_asks, allowed_asks, params_of, native_found, asks, pick_unqualified};
 ghost use Rattle.rhd_dispatch.specs.Looks.{most_looks};
@@ -14,7 +14,7 @@ use crate::keys::{key_parts, kinds_of, native_key_of, script_key_of};
 use crate::look::NativesOf;
 use crate::operators::find_builtin;
 use crate::patterns::find_others;
-use crate::search::find;
+use crate::search::{find, pick_found};
 use rhd_call::Pick;
 use rhd_engine::{Engine, GlobalRuntimeState};
 use rhd_func::CallShape;
@@ -46,7 +46,7 @@ fn find_method(
                 params: args.len() as u64,
                 this_type: engine.display_type(alloc, object)?,
             };
-            find(alloc, engine, state, &key, steps)
+            pick_found(alloc, find(engine, state, &key, steps))
         }
     }
 }
@@ -66,7 +66,7 @@ fn find_untyped(
 {
     let own = mem::replace(name, Text::new(alloc));
     let key = script_key_of(own, shape);
-    let pick = find(alloc, engine, state, &key, steps)?;
+    let pick = pick_found(alloc, find(engine, state, &key, steps))?;
     let (own, _types) = key_parts(alloc, key);
     *name = own;
     Ok(pick)
@@ -137,7 +137,7 @@ fn find_native(
 {
     let types = kinds_of(alloc, shape)?;
     let key = native_key_of(name, types);
-    match find(alloc, engine, state, &key, steps)? {
+    match pick_found(alloc, find(engine, state, &key, steps))? {
         Some(pick) => Ok(Some(pick)),
         None => {
             let (name, types) = key_parts(alloc, key);
@@ -159,7 +159,8 @@ pub fn resolve(
     shape: &CallShape,
     steps: &mut Steps,
 ) -> Result<Option<Pick>, OutOfMemory>
-    requires { all_held (length engine.now.natives.items.items) state.now.lib ≡ true }
+    requires libs { all_held (length engine.now.natives.items.items) state.now.lib ≡ true }
+    requires imports { named_held (length engine.now.natives.items.items) state.now.imports ≡ true }
     ensures pick { IfOk result (λ pick. pick ≡ pick_unqualified (lists_of info engine.now) state.now.lib state.now.imports name.now token native_only shape.now) }
     ensures held { IfOk result (λ pick. IfSome pick (λ p. func_held (length engine.now.natives.items.items) p.func ≡ true)) }
     ensures steps { steps.new ≤ steps.old + most_looks (lists_of info engine.now) state.now.lib state.now.imports (asks (lists_of info engine.now) name.now token native_only shape.now) }

@@ -4,12 +4,13 @@ ghost use Rattle.std.specs.Prelude.{◌≡◌, ◌≤◌, ◌+◌, ℕ, false, t
 ghost use Rattle.std.specs.List.{list_any};
 ghost use Rattle.rhd_value.specs.declared.tag.TypeTag.{TypeTag};
 ghost use Rattle.rhd_hash.specs.Matching.{types_match};
-ghost use Rattle.rhd_module.specs.Matching.{may_match as may_have};
+ghost use Rattle.rhd_module.specs.Matching.{may_match as may_own};
 ghost use Rattle.rhd_call.specs.declared.pick.Pick.{Pick};
-ghost use Rattle.rhd_dispatch.specs.Walks.{native_in};
+ghost use Rattle.rhd_dispatch.specs.Walks.{native_in, any_dynamic};
 
+use crate::filters::{any_import_may_have, any_static_may_have};
 use crate::keys::native_key_of;
-use crate::search::find;
+use crate::search::{find, pick_found};
 use rhd_call::Pick;
 use rhd_engine::{Engine, GlobalRuntimeState};
 use rhd_hash::Steps;
@@ -35,13 +36,13 @@ pub(crate) trait Look {
         ensures found { IfOk result (λ pick. pick ≡ look self.now types.now) }
         ensures steps { steps.new ≤ steps.old + modules self.now };
 
-    /// False only where there is nothing for any types each of which is its kind, or, behind the first
-    /// `place` ones, `Dynamic`.
+    /// False only where there is nothing for any types of which one is `Dynamic`, and each of which is
+    /// its kind, or, behind the first `place` ones, `Dynamic`.
     fn may_match(&self, place: usize, kinds: &[TypeTag]) -> bool
-        ensures { result ≡ false → (types : List TypeTag) → types_match place types kinds.now ≡ true → look self.now types ≡ None };
+        ensures { result ≡ false → (types : List TypeTag) → types_match place types kinds.now ≡ true → any_dynamic types ≡ true → look self.now types ≡ None };
 }
 
-/// The look-up of natives of one name in libraries and global modules.
+/// The look-up of natives of one name in all modules in which a call looks.
 #[derive(Clone, Copy)]
 pub(crate) struct NativesOf<'a> {
     pub engine: &'a Engine,
@@ -52,7 +53,7 @@ pub(crate) struct NativesOf<'a> {
 /// Whether some module may have a native of this name for these kinds, where the types before a place
 /// are exact.
 fn any_may_match(modules: &[SharedModule], place: usize, name: &Text, kinds: &[TypeTag]) -> bool
-    ensures { result ≡ list_any (λ m. may_have m place name.now kinds.now) modules.now }
+    ensures { result ≡ list_any (λ m. may_own m place name.now kinds.now) modules.now }
 {
     for shared in modules {
         if shared.module().may_match(place, name, kinds) {
@@ -63,9 +64,9 @@ fn any_may_match(modules: &[SharedModule], place: usize, name: &Text, kinds: &[T
 }
 
 impl Look for NativesOf<'_> {
-    ghost look = { λ s types. native_in s.state.now.lib s.engine.now.globals s.name.now types };
+    ghost look = { λ s types. native_in s.state.now.lib s.engine.now.globals s.state.now.imports s.engine.now.statics s.name.now types };
 
-    ghost modules = { λ s. length s.state.now.lib + length s.engine.now.globals };
+    ghost modules = { λ s. length s.state.now.lib + length s.engine.now.globals + length s.state.now.imports + length s.engine.now.statics };
 
     fn find(
         &self,
@@ -74,11 +75,20 @@ impl Look for NativesOf<'_> {
         steps: &mut Steps,
     ) -> Result<Option<Pick>, OutOfMemory> {
         let key = native_key_of(self.name.dup(alloc)?, Types::from_slice(alloc, types)?);
-        find(alloc, self.engine, self.state, &key, steps)
+        pick_found(alloc, find(self.engine, self.state, &key, steps))
     }
 
     fn may_match(&self, place: usize, kinds: &[TypeTag]) -> bool {
-        any_may_match(self.engine.global_modules(), place, self.name, kinds)
-            || any_may_match(self.state.lib.as_slice(), place, self.name, kinds)
+        let params = kinds.len() as u64;
+        if any_may_match(self.engine.global_modules(), place, self.name, kinds) {
+            return true;
+        }
+        if any_may_match(self.state.lib.as_slice(), place, self.name, kinds) {
+            return true;
+        }
+        if any_import_may_have(self.state.imports.as_slice(), self.name, params) {
+            return true;
+        }
+        any_static_may_have(self.engine.static_modules(), self.name, params)
     }
 }

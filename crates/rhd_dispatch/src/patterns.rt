@@ -1,8 +1,8 @@
 //! The search for a native by the patterns of its types, over any look-up.
 
-ghost use Rattle.std.specs.Prelude.{◌≡◌, ◌≤◌, ◌+◌, ◌*◌, ◌-◌, IfOk, None, length, take, drop};
+ghost use Rattle.std.specs.Prelude.{◌≡◌, ◌≤◌, ◌+◌, ◌*◌, ◌-◌, true, IfOk, None, length, take, drop};
 ghost use Rattle.rhd_dispatch.specs.Patterns.{patterns_to};
-ghost use Rattle.rhd_dispatch.specs.Walks.{first_match};
+ghost use Rattle.rhd_dispatch.specs.Walks.{first_match, any_dynamic};
 
 use crate::look::Look;
 use rhd_call::Pick;
@@ -13,8 +13,8 @@ use std::alloc::Global;
 /// How many types a pattern may change.
 const MOST_CHANGED: usize = 16;
 
-/// What the first pattern has that has anything, where the types before a place stay. Where nothing
-/// may match, no pattern is looked up.
+/// What the first pattern has that has anything, where the types before a place stay, and one of them is
+/// `Dynamic`. Where nothing may match, no pattern is looked up.
 fn find_from<L: Look>(
     alloc: Global,
     look: &L,
@@ -22,7 +22,8 @@ fn find_from<L: Look>(
     place: usize,
     steps: &mut Steps,
 ) -> Result<Option<Pick>, OutOfMemory>
-    requires { place ≤ length kinds.old.items }
+    requires within { place ≤ length kinds.old.items }
+    requires dynamic { any_dynamic (take place kinds.old.items) ≡ true }
     ensures found { IfOk result (λ pick. pick ≡ first_match (L.look look.now) (take place kinds.old.items) (16 - place) (drop place kinds.old.items)) }
     ensures kept { IfOk result (λ pick. kinds.new.items ≡ kinds.old.items) }
     ensures steps { steps.new ≤ steps.old + length (patterns_to (16 - place) (drop place kinds.old.items)) * L.modules look.now }

@@ -1,101 +1,173 @@
-//! The search for what a key finds, over the modules in which a call looks.
+//! The search for what a key finds, over the modules in which a call looks. It takes no memory.
 
-ghost use Rattle.std.specs.Prelude.{◌≡◌, ◌≤◌, ◌+◌, IfOk, None, length};
+ghost use Rattle.std.specs.Prelude.{◌≡◌, ◌≤◌, ◌+◌, true, IfOk, length};
+ghost use Rattle.std.specs.Option.{option_map};
 ghost use Rattle.rhd_value.specs.Firsts.{first_of};
-ghost use Rattle.rhd_module.specs.Shown.{shown};
+ghost use Rattle.rhd_call.specs.declared.pick.Layer.TheVariants as layers;
+ghost use Rattle.rhd_engine.specs.Lists.{all_indexed};
 ghost use Rattle.rhd_engine.specs.Of.{lists_of};
 ghost use Rattle.rhd_dispatch.specs.Searched.{pick_at, found, searched};
-ghost use Rattle.rhd_dispatch.specs.Walks.{library_places, global_places};
+ghost use Rattle.rhd_dispatch.specs.Walks.{numbered, latest, alone, rooted, in_own, in_tree, picked};
 
 use rhd_call::{Layer, Pick};
-use rhd_engine::{Engine, GlobalRuntimeState};
+use rhd_engine::{Engine, GlobalRuntimeState, ModuleMap};
+use rhd_func::RhaiFunc;
 use rhd_hash::{Key, Steps};
 use rhd_module::{Module, SharedModule};
-use rhd_value::OutOfMemory;
+use rhd_value::{OutOfMemory, Text};
 use std::alloc::Global;
 
-/// What a module at a place has for a key.
-#[tactic(auto, using(crate::proofs::Looks::raised_once))]
-fn pick_at(
-    alloc: Global,
-    place: &Module,
-    layer: Layer,
-    key: &Key,
-    steps: &mut Steps,
-) -> Result<Option<Pick>, OutOfMemory>
-    ensures found { IfOk result (λ found. found ≡ pick_at key.now (record { layer = layer; source = place.now.own.id; pairs = shown place.now.own })) }
-    ensures steps { steps.new ≤ steps.old + 1 }
+/// A function that was found, with the module in which it was, or the root of that one's tree.
+#[derive(Clone, Copy)]
+pub(crate) struct Found<'a> {
+    pub layer: Layer,
+    pub func: &'a RhaiFunc,
+    pub place: &'a Module,
+}
+
+impl<'a> Found<'a> {
+    /// A pick of the function. It shares the function and the id of the module.
+    pub(crate) fn to_pick(self, alloc: Global) -> Result<Pick, OutOfMemory>
+        ensures { IfOk result (λ pick. pick ≡ picked self.entry.layer self.entry.func.now self.entry.place.now) }
+    {
+        Ok(Pick {
+            layer: self.layer,
+            func: self.func.dup(alloc)?,
+            source: self.place.share_id(alloc)?,
+        })
+    }
+}
+
+/// A pick of what was found, if anything was.
+pub(crate) fn pick_found(alloc: Global, found: Option<Found>) -> Result<Option<Pick>, OutOfMemory>
+    ensures { IfOk result (λ pick. pick ≡ option_map (λ f. picked f.layer f.func.now f.place.now) found.entry) }
 {
-    match place.get_fn(key, steps) {
-        Some(func) => {
-            let func = func.dup(alloc)?;
-            let source = place.share_id(alloc)?;
-            Ok(Some(Pick {
-                layer,
-                func,
-                source,
-            }))
-        }
+    match found {
+        Some(found) => Ok(Some(found.to_pick(alloc)?)),
         None => Ok(None),
     }
 }
 
-/// What the latest library has that has the key.
-fn find_library(
-    alloc: Global,
-    libs: &[SharedModule],
+/// What a module itself declares under a key.
+#[tactic(auto, using(crate::proofs::Looks::raised_once))]
+fn look_own<'a>(place: &'a Module, layer: Layer, key: &Key, steps: &mut Steps) -> Option<Found<'a>>
+    ensures found { option_map (λ f. picked f.layer f.func.now f.place.now) result ≡ pick_at key.now (alone layer place.now) }
+    ensures steps { steps.new ≤ steps.old + 1 }
+{
+    match place.get_fn(key, steps) {
+        Some(func) => Some(Found { layer, func, place }),
+        None => None,
+    }
+}
+
+/// What the tree of a module has under a key.
+#[tactic(auto, using(crate::proofs::Looks::raised_once))]
+pub(crate) fn look_tree<'a>(
+    place: &'a Module,
+    layer: Layer,
     key: &Key,
     steps: &mut Steps,
-) -> Result<Option<Pick>, OutOfMemory>
-    ensures found { IfOk result (λ found. found ≡ first_of (pick_at key.now) (library_places libs.now)) }
+) -> Option<Found<'a>>
+    requires { place.now.own.indexed ≡ true }
+    ensures found { option_map (λ f. picked f.layer f.func.now f.place.now) result ≡ pick_at key.now (rooted layer place.now) }
+    ensures steps { steps.new ≤ steps.old + 1 }
+{
+    match place.get_qualified_fn(key, steps) {
+        Some(func) => Some(Found { layer, func, place }),
+        None => None,
+    }
+}
+
+/// What the latest library has that has the key.
+fn find_library<'a>(libs: &'a [SharedModule], key: &Key, steps: &mut Steps) -> Option<Found<'a>>
+    ensures found { option_map (λ f. picked f.layer f.func.now f.place.now) result ≡ first_of (in_own layers.Library key.now) (latest libs.now) }
     ensures steps { steps.new ≤ steps.old + length libs.now }
 {
-    let mut number = libs.len();
-    while number > 0 {
-        number -= 1;
+    for number in (0..libs.len()).rev() {
         let library = libs[number].module();
-        match pick_at(alloc, library, Layer::Library(number as u64), key, steps)? {
-            Some(pick) => return Ok(Some(pick)),
-            None => {}
+        let found = look_own(library, Layer::Library(number as u64), key, steps);
+        if found.is_some() {
+            return found;
         }
     }
-    Ok(None)
+    None
 }
 
 /// What the first global module has that has the key.
-fn find_global(
-    alloc: Global,
-    globals: &[SharedModule],
-    key: &Key,
-    steps: &mut Steps,
-) -> Result<Option<Pick>, OutOfMemory>
-    ensures found { IfOk result (λ found. found ≡ first_of (pick_at key.now) (global_places globals.now)) }
+fn find_global<'a>(globals: &'a [SharedModule], key: &Key, steps: &mut Steps) -> Option<Found<'a>>
+    ensures found { option_map (λ f. picked f.layer f.func.now f.place.now) result ≡ first_of (in_own layers.Global key.now) (numbered globals.now) }
     ensures steps { steps.new ≤ steps.old + length globals.now }
 {
     for number in 0..globals.len() {
         let global = globals[number].module();
-        match pick_at(alloc, global, Layer::Global(number as u64), key, steps)? {
-            Some(pick) => return Ok(Some(pick)),
-            None => {}
+        let found = look_own(global, Layer::Global(number as u64), key, steps);
+        if found.is_some() {
+            return found;
         }
     }
-    Ok(None)
+    None
 }
 
-/// What is found under a key: of the libraries, latest first, and then of the global modules in order.
-/// Each is asked once at most.
-pub(crate) fn find(
-    alloc: Global,
-    engine: &Engine,
-    state: &GlobalRuntimeState,
+/// What the tree of the latest import has that has the key.
+fn find_import<'a>(
+    imports: &'a [(Text, SharedModule)],
     key: &Key,
     steps: &mut Steps,
-) -> Result<Option<Pick>, OutOfMemory>
-    ensures found { IfOk result (λ pick. pick ≡ found (lists_of info engine.now) state.now.lib state.now.imports key.now) }
+) -> Option<Found<'a>>
+    requires { all_indexed imports.now ≡ true }
+    ensures found { option_map (λ f. picked f.layer f.func.now f.place.now) result ≡ first_of (in_tree layers.Import key.now) (latest imports.now) }
+    ensures steps { steps.new ≤ steps.old + length imports.now }
+{
+    for number in (0..imports.len()).rev() {
+        let import = imports[number].1.module();
+        let found = look_tree(import, Layer::Import(number as u64), key, steps);
+        if found.is_some() {
+            return found;
+        }
+    }
+    None
+}
+
+/// What the tree of the first static module has that has the key.
+fn find_static<'a>(statics: &'a ModuleMap, key: &Key, steps: &mut Steps) -> Option<Found<'a>>
+    ensures found { option_map (λ f. picked f.layer f.func.now f.place.now) result ≡ first_of (in_tree layers.Static key.now) (numbered statics.now) }
+    ensures steps { steps.new ≤ steps.old + length statics.now }
+{
+    // Numbers are below the length.
+    let _count = statics.len();
+    let mut number = 0;
+    for (_name, shared) in statics.iter() {
+        let found = look_tree(shared.module(), Layer::Static(number), key, steps);
+        if found.is_some() {
+            return found;
+        }
+        number += 1;
+    }
+    None
+}
+
+/// What is found under a key: of the libraries, latest first, of the global modules in order, of the
+/// imports, latest first, and of the static modules in ascending order of name. Each is asked once at most.
+pub(crate) fn find<'a>(
+    engine: &'a Engine,
+    state: &'a GlobalRuntimeState,
+    key: &Key,
+    steps: &mut Steps,
+) -> Option<Found<'a>>
+    ensures found { option_map (λ f. picked f.layer f.func.now f.place.now) result ≡ found (lists_of info engine.now) state.now.lib state.now.imports key.now }
     ensures steps { steps.new ≤ steps.old + length (searched (lists_of info engine.now) state.now.lib state.now.imports) }
 {
-    match find_library(alloc, state.lib.as_slice(), key, steps)? {
-        Some(pick) => Ok(Some(pick)),
-        None => find_global(alloc, engine.global_modules(), key, steps),
+    let in_library = find_library(state.lib.as_slice(), key, steps);
+    if in_library.is_some() {
+        return in_library;
     }
+    let in_global = find_global(engine.global_modules(), key, steps);
+    if in_global.is_some() {
+        return in_global;
+    }
+    let in_import = find_import(state.imports.as_slice(), key, steps);
+    if in_import.is_some() {
+        return in_import;
+    }
+    find_static(engine.static_modules(), key, steps)
 }

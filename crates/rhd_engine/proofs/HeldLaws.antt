@@ -26,13 +26,13 @@ use Rattle.rhd_module.specs.declared.registration.FuncRegistration.{FuncRegistra
 use Rattle.rhd_module.specs.Contents.{with_type}
 use Rattle.rhd_module.specs.Tree.{ModuleTree, Pairs}
 use Rattle.rhd_module.specs.Registered.{put, with_decl, unheld, registered_func, pure_by_name, banned, registration_cause, raw_cause, native_at, script_key, script_decl, Puts, Registers, RegistersRaw}
-use Rattle.rhd_engine.specs.Held.{func_held, names_held, all_held}
+use Rattle.rhd_engine.specs.Held.{func_held, own_held, below_held, names_held, all_held}
 use Rattle.rhd_engine.specs.Registered.{in_first, InFirst, RegistersFirst, RegistersRawFirst}
 
-abbrev is_held : ℕ → Declaration → Bool
+abbrev pub is_held : ℕ → Declaration → Bool
 is_held n d = func_held n d.func
 
-abbrev pairs_held : ℕ → Pairs → Bool
+abbrev pub pairs_held : ℕ → Pairs → Bool
 pairs_held n ps = list_all (λ p. is_held n p.1) ps
 
 pub both : (a b : Bool) → a ≡ true → b ≡ true → (a && b) ≡ true
@@ -55,7 +55,9 @@ put_held n k d (p ∷ ps) h all = put_step n k d p ps (key_eq k p.0) h all (put_
 
 -- a held native is put in
 pub stays_held : (n : ℕ) (k : Key) (d : Declaration) (m : ModuleTree) → func_held n d.func ≡ true → names_held n m ≡ true → names_held n (with_decl k d m) ≡ true
-stays_held n k d m h all = put_held n k d m.own.eager h all
+stays_held n k d m h all =
+    let p = parts (own_held n m.own) (below_held n m.subs) all in
+    both (pairs_held n (put k d m.own.eager)) (below_held n m.subs) (put_held n k d m.own.eager h p.0) p.1
 
 -- what holds of a fault
 -- the number of a native, if there is one, is below another

@@ -1,4 +1,8 @@
 pub mod HeldLaws
+pub mod HeldTrees
+pub mod Indexed
+pub mod Pieces
+pub mod Placed
 pub mod Tables
 pub mod Registers
 pub mod NativeSays

@@ -1,11 +1,12 @@
 -- Whether the natives that modules name are held.
-use Rattle.std.specs.Prelude.{ℕ, Bool, true, false, nat_lt, List}
+use Rattle.std.specs.Prelude.{ℕ, Bool, true, false, nat_lt, ◌&&◌, List}
 use Rattle.std.specs.List.{list_all}
 use Rattle.rhd_value.specs.declared.tag.FnId.{FnId}
 use Rattle.rhd_func.specs.declared.func.RhaiFunc.{RhaiFunc}
 use Rattle.rhd_func.specs.declared.func.RhaiFunc.TheVariants.{Pure, Method, Iterator, Plugin, StaticPlugin, Script}
-use Rattle.rhd_module.specs.Tree.{ModuleTree}
+use Rattle.rhd_module.specs.Tree.{ModuleTree, Lists, Subs, no_subs, sub}
 use Rattle.rhd_engine.specs.declared.builtins.Operator.{Operator}
+use Rattle.rhd_engine.specs.Lists.{Imports}
 
 -- the function can be called: its native has a number below this one; a script has a body, and a function that iterates isn't called
 abbrev pub func_held : ℕ → RhaiFunc → Bool
@@ -16,13 +17,26 @@ func_held natives (Plugin id) = nat_lt id.0 natives
 func_held natives (StaticPlugin id) = nat_lt id.0 natives
 func_held natives (Script def env) = true
 
--- so can each that a declaration of the module names
+-- so can each that a declaration of these lists names
+abbrev pub own_held : ℕ → Lists → Bool
+own_held natives own = list_all (λ p. func_held natives p.1.func) own.eager
+
+-- those of sub-modules, and of all below them
+abbrev pub below_held : ℕ → Subs → Bool
+below_held natives no_subs = true
+below_held natives (sub name own below later) = own_held natives own && (below_held natives below && below_held natives later)
+
+-- those of a module and of all below it
 abbrev pub names_held : ℕ → ModuleTree → Bool
-names_held natives m = list_all (λ p. func_held natives p.1.func) m.own.eager
+names_held natives m = own_held natives m.own && below_held natives m.subs
 
 -- and those of each module
 abbrev pub all_held : ℕ → List ModuleTree → Bool
 all_held natives ms = list_all (names_held natives) ms
+
+-- and those of each module with a name
+abbrev pub named_held : ℕ → Imports → Bool
+named_held natives es = list_all (λ e. names_held natives e.1) es
 
 -- and those of the built-ins
 abbrev pub builtins_held : ℕ → List (Operator × FnId) → Bool

@@ -1,9 +1,10 @@
 pub mod Operators
+pub mod Lists
 pub mod Engine
 pub mod Start
 pub mod Held
+pub mod Statics
 pub mod Of
 pub mod Registered
-pub mod Lists
 pub mod Display
 pub mod NotFound

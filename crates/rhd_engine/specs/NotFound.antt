@@ -1,6 +1,6 @@
 -- The fault of a call whose function isn't found.
 use Rattle.std.specs.Prelude.{ℕ, List, [], ◌∷◌, ◌++◌, length, map, drop, nat_eq, if◌then◌else◌, codes, decimal}
-use Rattle.std.specs.List.{starts_with}
+use Rattle.std.specs.List.{starts_with, join_by}
 use Rattle.rhd_value.specs.Tree.{Bytes, Tree}
 use Rattle.rhd_value.specs.Same.{text_eq}
 use Rattle.rhd_value.specs.declared.tag.Position.{Position}
@@ -41,3 +41,11 @@ not_found e pos name args =
     else if starts_with nat_eq name (codes "get$") then get_property pos (drop 4 name) types
     else if starts_with nat_eq name (codes "set$") then set_property pos (drop 4 name) types
     else ErrorFunctionNotFound (signature e name args) pos
+
+-- the names of a path, as a text shows them
+abbrev pub path_text : List Bytes → Bytes
+path_text path = join_by (λ name. name) (codes "::") path
+
+-- a qualified call, by its path and name
+unfoldable pub not_found_in : EngineLists → List Bytes → Position → Bytes → List Tree → EvalAltResult
+not_found_in e path pos name args = ErrorFunctionNotFound (path_text path ++ codes "::" ++ signature e name args) pos

@@ -10,9 +10,9 @@ use Rattle.rhd_engine.specs.Engine.{EngineLists, Frame, Operator}
 use Rattle.rhd_engine.specs.declared.limits.Limits.{Limits}
 use Rattle.rhd_engine.specs.declared.limits.Printers.{Printers}
 
--- one empty global module
+-- one empty global module, and no static one
 abbrev pub start_lists : List NativeInfo → Seeds → Limits → List (Operator × FnId) → Printers → EngineLists
-start_lists natives seeds limits builtins printers = record { globals = empty_module seeds ∷ []; natives = natives; iterators = 0; builtins = builtins; seeds = seeds; limits = limits; printers = printers }
+start_lists natives seeds limits builtins printers = record { globals = empty_module seeds ∷ []; statics = []; natives = natives; iterators = 0; builtins = builtins; seeds = seeds; limits = limits; printers = printers }
 
 -- no library, no import, no source, no open call, the tag unit
 abbrev pub start_frame : Frame

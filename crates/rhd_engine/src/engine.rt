@@ -1,11 +1,12 @@
 //! An engine: a table of natives, and what is registered for all calls.
 
 ghost use Rattle.std.specs.Prelude.{◌≡◌, ◌≤◌, ◌<◌, true, IfOk, length};
-ghost use Rattle.rhd_engine.specs.Held.{all_held, builtins_held};
+ghost use Rattle.rhd_engine.specs.Held.{all_held, named_held, builtins_held};
 
 use crate::builtins::Builtins;
 use crate::limits::{Limits, Printers};
 use crate::lists::ModuleList;
+use crate::statics::ModuleMap;
 use rhd_func::Natives;
 use rhd_hash::Seeds;
 use rhd_module::{Module, SharedModule};
@@ -20,11 +21,14 @@ pub struct Engine {
     /// The modules whose functions all calls find. The first is the global namespace, into which natives
     /// are registered.
     pub globals: ModuleList,
+    /// The modules that qualified calls find by their names.
+    pub statics: ModuleMap,
     builtins: Builtins,
     seeds: Seeds,
     limits: Limits,
     printers: Printers,
     ghost globals_held: { all_held (length natives.items.items) globals ≡ true },
+    ghost statics_held: { named_held (length natives.items.items) statics ≡ true },
     ghost has_namespace: { 0 < length globals },
     ghost builtins_held: { builtins_held (length natives.items.items) builtins ≡ true },
     ghost limited: { limits.level ≤ 1000 },
@@ -35,7 +39,7 @@ impl Engine {
     ghost use Rattle.rhd_engine.specs.Of.{lists_of};
     ghost use Rattle.rhd_engine.specs.Start.{start_lists};
 
-    /// An engine with an empty global namespace. Its built-ins are held by the natives, and its modules hash
+    /// An engine with an empty global namespace and no static module. Its built-ins are held by the natives, and its modules hash
     /// their keys under these seeds.
     pub fn new(
         alloc: Global,
@@ -57,6 +61,7 @@ impl Engine {
         Ok(Engine {
             natives,
             globals,
+            statics: ModuleMap::new(alloc),
             builtins,
             seeds,
             limits,
@@ -76,6 +81,13 @@ impl Engine {
         ensures { result.now ≡ self.now.globals }
     {
         self.globals.as_slice()
+    }
+
+    /// The static modules by name.
+    pub fn static_modules(&self) -> &ModuleMap
+        ensures { result.now ≡ self.now.statics }
+    {
+        &self.statics
     }
 
     /// The functions of operators between two kinds.

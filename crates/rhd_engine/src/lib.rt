@@ -9,15 +9,22 @@ mod law;
 mod limits;
 mod lists;
 mod missing;
+mod parts;
+mod placing;
 mod registering;
 mod state;
+mod statics;
+#[cfg(test)]
+mod tests;
 
 pub use builtins::{Builtins, Operator};
 pub use engine::Engine;
 pub use law::a_builtin_leaves_the_others;
 pub use limits::{Limits, Printers};
 pub use lists::{ImportList, ModuleList};
+pub use missing::path_text;
 pub use registering::{
     RegisterIntoEngine, fn_registration, for_all_calls, raw_func, raw_registration,
 };
 pub use state::GlobalRuntimeState;
+pub use statics::ModuleMap;

@@ -1,10 +1,12 @@
 //! Lists of modules.
 
-ghost use Rattle.std.specs.Prelude.{◌≡◌, ◌++◌, ◌∷◌, [], if◌then◌else◌, is_ok, IfOk, OnOk, OnErr, None, length, ◌<◌};
+ghost use Rattle.std.specs.Prelude.{◌≡◌, ◌++◌, ◌∷◌, [], true, if◌then◌else◌, is_ok, IfOk, OnOk, OnErr, None, length, ◌<◌, ◌≤◌};
+ghost use Rattle.std.specs.List.{insert};
+ghost use Rattle.std.specs.Option.{option_copied};
 ghost use Rattle.rhd_func.specs.Infos.{infos_of};
 ghost use Rattle.rhd_module.specs.Contents.{with_type};
 ghost use Rattle.rhd_engine.specs.Registered.{in_first, RegistersFirst, RegistersRawFirst, FirstTells};
-ghost use Rattle.rhd_engine.specs.Lists.{Popped};
+ghost use Rattle.rhd_engine.specs.Lists.{Popped, all_indexed, latest_of, second};
 
 use rhd_func::{Natives, RhaiFunc};
 use rhd_module::{DeclFault, FuncMetadata, FuncRegistration, SharedModule};
@@ -57,6 +59,27 @@ impl ModuleList {
     {
         self.items.push(added)?;
         Ok(())
+    }
+
+    /// Puts a module at a place, before the one that stood there.
+    pub fn insert(&mut self, place: usize, added: SharedModule) -> Result<(), OutOfMemory>
+        requires { place ≤ length self.old }
+        ensures { self.new ≡ (if is_ok result then insert self.old place added else self.old) }
+    {
+        self.items.insert(place, added)?;
+        Ok(())
+    }
+
+    /// Puts a module behind the first one.
+    #[tactic(auto, using(crate::proofs::Indexed::second_is))]
+    pub fn insert_second(&mut self, added: SharedModule) -> Result<(), OutOfMemory>
+        ensures ok { OnOk result (self.new ≡ second added self.old) }
+        ensures err { OnErr result (self.new ≡ self.old) }
+    {
+        if self.items.len() == 0 {
+            return self.push(added);
+        }
+        self.insert(1, added)
     }
 
     /// Takes the last module off, if there is one.
@@ -142,24 +165,25 @@ impl ModuleList {
     }
 }
 
-/// Modules with their names, in order. Contracts see the list of them.
+/// Indexed modules with their names, in order. Contracts see the list of them.
 #[derive(Drop)]
 pub struct ImportList {
     items: Vec<(Text, SharedModule)>,
 }
 
 impl Model for ImportList {
-    ghost use Rattle.std.specs.Prelude.{List};
+    ghost use Rattle.std.specs.Prelude.{◌≡◌, true};
     ghost use Rattle.std.specs.Coded.{coded×, coded_ℕ, coded_list};
-    ghost use Rattle.rhd_value.specs.Tree.{Bytes};
-    ghost use Rattle.rhd_module.specs.Tree.{ModuleTree};
     ghost use Rattle.rhd_module.specs.Codes.{tree_code};
+    ghost use Rattle.rhd_engine.specs.Lists.{Imports, all_indexed};
 
-    ghost Value = { List (Bytes × ModuleTree) };
+    ghost Value = { Imports };
 
     ghost coded = { coded_list (coded× (coded_list coded_ℕ) tree_code) };
 
     ghost view = { λ a. a.items.items };
+
+    ghost invariant = { λ a. all_indexed a.items.items ≡ true };
 }
 
 impl ImportList {
@@ -182,9 +206,46 @@ impl ImportList {
         Ok(ImportList { items })
     }
 
+    /// Puts an indexed module with a name last.
+    #[tactic(auto, using(crate::proofs::Indexed::pushed))]
+    pub fn push(&mut self, name: Text, added: SharedModule) -> Result<(), OutOfMemory>
+        requires { added.own.indexed ≡ true }
+        ensures { self.new ≡ (if is_ok result then self.old ++ (name, added) ∷ [] else self.old) }
+    {
+        self.items.push((name, added))?;
+        Ok(())
+    }
+
+    /// Takes the last module off with its name, if there is one.
+    pub fn pop(&mut self) -> Option<(Text, SharedModule)>
+        ensures { Popped self.old result self.new }
+    {
+        self.items.pop()
+    }
+
+    /// The latest module of a name.
+    pub fn find(&self, name: &Text) -> Option<&SharedModule>
+        ensures { option_copied result ≡ latest_of name.now self.now }
+    {
+        for (known, module) in self.items.iter().rev() {
+            if name == known {
+                return Some(module);
+            }
+        }
+        None
+    }
+
     pub fn len(&self) -> usize
         ensures { result ≡ length self.now }
     {
         self.items.len()
+    }
+
+    /// The modules with their names, in order. Each is indexed.
+    pub fn as_slice(&self) -> &[(Text, SharedModule)]
+        ensures items { result.now ≡ self.now }
+        ensures indexed { all_indexed self.now ≡ true }
+    {
+        self.items.as_slice()
     }
 }

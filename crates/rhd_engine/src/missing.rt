@@ -1,9 +1,10 @@
 //! The fault of a call whose function isn't found.
 
-ghost use Rattle.std.specs.Prelude.{◌≡◌, ◌++◌, IfOk, OnOk, map};
+ghost use Rattle.std.specs.Prelude.{◌≡◌, ◌++◌, IfOk, OnOk, map, codes};
+ghost use Rattle.std.specs.List.{flat_map};
 ghost use Rattle.rhd_func.specs.Shapes.{all_args};
 ghost use Rattle.rhd_engine.specs.Display.{display};
-ghost use Rattle.rhd_engine.specs.NotFound.{wrong_number, get_index, set_index, get_property, set_property, not_found};
+ghost use Rattle.rhd_engine.specs.NotFound.{wrong_number, get_index, set_index, get_property, set_property, not_found, path_text, not_found_in};
 ghost use Rattle.rhd_engine.specs.Of.{lists_of};
 
 use crate::engine::Engine;
@@ -109,6 +110,31 @@ fn set_property(
     }
 }
 
+/// Puts further names at the end, each after `::`.
+fn push_more_names(out: &mut Text, names: &[Text]) -> Result<(), OutOfMemory>
+    ensures { OnOk result (out.new ≡ out.old ++ flat_map (λ name. codes "::" ++ name) names.now) }
+{
+    for name in names {
+        out.push("::")?;
+        out.push(name.as_str())?;
+    }
+    Ok(())
+}
+
+/// The names of a path, with `::` between them.
+pub fn path_text(alloc: Global, path: &[Text]) -> Result<Text, OutOfMemory>
+    ensures { IfOk result (λ text. text ≡ path_text path.now) }
+{
+    match path {
+        [] => Ok(Text::new(alloc)),
+        [first, more @ ..] => {
+            let mut text = first.dup(alloc)?;
+            push_more_names(&mut text, more)?;
+            Ok(text)
+        }
+    }
+}
+
 impl Engine {
     /// Puts the display types of values last.
     fn push_display_types(
@@ -172,5 +198,24 @@ impl Engine {
         }
         let signature = self.call_signature(alloc, name, shape)?;
         Ok(EvalAltResult::ErrorFunctionNotFound(signature, pos))
+    }
+
+    /// The fault of a qualified call whose function isn't found: its path, and its signature.
+    #[tactic(auto, unfolding(crate::specs::NotFound::not_found_in))]
+    pub fn not_found_in(
+        &self,
+        alloc: Global,
+        path: &[Text],
+        name: &Text,
+        shape: &CallShape,
+        pos: Position,
+    ) -> Result<EvalAltResult, OutOfMemory>
+        ensures { IfOk result (λ fault. fault ≡ not_found_in (lists_of info self.now) path.now pos name.now (all_args shape.now)) }
+    {
+        let mut text = path_text(alloc, path)?;
+        text.push("::")?;
+        let signature = self.call_signature(alloc, name, shape)?;
+        text.push(signature.as_str())?;
+        Ok(EvalAltResult::ErrorFunctionNotFound(text, pos))
     }
 }

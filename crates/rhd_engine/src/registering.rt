@@ -1,18 +1,21 @@
 //! How natives are registered for all calls.
 
-ghost use Rattle.std.specs.Prelude.{◌≡◌, ◌++◌, [], IfOk, IfErr, OnOk, OnErr, codes};
+ghost use Rattle.std.specs.Prelude.{◌≡◌, ◌++◌, [], IfOk, IfErr, OnOk, OnErr, true, length, codes};
 ghost use Rattle.rhd_value.specs.Kinds.{type_text};
 ghost use Rattle.rhd_func.specs.Infos.{infos_of};
 ghost use Rattle.rhd_decl.specs.declared.fault.DeclFault.TheVariants.{OutOfMemory as no_memory};
 ghost use Rattle.rhd_module.specs.Contents.{with_type};
 ghost use Rattle.rhd_module.specs.Registered.{native_at, params_by_type, global_registration, getter_name, setter_name};
-ghost use Rattle.rhd_engine.specs.Engine.{GlobalsAlone};
+ghost use Rattle.rhd_engine.specs.Engine.{GlobalsAlone, StaticsAlone};
+ghost use Rattle.rhd_engine.specs.Held.{names_held};
+ghost use Rattle.rhd_engine.specs.Lists.{second};
 ghost use Rattle.rhd_engine.specs.Of.{lists_of};
+ghost use Rattle.rhd_engine.specs.Statics.{Places};
 ghost use Rattle.rhd_engine.specs.Registered.{fn_registration, for_all_calls, raw_func, custom_name, in_first, RegistersFirst, RegistersRawFirst, FirstTells};
 
 use crate::engine::Engine;
 use rhd_func::{Natives, PluginFunc, RhaiFunc};
-use rhd_module::{DeclFault, FuncMetadata, FuncRegistration, is_pure_by_name};
+use rhd_module::{DeclFault, FuncMetadata, FuncRegistration, SharedModule, is_pure_by_name};
 use rhd_value::{FnId, OutOfMemory, Text, Texts, TypeTag};
 use std::alloc::Global;
 
@@ -259,6 +262,40 @@ impl Engine {
     {
         let name = TypeTag::Custom(kind).type_name(alloc)?;
         self.register_type_with_name(alloc, kind, name)
+    }
+}
+
+impl Engine {
+    /// Puts a module behind the first one of those whose functions all calls find. Only want of memory
+    /// refuses.
+    pub fn register_global_module(
+        &mut self,
+        _alloc: Global,
+        added: SharedModule,
+    ) -> Result<(), OutOfMemory>
+        requires { names_held (length self.old.natives.items.items) added ≡ true }
+        ensures ok { OnOk result (self.new.globals ≡ second added self.old.globals) }
+        ensures err { OnErr result (self.new.globals ≡ self.old.globals) }
+        ensures natives { self.new.natives ≡ self.old.natives }
+        ensures kept { GlobalsAlone (lists_of info self.old) (lists_of info self.new) }
+    {
+        self.globals.insert_second(added)
+    }
+
+    /// Puts a module under a name for qualified calls, as `ModuleMap::register_static` does.
+    pub fn register_static_module(
+        &mut self,
+        alloc: Global,
+        name: Text,
+        added: SharedModule,
+    ) -> Result<(), DeclFault>
+        requires { names_held (length self.old.natives.items.items) added ≡ true }
+        ensures places { Places self.old.seeds name added self.old.statics result self.new.statics }
+        ensures natives { self.new.natives ≡ self.old.natives }
+        ensures kept { StaticsAlone (lists_of info self.old) (lists_of info self.new) }
+    {
+        let seeds = self.seeds();
+        self.statics.register_static(alloc, seeds, name, added)
     }
 }
 

@@ -1,9 +1,12 @@
 //! The state of a run.
 
-ghost use Rattle.std.specs.Prelude.{◌≡◌, ◌++◌, ◌∷◌, [], IfOk};
+ghost use Rattle.std.specs.Prelude.{◌≡◌, ◌++◌, ◌∷◌, [], true, if◌then◌else◌, is_ok, IfOk};
+ghost use Rattle.std.specs.Option.{option_copied};
+ghost use Rattle.rhd_engine.specs.Lists.{Popped, latest_of};
 ghost use Rattle.rhd_engine.specs.Start.{start_frame};
 
 use crate::lists::{ImportList, ModuleList};
+use rhd_module::SharedModule;
 use rhd_value::{Dynamic, OutOfMemory, Text, Value};
 use std::alloc::Global;
 
@@ -13,7 +16,7 @@ use std::alloc::Global;
 pub struct GlobalRuntimeState {
     /// Libraries, oldest first.
     pub lib: ModuleList,
-    /// Imports with their names, oldest first.
+    /// Imports with their names, oldest first. Each is indexed.
     pub imports: ImportList,
     /// The source of the function that makes the calls.
     pub source: Option<Text>,
@@ -52,5 +55,43 @@ impl GlobalRuntimeState {
             level: 0,
             tag: Dynamic::from(Value::Unit),
         }
+    }
+
+    /// One library more, the latest.
+    pub fn push_lib(&mut self, added: SharedModule) -> Result<(), OutOfMemory>
+        ensures { self.new ≡ record self.old { lib = if is_ok result then self.old.lib ++ added ∷ [] else self.old.lib } }
+    {
+        self.lib.push(added)
+    }
+
+    /// Takes the latest library off, if there is one.
+    pub fn pop_lib(&mut self) -> Option<SharedModule>
+        ensures lib { Popped self.old.lib result self.new.lib }
+        ensures kept { self.new ≡ record self.old { lib = self.new.lib } }
+    {
+        self.lib.pop()
+    }
+
+    /// One import more, the latest, under a name.
+    pub fn push_import(&mut self, name: Text, added: SharedModule) -> Result<(), OutOfMemory>
+        requires { added.own.indexed ≡ true }
+        ensures { self.new ≡ record self.old { imports = if is_ok result then self.old.imports ++ (name, added) ∷ [] else self.old.imports } }
+    {
+        self.imports.push(name, added)
+    }
+
+    /// Takes the latest import off with its name, if there is one.
+    pub fn pop_import(&mut self) -> Option<(Text, SharedModule)>
+        ensures imports { Popped self.old.imports result self.new.imports }
+        ensures kept { self.new ≡ record self.old { imports = self.new.imports } }
+    {
+        self.imports.pop()
+    }
+
+    /// The latest import of a name.
+    pub fn find_import(&self, name: &Text) -> Option<&SharedModule>
+        ensures { option_copied result ≡ latest_of name.now self.now.imports }
+    {
+        self.imports.find(name)
     }
 }

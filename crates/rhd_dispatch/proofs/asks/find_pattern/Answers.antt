@@ -11,7 +11,7 @@ pub find_others-requires-clause-missed : goal.find_others-requires-clause-missed
 unfolding lists_of
 find_others-requires-clause-missed g c =
     let e = (lists_of (λ z. (goal.PluginFunc-dyn g z).info z.1) c.args.engine.now) in
-    ap (native_in c.args.state.now.lib c.args.engine.now.globals c.args.name.now) c.in_ok-types.ensures.items ∙ sym (native_is e c.args.state.now.lib c.args.state.now.imports c.args.name.now c.args.kinds.now) ∙ c.requires
+    ap (native_in c.args.state.now.lib c.args.engine.now.globals c.args.state.now.imports c.args.engine.now.statics c.args.name.now) c.in_ok-types.ensures.items ∙ sym (native_is e c.args.state.now.lib c.args.state.now.imports c.args.name.now c.args.kinds.now) ∙ c.requires
 
 pub returns-in-Some-clause-pick : goal.returns-in-Some-clause-pick
 unfolding lists_of

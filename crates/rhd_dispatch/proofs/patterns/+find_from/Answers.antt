@@ -2,13 +2,14 @@ use Rattle.std.proofs.Common.{◌≤◌, ◌<◌, ◌-◌, length, ap, sym, ◌�
 use Rattle.std.proofs.lemmas.Result.{IfOk-weaker}
 use Rattle.rhd_hash.specs.Matching.{types_match}
 use Rattle.rhd_dispatch.proofs.Looks.{leaf_looks, first_looks, both_looks}
-use Rattle.rhd_dispatch.proofs.PatternWalk.{walk_prunes, walk_last, walk_over, walk_found, walk_changed, back_changed}
+use Rattle.rhd_dispatch.proofs.PatternWalk.{walk_prunes, walk_last, walk_over, walk_found, walk_changed, back_changed, dynamic_kept}
 use Rattle.rhd_dispatch.proofs.patterns.+find_from.Goals as goal
 
 pub returns-then-not-may_match-clause-found : goal.returns-then-not-may_match-clause-found
 returns-then-not-may_match-clause-found g m c =
-    sym (walk_prunes (g.L.Look.look c.args.look.now) c.args.kinds.now.items c.args.place (16 - c.args.place) c.requires
-    (λ types matches. c.may_match.ensures c.if-not-may_match.true types (ap (types_match c.args.place types) c.deref.ensures.value ∙ matches)))
+    sym (walk_prunes (g.L.Look.look c.args.look.now) c.args.kinds.now.items c.args.place (16 - c.args.place) c.requires.within
+    (λ types matches. c.may_match.ensures c.if-not-may_match.true types (ap (types_match c.args.place types) c.deref.ensures.value ∙ matches)
+    (dynamic_kept c.args.place types c.args.kinds.now.items matches c.requires.dynamic)))
 
 pub returns-then-place-ge-MOST_CHANGED-clause-found : goal.returns-then-place-ge-MOST_CHANGED-clause-found
 returns-then-place-ge-MOST_CHANGED-clause-found g m c =

@@ -1,13 +1,14 @@
 use Rattle.std.proofs.Common.{◌≤◌, ◌<◌, ◌-◌, length, ap, sym, ◌∙◌, arith}
 use Rattle.rhd_hash.specs.Matching.{types_match}
 use Rattle.rhd_dispatch.proofs.Looks.{leaf_missed, first_less, both_less}
-use Rattle.rhd_dispatch.proofs.PatternWalk.{walk_prunes, walk_missed_last, walk_missed_over, walk_found, walk_changed, back_changed}
+use Rattle.rhd_dispatch.proofs.PatternWalk.{walk_prunes, walk_missed_last, walk_missed_over, walk_found, walk_changed, back_changed, missed_prunes}
 use Rattle.rhd_dispatch.proofs.patterns.+find_others.Goals as goal
 
 pub returns-then-not-may_match-clause-found : goal.returns-then-not-may_match-clause-found
 returns-then-not-may_match-clause-found g m c =
     sym (walk_prunes (g.L.Look.look c.args.look.now) c.args.kinds.now.items c.args.place (16 - c.args.place) c.requires.within
-    (λ types matches. c.may_match.ensures c.if-not-may_match.true types (ap (types_match c.args.place types) c.deref.ensures.value ∙ matches)))
+    (missed_prunes (g.L.Look.look c.args.look.now) c.args.kinds.now.items c.args.place c.requires.missed
+    (λ types matches dynamic. c.may_match.ensures c.if-not-may_match.true types (ap (types_match c.args.place types) c.deref.ensures.value ∙ matches) dynamic)))
 
 pub returns-then-place-ge-MOST_CHANGED-clause-found : goal.returns-then-place-ge-MOST_CHANGED-clause-found
 returns-then-place-ge-MOST_CHANGED-clause-found g m c = walk_missed_last (g.L.Look.look c.args.look.now) c.args.kinds.now.items c.args.place c.if-place-ge-MOST_CHANGED.true c.requires.missed

@@ -1,13 +1,21 @@
-use Rattle.std.proofs.Common.{Bool, List, ap, sym, ◌∙◌}
+use Rattle.std.proofs.Common.{Bool, List, length, ap, sym, ◌∙◌}
 use Rattle.std.specs.List.{list_any}
+use Rattle.rhd_engine.specs.Engine.{Imports}
+use Rattle.rhd_engine.specs.Lists.{all_indexed}
 use Rattle.rhd_module.specs.Matching.{may_match}
 use Rattle.rhd_module.specs.Tree.{ModuleTree}
+use Rattle.rhd_dispatch.specs.Walks.{any_may_have}
 use Rattle.rhd_dispatch.proofs.NativeLooks.{not_found}
 use Rattle.rhd_dispatch.proofs.look.NativesOfLook.may_match.Goals as goal
 
-pub returns-else-any_may_match : goal.returns-else-any_may_match
-returns-else-any_may_match g c none types matches =
+pub returns : goal.returns
+returns g c none types matches dynamic =
     let any : List ModuleTree → Bool = λ ms. list_any (λ m. may_match m c.args.place c.args.self.now.name.now c.args.kinds.now) ms in
-    not_found c.args.self.now.state.now.lib c.args.self.now.engine.now.globals c.args.place c.args.self.now.name.now c.args.kinds.now types matches
+    let have : Imports → Bool = λ es. any_may_have c.args.self.now.name.now (length c.args.kinds.now) es in
+    let indexed : Imports → Bool = λ es. all_indexed es in
+    not_found c.args.self.now.state.now.lib c.args.self.now.engine.now.globals c.args.self.now.state.now.imports c.args.self.now.engine.now.statics c.args.place c.args.self.now.name.now c.args.kinds.now types
+    c.as_slice-2.ensures.indexed (ap indexed (sym c.static_modules.ensures) ∙ c.any_static_may_have.ensures.indexed) matches dynamic
     (ap any (sym c.global_modules.ensures) ∙ sym c.any_may_match.ensures ∙ c.if-any_may_match.false)
-    (ap any (sym c.as_slice.ensures) ∙ sym c.any_may_match-else-any_may_match.ensures ∙ none)
+    (ap any (sym c.as_slice.ensures) ∙ sym c.any_may_match-2.ensures ∙ c.if-any_may_match-2.false)
+    (ap have (sym c.as_slice-2.ensures.items) ∙ sym c.any_import_may_have.ensures ∙ c.if-any_import_may_have.false)
+    (ap have (sym c.static_modules.ensures) ∙ sym c.any_static_may_have.ensures.found ∙ none)

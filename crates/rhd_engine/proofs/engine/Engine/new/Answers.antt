@@ -4,4 +4,4 @@ use Rattle.rhd_engine.proofs.engine.Engine.new.Goals as goal
 
 pub returns-clause-lists : goal.returns-clause-lists
 unfolding lists_of
-returns-clause-lists g c = rw (c.in_ok-push.ensures, c.in_ok-namespace.ensures, c.in_ok-empty.ensures, c.new-globals.ensures) refl
+returns-clause-lists g c = rw (c.new-3.ensures, c.in_ok-push.ensures, c.in_ok-namespace.ensures, c.in_ok-empty.ensures, c.new-globals.ensures) refl

@@ -1,0 +1,101 @@
+-- The module in which a path begins, and what it has for a call.
+use Rattle.std.proofs.Common.{◌≡◌, ℕ, Bool, true, false, cond, List, [], ◌∷◌, ◌++◌, length, map, refl, sym, ap, ◌∙◌}
+use Rattle.std.specs.Prelude.{Option, None, Some, is_some, if◌then◌else◌}
+use Rattle.std.specs.Map.{lookup}
+use Rattle.std.specs.Option.{option_or, option_and_then}
+use Rattle.std.proofs.lemmas.List.{length-map}
+use Rattle.rhd_value.specs.Tree.{Bytes}
+use Rattle.rhd_value.specs.Firsts.{first_of}
+use Rattle.rhd_value.specs.Kinds.{tag_of}
+use Rattle.rhd_value.specs.Same.{text_eq}
+use Rattle.rhd_value.specs.declared.tag.TypeTag.{TypeTag}
+use Rattle.rhd_func.specs.declared.request.CallShape.{CallShape}
+use Rattle.rhd_func.specs.Shapes.{all_args}
+use Rattle.rhd_hash.specs.declared.key.Key.TheVariants.{Script, Native}
+use Rattle.rhd_module.specs.Tree.{ModuleTree}
+use Rattle.rhd_call.specs.declared.pick.Layer.{Layer}
+use Rattle.rhd_call.specs.declared.pick.Layer.TheVariants.{Import, Static}
+use Rattle.rhd_call.specs.declared.pick.Pick.{Pick}
+use Rattle.rhd_engine.specs.Engine.{EngineLists, Imports}
+use Rattle.rhd_dispatch.specs.Patterns.{patterns}
+use Rattle.rhd_dispatch.specs.Picks.{named_places, root_of, after_root, pick_in, qualified_asks, looked_in, pick_qualified}
+use Rattle.rhd_dispatch.specs.Searched.{Place, pick_at}
+use Rattle.rhd_dispatch.specs.Walks.{numbered, latest, place_of_tree, named_at, native_at, first_match}
+
+-- of named things, the first of a name
+named_first : (layer : ℕ → Layer) (name : Bytes) (xs : List (ℕ × (Bytes × ModuleTree))) → lookup (text_eq name) (map (λ p. (p.1.0, place_of_tree layer p)) xs) ≡ first_of (named_at layer name) xs
+named_first layer name [] = refl
+named_first layer name (x ∷ xs) =
+    let by : (b : Bool) → cond b (Some (place_of_tree layer x)) (lookup (text_eq name) (map (λ p. (p.1.0, place_of_tree layer p)) xs)) ≡ option_or (if b then Some (place_of_tree layer x) else None) (first_of (named_at layer name) xs) =
+    elim [ true ↦ refl | false ↦ named_first layer name xs ]
+    in by (text_eq name x.1.0)
+
+in_both : (name : Bytes) (xs ys : List (Bytes × Place)) → lookup (text_eq name) (xs ++ ys) ≡ option_or (lookup (text_eq name) xs) (lookup (text_eq name) ys)
+in_both name [] ys = refl
+in_both name (x ∷ xs) ys =
+    let by : (b : Bool) → cond b (Some x.1) (lookup (text_eq name) (xs ++ ys)) ≡ option_or (cond b (Some x.1) (lookup (text_eq name) xs)) (lookup (text_eq name) ys) = elim [ true ↦ refl | false ↦ in_both name xs ys ]
+    in by (text_eq name x.0)
+
+two_parts : (e : EngineLists) (imports : Imports) (name : Bytes) → lookup (text_eq name) (named_places e imports) ≡ option_or (first_of (named_at Import name) (latest imports)) (first_of (named_at Static name) (numbered e.statics))
+two_parts e imports name =
+    in_both name (map (λ p. (p.1.0, place_of_tree Import p)) (latest imports)) (map (λ p. (p.1.0, place_of_tree Static p)) (numbered e.statics))
+    ∙ (λ i. option_or (named_first Import name (latest imports) i) (named_first Static name (numbered e.statics) i))
+
+or_here : {A : Type 0} (a b : Option A) → is_some a ≡ true → a ≡ option_or a b
+or_here None b e = absurd cc
+or_here (Some x) b e = refl
+
+pub import_is_root : (e : EngineLists) (imports same : Imports) (name : Bytes) (o : Option Place) → same ≡ imports → o ≡ first_of (named_at Import name) (latest same) → is_some o ≡ true → o ≡ lookup (text_eq name) (named_places e imports)
+import_is_root e imports same name o l is some =
+    or_here o (first_of (named_at Static name) (numbered e.statics)) some
+    ∙ ap (λ (a : Option Place). option_or a (first_of (named_at Static name) (numbered e.statics))) (is ∙ ap (λ (es : Imports). first_of (named_at Import name) (latest es)) l) ∙ sym (two_parts e imports name)
+
+pub static_is_root : (e : EngineLists) (imports same statics : Imports) (name : Bytes) (o last : Option Place) → same ≡ imports → statics ≡ e.statics → o ≡ first_of (named_at Import name) (latest same) → o ≡ None
+    → last ≡ first_of (named_at Static name) (numbered statics) → last ≡ lookup (text_eq name) (named_places e imports)
+static_is_root e imports same statics name o last l s is none h =
+    h ∙ ap (λ (es : Imports). first_of (named_at Static name) (numbered es)) s
+    ∙ sym (two_parts e imports name ∙ ap (λ (a : Option Place). option_or a (first_of (named_at Static name) (numbered e.statics))) (ap (λ (es : Imports). first_of (named_at Import name) (latest es)) (sym l) ∙ sym is ∙ none))
+
+pub named_hit : (layer : ℕ → Layer) (name : Bytes) (y : ℕ × (Bytes × ModuleTree)) (place : Place) → text_eq name y.1.0 ≡ true → place ≡ place_of_tree layer y → ◌≡◌ {A = Option Place} (Some place) (named_at layer name y)
+named_hit layer name y place e is = ap (λ (p : Place). Some p) is ∙ ap (λ (b : Bool). if b then Some (place_of_tree layer y) else None) (sym e)
+
+pub named_miss : (layer : ℕ → Layer) (name : Bytes) (y : ℕ × (Bytes × ModuleTree)) → text_eq name y.1.0 ≡ false → named_at layer name y ≡ None
+named_miss layer name y e = ap (λ (b : Bool). if b then Some (place_of_tree layer y) else None) e
+
+-- What the module has: a script, or else a native.
+
+params_are : (shape : CallShape) (kinds : List TypeTag) (params : ℕ) → kinds ≡ map tag_of (all_args shape) → params ≡ length kinds → params ≡ length (all_args shape)
+params_are shape kinds params k p = p ∙ ap length k ∙ length-map (all_args shape) tag_of
+
+pub script_first : (path names : List Bytes) (name : Bytes) (shape : CallShape) (kinds : List TypeTag) (params : ℕ) (place : Place) (o : Option Pick) (pick : Pick) → names ≡ after_root path → kinds ≡ map tag_of (all_args shape) → params ≡ length kinds
+    → o ≡ pick_at (Script (Some names) name params) place → o ≡ Some pick → ◌≡◌ {A = Option Pick} (Some pick) (pick_in path name shape place)
+script_first path names name shape kinds params place o pick n k p is some =
+    let at : o ≡ pick_at (Script (Some (after_root path)) name (length (all_args shape))) place = is ∙ (λ i. pick_at (Script (Some (n i)) name (params_are shape kinds params k p i)) place) in
+    sym (ap (λ (x : Option Pick). option_or x (first_of (λ types. pick_at (Native (Some (after_root path)) name types) place) (patterns (map tag_of (all_args shape))))) (sym at ∙ some))
+
+pub native_second : (path names : List Bytes) (name : Bytes) (shape : CallShape) (kinds : List TypeTag) (params : ℕ) (place : Place) (o last : Option Pick) → names ≡ after_root path → kinds ≡ map tag_of (all_args shape) → params ≡ length kinds
+    → o ≡ pick_at (Script (Some names) name params) place → o ≡ None → last ≡ first_match (native_at place names name) [] 16 kinds → last ≡ pick_in path name shape place
+native_second path names name shape kinds params place o last n k p is none h =
+    let at : o ≡ pick_at (Script (Some (after_root path)) name (length (all_args shape))) place = is ∙ (λ i. pick_at (Script (Some (n i)) name (params_are shape kinds params k p i)) place) in
+    h ∙ (λ i. first_of (λ types. pick_at (Native (Some (n i)) name types) place) (patterns (k i)))
+    ∙ sym (ap (λ (x : Option Pick). option_or x (first_of (λ types. pick_at (Native (Some (after_root path)) name types) place) (patterns (map tag_of (all_args shape))))) (sym at ∙ none))
+
+-- what the module has is the first question that is answered
+or_none : {A : Type 0} (o : Option A) → option_or o None ≡ o
+or_none None = refl
+or_none (Some x) = refl
+
+pub by_asks : (path : List Bytes) (name : Bytes) (shape : CallShape) (root : Option Place) → option_and_then (pick_in path name shape) root ≡ first_of (looked_in path root) (qualified_asks name shape)
+by_asks path name shape None = refl
+by_asks path name shape (Some root) =
+    sym (ap (option_or (pick_at (Script (Some (after_root path)) name (length (all_args shape))) root)) (or_none (first_of (λ types. pick_at (Native (Some (after_root path)) name types) root) (patterns (map tag_of (all_args shape))))))
+
+-- a root's pick is that of the call
+pub root_picks : (e : EngineLists) (imports : Imports) (path same : List Bytes) (name : Bytes) (shape : CallShape) (root : Option Place) (place : Place) (o : Option Pick) → same ≡ path → root ≡ root_of e imports same → root ≡ Some place
+    → o ≡ pick_in same name shape place → o ≡ pick_qualified e imports path name shape
+root_picks e imports path same name shape root place o p is some h =
+    h ∙ ap (λ (r : Option Place). option_and_then (pick_in same name shape) r) (sym some ∙ is) ∙ by_asks same name shape (root_of e imports same) ∙ ap (λ (names : List Bytes). pick_qualified e imports names name shape) p
+
+pub no_root_picks : (e : EngineLists) (imports : Imports) (path same : List Bytes) (name : Bytes) (shape : CallShape) (root : Option Place) → same ≡ path → root ≡ root_of e imports same → root ≡ None → ◌≡◌ {A = Option Pick} None (pick_qualified e imports path name shape)
+no_root_picks e imports path same name shape root p is none =
+    ap (λ (r : Option Place). option_and_then (pick_in same name shape) r) (sym none ∙ is) ∙ by_asks same name shape (root_of e imports same) ∙ ap (λ (names : List Bytes). pick_qualified e imports names name shape) p
