@@ -4,7 +4,6 @@ use Rattle.std.specs.Prelude.{◌↔◌, Option, Some, None, not, ◌&&◌, if�
 use Rattle.std.specs.Option.{option_or}
 use Rattle.rhd_value.specs.Firsts.{first_of, IsFirst, here, later, NoneHas}
 use Rattle.rhd_func.specs.declared.request.CallRequest.{CallRequest}
-use Rattle.rhd_func.specs.declared.request.CallRequest.TheVariants.{Named}
 use Rattle.rhd_func.specs.declared.request.HostAnswer.{HostAnswer}
 use Rattle.rhd_func.specs.Funcs.{is_pure, is_script}
 use Rattle.rhd_func.specs.Shapes.{all_args, is_method_shape}
@@ -23,7 +22,7 @@ use Rattle.rhd_session.specs.Plans.{Plan, plan_of}
 use Rattle.rhd_call.specs.End.{End}
 use Rattle.rhd_session.specs.Ends.{host_end}
 use Rattle.rhd_laws.specs.Owners.{shown_pick}
-use Rattle.rhd_session.specs.Decisions.{asks_of, Decision, ends, asks_host, runs, pick_of, decided, refusal, unless_refused, decision, is_on_constant, constant_end, picked}
+use Rattle.rhd_session.specs.Decisions.{asks_of, look_of, Decision, ends, asks_host, runs, pick_of, decided, refusal, unless_refused, decision, is_on_constant, constant_end, picked}
 use Rattle.rhd_session.specs.Received.{received, convention_of, first_received, is_read_only}
 use Rattle.rhd_call.specs.Seen.{seen, unbegun_node}
 use Rattle.rhd_session.specs.Runs.{Runs, not_begun, ended, host_answered, finished, cut_short}
@@ -56,8 +55,8 @@ none_first f [] n = refl
 none_first f (x ∷ xs) n = ap (λ (o : Option _). option_or o (first_of f xs)) n.0 ∙ none_first f xs n.1
 
 -- the pick of a call is what its first ask gives that gives something
-pub pick_asks : (e : EngineLists) (f : Frame) (call : CallRequest) → pick_of e f (plan_of call) ≡ first_of (looked e f.lib f.imports) (asks_of e call)
-pick_asks e f (Named name token native_only shape want pos) = refl
+pub pick_asks : (e : EngineLists) (f : Frame) (call : CallRequest) → pick_of e f (plan_of call) ≡ first_of (look_of e f call) (asks_of e call)
+pick_asks e f call = refl
 
 -- the test for a constant, by what it says
 and_parts : (a b : Bool) → (a && b) ≡ true → (a ≡ true) × (b ≡ true)
@@ -96,10 +95,10 @@ pub runs_first : (e : EngineLists) (f : Frame) (level : ℕ) (call : CallRequest
 unfolding decision
 runs_first e f level call plan pick d =
     let r = runs_only e (refusal e f level call) (plan_of call) (pick_of e f (plan_of call)) plan pick d in
-    (r.0, r.1, first_is-first (looked e f.lib f.imports) pick (asks_of e call) (sym (pick_asks e f call) ∙ r.2), free_is e (plan_of call) pick r.3)
+    (r.0, r.1, first_is-first (look_of e f call) pick (asks_of e call) (sym (pick_asks e f call) ∙ r.2), free_is e (plan_of call) pick r.3)
 
 found_first : (e : EngineLists) (f : Frame) (call : CallRequest) (pick : Pick) → IsAnsweredFirst e f call pick → Some pick ≡ pick_of e f (plan_of call)
-found_first e f call pick first = sym (pick_asks e f call ∙ is-first_first (looked e f.lib f.imports) pick (asks_of e call) first)
+found_first e f call pick first = sym (pick_asks e f call ∙ is-first_first (look_of e f call) pick (asks_of e call) first)
 
 pub first_runs : (e : EngineLists) (f : Frame) (level : ℕ) (call : CallRequest) (plan : Plan) (pick : Pick)
     → (refusal e f level call ≡ None) × (plan ≡ plan_of call) × IsAnsweredFirst e f call pick × (IsOnConstant e (plan_of call) pick → ⊥) → decision e f level call ≡ runs plan pick
@@ -115,14 +114,14 @@ ends_picked : (e : EngineLists) (f : Frame) (level : ℕ) (call : CallRequest) (
     → refusal e f level call ≡ None → pick_of e f (plan_of call) ≡ Some own
     → (if b then ends (Some own) (constant_end (plan_of call)) else runs (plan_of call) own) ≡ ends pick end → EndsAlone e f level call pick end
 ends_picked e f level call own pick end true on unrefused found d =
-    on_constant own (cc) unrefused (first_is-first (looked e f.lib f.imports) own (asks_of e call) (sym (pick_asks e f call) ∙ found)) (constant_is e (plan_of call) own on) (cc)
+    on_constant own (cc) unrefused (first_is-first (look_of e f call) own (asks_of e call) (sym (pick_asks e f call) ∙ found)) (constant_is e (plan_of call) own on) (cc)
 ends_picked e f level call own pick end false on unrefused found d = absurd cc
 
 ends_by : (e : EngineLists) (f : Frame) (level : ℕ) (call : CallRequest) (r : Option End) (o : Option Pick) (pick : Option Pick) (end : End) → refusal e f level call ≡ r
     → pick_of e f (plan_of call) ≡ o → unless_refused r (decided e (plan_of call) o) ≡ ends pick end → EndsAlone e f level call pick end
 ends_by e f level call (Some x) o pick end u is d = is_refused (cc) (u ∙ (let same : x ≡ end = cc in ap Some same))
 ends_by e f level call None None pick end u is d =
-    let h = unpicked_ends e (plan_of call) (plan_of call).search pick end d in isnt_found h.1 u h.0 h.2 (first_none (looked e f.lib f.imports) (asks_of e call) (sym (pick_asks e f call) ∙ is))
+    let h = unpicked_ends e (plan_of call) (plan_of call).search pick end d in isnt_found h.1 u h.0 h.2 (first_none (look_of e f call) (asks_of e call) (sym (pick_asks e f call) ∙ is))
 ends_by e f level call None (Some own) pick end u is d = ends_picked e f level call own pick end (is_on_constant e (plan_of call) own) refl u is d
 
 pub ends_missing : (e : EngineLists) (f : Frame) (level : ℕ) (call : CallRequest) (pick : Option Pick) (end : End) → decision e f level call ≡ ends pick end → EndsAlone e f level call pick end
@@ -132,7 +131,7 @@ ends_missing e f level call pick end d = ends_by e f level call (refusal e f lev
 pub missing_ends : (e : EngineLists) (f : Frame) (level : ℕ) (call : CallRequest) (pick : Option Pick) (end : End) → EndsAlone e f level call pick end → decision e f level call ≡ ends pick end
 missing_ends e f level call pick end (is_refused none u) = decided_refused e f level call end u ∙ (λ i. ends (sym none i) end)
 missing_ends e f level call pick end (isnt_found none u only m un) =
-    decided_ends e f level call u only (sym (pick_asks e f call ∙ none_first (looked e f.lib f.imports) (asks_of e call) un)) ∙ (λ i. ends (sym none i) (sym m i))
+    decided_ends e f level call u only (sym (pick_asks e f call ∙ none_first (look_of e f call) (asks_of e call) un)) ∙ (λ i. ends (sym none i) (sym m i))
 missing_ends e f level call pick end (on_constant own some u first on m) = first_constant e f level call own u first on ∙ (λ i. ends (sym some i) (sym m i))
 
 alone_first : (e : EngineLists) (f : Frame) (level : ℕ) (call : CallRequest) (shown : Option Pick) (end : End) (pick : Pick) → EndsAlone e f level call shown end → shown ≡ Some pick
@@ -163,7 +162,7 @@ asks_by_host e f level call plan (Some x) o u is d = absurd cc
 asks_by_host e f level call plan None (Some own) u is d = absurd (picked_asks (plan_of call) own plan (is_on_constant e (plan_of call) own) d)
 asks_by_host e f level call plan None None u is d =
     let h = unpicked_asks e (plan_of call) (plan_of call).search plan d in
-    (h.1, record { unrefused = u; scripts = h.0; unanswered = first_none (looked e f.lib f.imports) (asks_of e call) (sym (pick_asks e f call) ∙ is) })
+    (h.1, record { unrefused = u; scripts = h.0; unanswered = first_none (look_of e f call) (asks_of e call) (sym (pick_asks e f call) ∙ is) })
 
 pub asks_first : (e : EngineLists) (f : Frame) (level : ℕ) (call : CallRequest) (plan : Plan) → decision e f level call ≡ asks_host plan → (plan ≡ plan_of call) × IsForHost e f level call
 unfolding decision
@@ -171,7 +170,7 @@ asks_first e f level call plan d = asks_by_host e f level call plan (refusal e f
 
 pub first_asks : (e : EngineLists) (f : Frame) (level : ℕ) (call : CallRequest) (plan : Plan) → (plan ≡ plan_of call) × IsForHost e f level call → decision e f level call ≡ asks_host plan
 first_asks e f level call plan h =
-    decided_asks e f level call h.1.unrefused h.1.scripts (sym (pick_asks e f call ∙ none_first (looked e f.lib f.imports) (asks_of e call) h.1.unanswered)) ∙ ap asks_host (sym h.0)
+    decided_asks e f level call h.1.unrefused h.1.scripts (sym (pick_asks e f call ∙ none_first (look_of e f call) (asks_of e call) h.1.unanswered)) ∙ ap asks_host (sym h.0)
 
 -- what becomes of a call by the first ask's function that is found
 pub first_picked : (e : EngineLists) (f : Frame) (level : ℕ) (call : CallRequest) (pick : Pick) → refusal e f level call ≡ None → IsAnsweredFirst e f call pick → decision e f level call ≡ picked e (plan_of call) pick

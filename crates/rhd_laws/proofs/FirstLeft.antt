@@ -4,7 +4,7 @@ use Rattle.std.specs.Prelude.{◌↔◌, Option, None, Some, is_some}
 use Rattle.rhd_value.specs.Tree.{Tree}
 use Rattle.rhd_func.specs.declared.request.Carry.{Carry}
 use Rattle.rhd_func.specs.declared.request.CallRequest.{CallRequest}
-use Rattle.rhd_func.specs.declared.request.CallRequest.TheVariants.{Named}
+use Rattle.rhd_func.specs.declared.request.CallRequest.TheVariants.{Named, Qualified}
 use Rattle.rhd_func.specs.declared.request.CallShape.{CallShape}
 use Rattle.rhd_func.specs.declared.request.CallShape.TheVariants.{Plain, ByRef, Method}
 use Rattle.rhd_func.specs.declared.request.NativeStep.{NativeStep}
@@ -28,7 +28,7 @@ use Rattle.rhd_session.specs.World.{World, Objects, Moment}
 use Rattle.rhd_laws.specs.Arguments.{HasFirstGiven, by_reference, of_method, IsCut}
 use Rattle.rhd_laws.specs.Causes.{EndsWith}
 use Rattle.rhd_laws.proofs.HostEnds.{host_first}
-use Rattle.rhd_laws.proofs.NodeEnds.{ends_first, plan_given, given_shape, ShowsEnd, isnt_begun, is_deep, is_locked, is_missing, by_host, is_constant, has_ended, was_cut, runs_end}
+use Rattle.rhd_laws.proofs.NodeEnds.{ends_first, plan_given, given_shape, ShowsEnd, isnt_begun, is_deep, is_locked, is_rootless, is_missing, by_host, is_constant, has_ended, was_cut, runs_end}
 use Rattle.rhd_laws.proofs.TreeFaults.{cut_exactly}
 use Rattle.rhd_laws.proofs.TreeLaws.{tree_runs}
 
@@ -58,6 +58,9 @@ kept_by script (Method object args) back h = h
 end_kept : (e : EngineLists) (call : CallRequest) (pick : Pick) (back : Option Tree) → is_some back ≡ is_some (received (convention_of e.natives pick.func) (plan_of call).shape).first
     → is_some (first_at_end e (plan_of call) pick back) ≡ is_some (given call)
 end_kept e (Named name token native_only shape want pos) pick back h = kept_by (convention_of e.natives pick.func) shape back h
+end_kept e (Qualified path name (Plain args) pos) pick back h = kept_by (convention_of e.natives pick.func) (Plain args) back h
+end_kept e (Qualified path name (ByRef first args) pos) pick back h = kept_by (convention_of e.natives pick.func) (ByRef first args) back h
+end_kept e (Qualified path name (Method object args) pos) pick back h = kept_by (convention_of e.natives pick.func) (ByRef object args) back h
 
 -- a request has a first argument given exactly where it is by reference or of a method
 has_by : (shape : CallShape) → is_some (first_given shape) ≡ true → HasFirstGiven shape
@@ -94,7 +97,8 @@ module _ {H B : Type 0} (o : Objects H B) (w : World) where
   first_shown : {f : Frame} {level : ℕ} {call : CallRequest} {node : CallNode} {cut : Bool} → ShowsEnd o w f level call node cut → FirstShown call node
   first_shown (isnt_begun s) = is_kept (ap (λ (x : Seen). is_some x.end.first_after) s)
   first_shown (is_deep deep s) = is_kept (ap (λ (x : Seen). is_some x.end.first_after) s)
-  first_shown (is_locked n l place s) = is_kept (ap (λ (x : Seen). is_some x.end.first_after) s)
+  first_shown (is_locked n l unqualified place s) = is_kept (ap (λ (x : Seen). is_some x.end.first_after) s)
+  first_shown (is_rootless path l search none s) = is_kept (ap (λ (x : Seen). is_some x.end.first_after) s)
   first_shown {call = call} (is_missing l none s) = is_kept (ap (λ (x : Seen). is_some x.end.first_after) s ∙ ap is_some (plan_given call))
   first_shown {call = call} (by_host from to answer l none c asked alone says) = is_kept (ap is_some (host_first says ∙ ap (λ (k : CallRequest). (plan_of k).given) c ∙ plan_given call))
   first_shown {call = call} (is_constant own l none u first on s) = is_kept (ap (λ (x : Seen). is_some x.end.first_after) s ∙ ap is_some (plan_given call))

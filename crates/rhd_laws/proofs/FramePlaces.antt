@@ -1,63 +1,76 @@
--- What the places of a frame are: its libraries, latest first, and then the global modules.
-use Rattle.std.proofs.Common.{◌≡◌, ℕ, ◌+◌, ◌-◌, List, [], ◌∷◌, ◌++◌, length, refl, sym, ap, ◌∙◌, arith}
-use Rattle.std.specs.Prelude.{zero, suc, slice_get, reverse, Some, option_map}
+-- What the places of a frame are: its libraries, latest first, the global modules, its imports, latest first, and the static modules.
+use Rattle.std.proofs.Common.{◌≡◌, ℕ, ◌+◌, ◌-◌, List, ◌++◌, length, sym, ap, ◌∙◌, arith}
+use Rattle.std.specs.Prelude.{slice_get, Some}
 use Rattle.std.specs.List.{enumerate_from}
-use Rattle.std.proofs.lemmas.List.{length-map, length-reverse, reverse-append}
+use Rattle.std.proofs.lemmas.List.{length-append, length-map}
 use Rattle.std.proofs.lemmas.List.FromFn.{length-enumerate_from}
-use Rattle.std.proofs.lemmas.Option.{slice_get-map}
+use Rattle.rhd_value.specs.Tree.{Bytes}
 use Rattle.rhd_module.specs.Tree.{ModuleTree}
-use Rattle.rhd_call.specs.declared.pick.Layer.TheVariants.{Library, Global}
-use Rattle.rhd_engine.specs.Engine.{EngineLists, Frame}
-use Rattle.rhd_dispatch.specs.Searched.{own_place, libraries, global_modules, searched}
-use Rattle.rhd_laws.proofs.PickPlaces.{got}
+use Rattle.rhd_call.specs.declared.pick.Layer.TheVariants.{Library, Global, Import, Static}
+use Rattle.rhd_engine.specs.Engine.{EngineLists, Frame, Imports}
+use Rattle.rhd_dispatch.specs.Searched.{Place, own_place, tree_place, libraries, global_modules, import_places, static_modules, searched}
+use Rattle.rhd_laws.proofs.Numbers.{in_front, in_back, both_lengths, one_backwards, one_onwards}
 
--- Numbers in a list.
+-- How many there are.
 
-in_front : {A : Type 0} (xs ys : List A) (n : ℕ) (x : A) → slice_get xs n ≡ Some x → slice_get (xs ++ ys) n ≡ Some x
-in_front [] ys n x is = absurd cc
-in_front (a ∷ xs) ys zero x is = is
-in_front (a ∷ xs) ys (suc n) x is = in_front xs ys n x is
+as_many_libraries : (e : EngineLists) (libs : List ModuleTree) → length (libraries e libs) ≡ length libs
+as_many_libraries e libs = both_lengths (own_place e Library) libs
 
-in_back : {A : Type 0} (xs ys : List A) (n : ℕ) → slice_get (xs ++ ys) (length xs + n) ≡ slice_get ys n
-in_back [] ys n = let z : 0 + n ≡ n = omega arith in ap (slice_get ys) z
-in_back (a ∷ xs) ys n = let s : suc (length xs) + n ≡ suc (length xs + n) = omega arith in ap (slice_get (a ∷ (xs ++ ys))) s ∙ in_back xs ys n
+as_many_globals : (e : EngineLists) → length (global_modules e) ≡ length e.globals
+as_many_globals e = length-map (enumerate_from 0 e.globals) (own_place e Global) ∙ length-enumerate_from 0 e.globals
 
-at_end : {A : Type 0} (xs : List A) (x : A) → slice_get (xs ++ x ∷ []) (length xs) ≡ Some x
-at_end [] x = refl
-at_end (a ∷ xs) x = at_end xs x
+as_many_imports : (e : EngineLists) (imports : Imports) → length (import_places e imports) ≡ length imports
+as_many_imports e imports = both_lengths (tree_place e Import) imports
 
-backwards : {A : Type 0} (xs : List A) (n : ℕ) (x : A) → slice_get xs n ≡ Some x → slice_get (reverse xs) (length xs - 1 - n) ≡ Some x
-backwards [] n x is = absurd cc
-backwards (a ∷ xs) zero x is =
-    let l = length-reverse xs in
-    let s : suc (length xs) - 1 - 0 ≡ length (reverse xs) = omega (arith, l) in
-    (λ i. slice_get (reverse-append (a ∷ []) xs i) (s i)) ∙ at_end (reverse xs) a ∙ is
-backwards (a ∷ xs) (suc n) x is =
-    let s : suc (length xs) - 1 - suc n ≡ length xs - 1 - n = omega arith in
-    (λ i. slice_get (reverse-append (a ∷ []) xs i) (s i)) ∙ in_front (reverse xs) (a ∷ []) (length xs - 1 - n) x (backwards xs n x is)
+as_many_statics : (e : EngineLists) → length (static_modules e) ≡ length e.statics
+as_many_statics e = length-map (enumerate_from 0 e.statics) (tree_place e Static) ∙ length-enumerate_from 0 e.statics
 
-with_number : {A : Type 0} (k : ℕ) (xs : List A) (n : ℕ) (x : A) → slice_get xs n ≡ Some x → slice_get (enumerate_from k xs) n ≡ Some (k + n, x)
-with_number k [] n x is = absurd cc
-with_number k (a ∷ xs) zero x is = let z : k ≡ k + 0 = omega arith in (λ i. Some (z i, got a x is i))
-with_number k (a ∷ xs) (suc n) x is = let s : (k + 1) + n ≡ k + suc n = omega arith in with_number (k + 1) xs n x is ∙ (λ i. Some (s i, x))
+-- the places after the libraries, and those after the global modules
+abbrev others : EngineLists → Frame → List Place
+others e f = global_modules e ++ (import_places e f.imports ++ static_modules e)
 
-with_own : {A : Type 0} (xs : List A) (n : ℕ) (x : A) → slice_get xs n ≡ Some x → slice_get (enumerate_from 0 xs) n ≡ Some (n, x)
-with_own xs n x is = let z : 0 + n ≡ n = omega arith in with_number 0 xs n x is ∙ (λ i. Some (z i, x))
+abbrev trees : EngineLists → Frame → List Place
+trees e f = import_places e f.imports ++ static_modules e
+
+pub places_count : (e : EngineLists) (f : Frame) → length (searched e f.lib f.imports) ≡ length f.lib + length e.globals + length f.imports + length e.statics
+places_count e f =
+    omega (
+      arith,
+      length-append (libraries e f.lib) (others e f),
+      length-append (global_modules e) (trees e f),
+      length-append (import_places e f.imports) (static_modules e),
+      as_many_libraries e f.lib,
+      as_many_globals e,
+      as_many_imports e f.imports,
+      as_many_statics e,
+    )
 
 -- Places by their numbers.
 
-as_many_libraries : (e : EngineLists) (libs : List ModuleTree) → length (libraries e libs) ≡ length libs
-as_many_libraries e libs = length-map (reverse (enumerate_from 0 libs)) (own_place e Library) ∙ length-reverse (enumerate_from 0 libs) ∙ length-enumerate_from 0 libs
-
 pub library_place : (e : EngineLists) (f : Frame) (n : ℕ) (m : ModuleTree) → slice_get f.lib n ≡ Some m → slice_get (searched e f.lib f.imports) (length f.lib - 1 - n) ≡ Some (own_place e Library (n, m))
-library_place e f n m is =
-    let l = length-enumerate_from 0 f.lib in
-    let s : length f.lib - 1 - n ≡ length (enumerate_from 0 f.lib) - 1 - n = omega (arith, l) in
-    in_front (libraries e f.lib) (global_modules e) (length f.lib - 1 - n) (own_place e Library (n, m))
-    (ap (slice_get (libraries e f.lib)) s ∙ slice_get-map (own_place e Library) (reverse (enumerate_from 0 f.lib)) (length (enumerate_from 0 f.lib) - 1 - n)
-    ∙ ap (option_map (own_place e Library)) (backwards (enumerate_from 0 f.lib) n (n, m) (with_own f.lib n m is)))
+library_place e f n m is = in_front (libraries e f.lib) (others e f) (length f.lib - 1 - n) (own_place e Library (n, m)) (one_backwards (own_place e Library) f.lib n m is)
+
+-- a place after the libraries
+after_libraries : (e : EngineLists) (f : Frame) (k : ℕ) → slice_get (searched e f.lib f.imports) (length f.lib + k) ≡ slice_get (others e f) k
+after_libraries e f k = ap (λ (l : ℕ). slice_get (searched e f.lib f.imports) (l + k)) (sym (as_many_libraries e f.lib)) ∙ in_back (libraries e f.lib) (others e f) k
 
 pub global_place : (e : EngineLists) (f : Frame) (n : ℕ) (m : ModuleTree) → slice_get e.globals n ≡ Some m → slice_get (searched e f.lib f.imports) (length f.lib + n) ≡ Some (own_place e Global (n, m))
-global_place e f n m is =
-    ap (λ (k : ℕ). slice_get (searched e f.lib f.imports) (k + n)) (sym (as_many_libraries e f.lib)) ∙ in_back (libraries e f.lib) (global_modules e) n
-    ∙ slice_get-map (own_place e Global) (enumerate_from 0 e.globals) n ∙ ap (option_map (own_place e Global)) (with_own e.globals n m is)
+global_place e f n m is = after_libraries e f n ∙ in_front (global_modules e) (trees e f) n (own_place e Global (n, m)) (one_onwards (own_place e Global) e.globals n m is)
+
+-- and one after the global modules
+after_globals : (e : EngineLists) (f : Frame) (k : ℕ) → slice_get (searched e f.lib f.imports) (length f.lib + length e.globals + k) ≡ slice_get (trees e f) k
+after_globals e f k =
+    let s : length f.lib + length e.globals + k ≡ length f.lib + (length (global_modules e) + k) = omega (arith, as_many_globals e) in
+    ap (slice_get (searched e f.lib f.imports)) s ∙ after_libraries e f (length (global_modules e) + k) ∙ in_back (global_modules e) (trees e f) k
+
+pub import_place : (e : EngineLists) (f : Frame) (n : ℕ) (named : Bytes × ModuleTree) → slice_get f.imports n ≡ Some named
+    → slice_get (searched e f.lib f.imports) (length f.lib + length e.globals + (length f.imports - 1 - n)) ≡ Some (tree_place e Import (n, named))
+import_place e f n named is =
+    after_globals e f (length f.imports - 1 - n) ∙ in_front (import_places e f.imports) (static_modules e) (length f.imports - 1 - n) (tree_place e Import (n, named)) (one_backwards (tree_place e Import) f.imports n named is)
+
+pub static_place : (e : EngineLists) (f : Frame) (n : ℕ) (named : Bytes × ModuleTree) → slice_get e.statics n ≡ Some named
+    → slice_get (searched e f.lib f.imports) (length f.lib + length e.globals + length f.imports + n) ≡ Some (tree_place e Static (n, named))
+static_place e f n named is =
+    let s : length f.lib + length e.globals + length f.imports + n ≡ length f.lib + length e.globals + (length (import_places e f.imports) + n) = omega (arith, as_many_imports e f.imports) in
+    ap (slice_get (searched e f.lib f.imports)) s ∙ after_globals e f (length (import_places e f.imports) + n) ∙ in_back (import_places e f.imports) (static_modules e) n
+    ∙ one_onwards (tree_place e Static) e.statics n named is

@@ -7,14 +7,12 @@ use Rattle.rhd_value.specs.declared.fault.EvalAltResult.{EvalAltResult}
 use Rattle.rhd_value.specs.declared.fault.EvalAltResult.TheVariants.{ErrorMismatchOutputType}
 use Rattle.rhd_func.specs.declared.request.HostAnswer.{HostAnswer}
 use Rattle.rhd_func.specs.declared.request.HostAnswer.TheVariants.{Nothing, Value, Fault}
-use Rattle.rhd_func.specs.Shapes.{all_args}
-use Rattle.rhd_call.specs.End.{End, failed, refusing}
+use Rattle.rhd_call.specs.End.{End, refusing}
 use Rattle.rhd_call.specs.declared.node.Whose.TheVariants.{Host}
 use Rattle.rhd_engine.specs.Engine.{EngineLists}
 use Rattle.rhd_engine.specs.Display.{display}
 use Rattle.rhd_session.specs.Plans.{Plan}
-use Rattle.rhd_engine.specs.NotFound.{not_found}
-use Rattle.rhd_session.specs.Ends.{wanted_name, not_wanted, accepted, host_end}
+use Rattle.rhd_session.specs.Ends.{wanted_name, not_wanted, accepted, missing_end, host_end}
 use Rattle.rhd_laws.specs.Causes.{IsOfOtherKind}
 use Rattle.rhd_laws.proofs.LastSteps.{unwanted_other, other_unwanted}
 
@@ -39,7 +37,7 @@ value_tests engine plan v = value_is plan v (not_wanted engine plan.want plan.po
 
 -- the ways in which a call ends with the host's answer
 pub data HostSays (engine : EngineLists) (plan : Plan) (answer : HostAnswer) (end : End) : Type 0 where
-  says_nothing : answer ≡ Nothing → end ≡ failed plan.given (not_found engine plan.pos plan.name (all_args plan.shape)) → HostSays engine plan answer end
+  says_nothing : answer ≡ Nothing → end ≡ missing_end engine plan → HostSays engine plan answer end
   says_fault : (fault : EvalAltResult) → answer ≡ Fault fault → end ≡ fault_end plan fault → HostSays engine plan answer end
   says_other : (v : Tree) (kind : TypeTag) → answer ≡ Value v → IsOfOtherKind plan.want kind v → end ≡ refusing plan.given v (ErrorMismatchOutputType (wanted_name engine kind) (display engine v) plan.pos) → HostSays engine plan answer end
   says_value : (v : Tree) → answer ≡ Value v → end ≡ value_end plan v → HostSays engine plan answer end

@@ -1,6 +1,6 @@
 -- What the checks of a last step say, without their order.
 use Rattle.std.proofs.Common.{◌≡◌, Bool, true, false, ltb, [], ◌∷◌, refl, sym, ap, ◌∙◌, subst}
-use Rattle.std.specs.Prelude.{Option, None, Some, not, if◌then◌else◌, option_and_then, Ok, codes}
+use Rattle.std.specs.Prelude.{Option, None, Some, not, ◌||◌, if◌then◌else◌, option_and_then, Ok, codes}
 use Rattle.std.specs.Option.{option_or}
 use Rattle.std.proofs.lemmas.Bool.{lt-ltb, le-ltb, ltb-true, ltb-false}
 use Rattle.rhd_value.specs.Tree.{Bytes, Tree}
@@ -23,7 +23,7 @@ use Rattle.rhd_engine.specs.declared.limits.Limits.{Limits}
 use Rattle.rhd_call.specs.declared.node.Whose.TheVariants.{Called}
 use Rattle.rhd_call.specs.declared.pick.Pick.{Pick}
 use Rattle.rhd_engine.specs.Display.{display}
-use Rattle.rhd_session.specs.Plans.{Plan}
+use Rattle.rhd_session.specs.Plans.{is_unqualified, Plan}
 use Rattle.rhd_session.specs.Ends.{wanted_name, not_wanted, too_large, first_at_end, first_too_large, unfit, done, handed_on, end_of}
 use Rattle.rhd_session.specs.Printed.{printer, no_text, printed_text, answer_after_printing}
 use Rattle.rhd_laws.specs.Prints.{IsPrintable, Makes}
@@ -81,35 +81,38 @@ passes_tested limits pos s what (by_texts h k l w) =
 within_tested : (limits : Limits) (pos : Position) (s : Sizes) → IsWithin limits s → tested limits pos s ≡ None
 within_tested limits pos s h = λ i. sizes_fault pos (le-ltb limits.array s.array h.0 i) (le-ltb limits.map s.map h.1 i) (le-ltb limits.text s.text h.2 i)
 
--- the test of a native's first argument, by whether it is none and by that argument
-abbrev first_fault : Limits → Position → Bool → Option Tree → Option EvalAltResult
-first_fault limits pos script first = if script then None else option_and_then (too_large limits pos) first
+-- the test of a native's first argument, by whether the call is unqualified, by whether it is no native and by that argument
+abbrev first_fault : Limits → Position → Bool → Bool → Option Tree → Option EvalAltResult
+first_fault limits pos unqualified script first = if not unqualified || script then None else option_and_then (too_large limits pos) first
 
-first_passes : (engine : EngineLists) (plan : Plan) (pick : Pick) (back : Option Tree) (fault : EvalAltResult) (script : Bool) (o : Option Tree) → is_script pick.func ≡ script
-    → first_at_end engine plan pick back ≡ o → first_fault engine.limits plan.pos script o ≡ Some fault
+first_passes : (engine : EngineLists) (plan : Plan) (pick : Pick) (back : Option Tree) (fault : EvalAltResult) (unqualified script : Bool) (o : Option Tree) → is_unqualified plan.search ≡ unqualified → is_script pick.func ≡ script
+    → first_at_end engine plan pick back ≡ o → first_fault engine.limits plan.pos unqualified script o ≡ Some fault
     → (first : Tree) × HasFirst engine plan pick back first × ((what : Bytes) × Passes engine.limits (sizes_of first) what × (fault ≡ ErrorDataTooLarge what plan.pos))
-first_passes engine plan pick back fault true o is e h = absurd (none_some fault h)
-first_passes engine plan pick back fault false None is e h = absurd (none_some fault h)
-first_passes engine plan pick back fault false (Some first) is e h = (first, (is, e), tested_passes engine.limits plan.pos (sizes_of first) fault h)
+first_passes engine plan pick back fault false script o u is e h = absurd (none_some fault h)
+first_passes engine plan pick back fault true true o u is e h = absurd (none_some fault h)
+first_passes engine plan pick back fault true false None u is e h = absurd (none_some fault h)
+first_passes engine plan pick back fault true false (Some first) u is e h = (first, (u, is, e), tested_passes engine.limits plan.pos (sizes_of first) fault h)
 
-first_within : (engine : EngineLists) (plan : Plan) (pick : Pick) (back : Option Tree) (script : Bool) (o : Option Tree) → is_script pick.func ≡ script → first_at_end engine plan pick back ≡ o
-    → first_fault engine.limits plan.pos script o ≡ None
+first_within : (engine : EngineLists) (plan : Plan) (pick : Pick) (back : Option Tree) (unqualified script : Bool) (o : Option Tree) → is_unqualified plan.search ≡ unqualified → is_script pick.func ≡ script → first_at_end engine plan pick back ≡ o
+    → first_fault engine.limits plan.pos unqualified script o ≡ None
     → (first : Tree) → HasFirst engine plan pick back first → IsWithin engine.limits (sizes_of first)
-first_within engine plan pick back true o is e h first has = let q : true ≡ false = sym is ∙ has.0 in absurd cc
-first_within engine plan pick back false None is e h first has = absurd (none_some first (sym e ∙ has.1))
-first_within engine plan pick back false (Some x) is e h first has =
-    subst (λ (y : Tree). IsWithin engine.limits (sizes_of y)) (some_same first x (sym has.1 ∙ e)) (tested_within engine.limits plan.pos (sizes_of x) h)
+first_within engine plan pick back false script o u is e h first has = let q : false ≡ true = sym u ∙ has.0 in absurd cc
+first_within engine plan pick back true true o u is e h first has = let q : true ≡ false = sym is ∙ has.1 in absurd cc
+first_within engine plan pick back true false None u is e h first has = absurd (none_some first (sym e ∙ has.2))
+first_within engine plan pick back true false (Some x) u is e h first has =
+    subst (λ (y : Tree). IsWithin engine.limits (sizes_of y)) (some_same first x (sym has.2 ∙ e)) (tested_within engine.limits plan.pos (sizes_of x) h)
 
-first_fits : (engine : EngineLists) (plan : Plan) (pick : Pick) (back : Option Tree) (script : Bool) (o : Option Tree) → is_script pick.func ≡ script → first_at_end engine plan pick back ≡ o
+first_fits : (engine : EngineLists) (plan : Plan) (pick : Pick) (back : Option Tree) (unqualified script : Bool) (o : Option Tree) → is_unqualified plan.search ≡ unqualified → is_script pick.func ≡ script → first_at_end engine plan pick back ≡ o
     → ((first : Tree) → HasFirst engine plan pick back first → IsWithin engine.limits (sizes_of first))
-    → first_fault engine.limits plan.pos script o ≡ None
-first_fits engine plan pick back true o is e within = refl
-first_fits engine plan pick back false None is e within = refl
-first_fits engine plan pick back false (Some first) is e within = within_tested engine.limits plan.pos (sizes_of first) (within first (is, e))
+    → first_fault engine.limits plan.pos unqualified script o ≡ None
+first_fits engine plan pick back false script o u is e within = refl
+first_fits engine plan pick back true true o u is e within = refl
+first_fits engine plan pick back true false None u is e within = refl
+first_fits engine plan pick back true false (Some first) u is e within = within_tested engine.limits plan.pos (sizes_of first) (within first (u, is, e))
 
 first_is_large : (engine : EngineLists) (plan : Plan) (pick : Pick) (back : Option Tree) (first : Tree) (what : Bytes) → HasFirst engine plan pick back first
     → Passes engine.limits (sizes_of first) what → first_too_large engine plan pick back ≡ Some (ErrorDataTooLarge what plan.pos)
-first_is_large engine plan pick back first what has p = (λ i. first_fault engine.limits plan.pos (has.0 i) (has.1 i)) ∙ passes_tested engine.limits plan.pos (sizes_of first) what p
+first_is_large engine plan pick back first what has p = (λ i. first_fault engine.limits plan.pos (has.0 i) (has.1 i) (has.2 i)) ∙ passes_tested engine.limits plan.pos (sizes_of first) what p
 
 -- a value is unfit exactly where it or such an argument is too large
 unfit_by : (engine : EngineLists) (plan : Plan) (pick : Pick) (back : Option Tree) (v : Tree) (fault : EvalAltResult) (own : Option EvalAltResult) → too_large engine.limits plan.pos v ≡ own
@@ -123,7 +126,7 @@ unfit_by engine plan pick back v fault None is h =
     elim [
       | None ↦ (λ e k. absurd (none_some fault k))
       | Some x ↦ (λ e k.
-          let p = first_passes engine plan pick back fault (is_script pick.func) (first_at_end engine plan pick back) refl refl (e ∙ k) in
+          let p = first_passes engine plan pick back fault (is_unqualified plan.search) (is_script pick.func) (first_at_end engine plan pick back) refl refl refl (e ∙ k) in
           (p.2.0, the_first p.0 (tested_within engine.limits plan.pos (sizes_of v) is) p.1 p.2.1, p.2.2))
     ] in
     by (first_too_large engine plan pick back) refl h
@@ -137,7 +140,7 @@ fit_by : (engine : EngineLists) (plan : Plan) (pick : Pick) (back : Option Tree)
     → AreWithin engine plan pick back v
 fit_by engine plan pick back v (Some x) first is e h = absurd (some_none x h)
 fit_by engine plan pick back v None (Some x) is e h = absurd (some_none x h)
-fit_by engine plan pick back v None None is e h = (tested_within engine.limits plan.pos (sizes_of v) is, first_within engine plan pick back (is_script pick.func) (first_at_end engine plan pick back) refl refl e)
+fit_by engine plan pick back v None None is e h = (tested_within engine.limits plan.pos (sizes_of v) is, first_within engine plan pick back (is_unqualified plan.search) (is_script pick.func) (first_at_end engine plan pick back) refl refl refl e)
 
 pub fit_within : (engine : EngineLists) (plan : Plan) (pick : Pick) (back : Option Tree) (v : Tree) → unfit engine plan pick back v ≡ None → AreWithin engine plan pick back v
 fit_within engine plan pick back v h = fit_by engine plan pick back v (too_large engine.limits plan.pos v) (first_too_large engine plan pick back) refl refl h
@@ -149,7 +152,7 @@ large_unfit engine plan pick back v what (the_first first within has p) =
 
 pub within_fit : (engine : EngineLists) (plan : Plan) (pick : Pick) (back : Option Tree) (v : Tree) → AreWithin engine plan pick back v → unfit engine plan pick back v ≡ None
 within_fit engine plan pick back v h =
-    (λ i. option_or (within_tested engine.limits plan.pos (sizes_of v) h.0 i) (option_or (first_fits engine plan pick back (is_script pick.func) (first_at_end engine plan pick back) refl refl h.1 i) None))
+    (λ i. option_or (within_tested engine.limits plan.pos (sizes_of v) h.0 i) (option_or (first_fits engine plan pick back (is_unqualified plan.search) (is_script pick.func) (first_at_end engine plan pick back) refl refl refl h.1 i) None))
 
 -- the test of a kind that is wanted
 kind_tested : (e : EngineLists) (kind : TypeTag) (pos : Position) (v : Tree) → (kind ≡ tags.Dynamic → ⊥)

@@ -4,7 +4,12 @@ pub mod TreeLaws
 pub mod TreeFaults
 pub mod TreePlants
 pub mod RunTrees
+pub mod PatternOrder
+pub mod PickPlaces
+pub mod Numbers
+pub mod Roots
 pub mod Locked
+pub mod Refusals
 pub mod PrintedEnds
 pub mod LastSteps
 pub mod HostEnds
@@ -15,10 +20,9 @@ pub mod PrintedNodes
 pub mod OwnedFaults
 pub mod FirstLeft
 pub mod ReceivedPlaces
-pub mod PatternOrder
 pub mod PatternPlaces
-pub mod PickPlaces
 pub mod FramePlaces
 pub mod PickCalls
 pub mod PickAnswers
+pub mod QualifiedAnswers
 pub mod PatternCount

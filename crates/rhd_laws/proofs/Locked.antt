@@ -4,7 +4,7 @@ use Rattle.std.specs.Prelude.{◌↔◌, zero, suc, slice_get, Option, None, Som
 use Rattle.rhd_value.specs.Tree.{Tree}
 use Rattle.rhd_func.specs.declared.request.CallShape.{CallShape}
 use Rattle.rhd_func.specs.declared.request.CallShape.TheVariants.{Plain, ByRef, Method}
-use Rattle.rhd_session.specs.Decisions.{locked_from, locked_place}
+use Rattle.rhd_dispatch.specs.Races.{locked_from, locked_place}
 use Rattle.rhd_laws.specs.Causes.{args_by_value, place_by_value, IsFirstLocked}
 
 -- where the search ends with none, no value is locked

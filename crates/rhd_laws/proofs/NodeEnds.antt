@@ -1,16 +1,15 @@
 -- How each call of a tree ends.
-use Rattle.std.proofs.Common.{◌≡◌, ℕ, ◌<◌, ◌≤◌, Bool, true, false, ltb, List, [], refl, sym, ap, ◌∙◌, subst, ◌⊎◌, inl, inr, arith}
+use Rattle.std.proofs.Common.{◌≡◌, ℕ, ◌<◌, ◌≤◌, Bool, true, false, List, [], refl, sym, ap, ◌∙◌, subst, ◌⊎◌, inl, inr, arith}
 use Rattle.std.specs.Prelude.{◌↔◌, if◌then◌else◌, Option, None, Some, Err}
-use Rattle.std.proofs.lemmas.Bool.{ltb-true, ltb-false}
 use Rattle.rhd_value.specs.Tree.{Bytes, Tree}
 use Rattle.rhd_value.specs.declared.tag.Position.{Position}
 use Rattle.rhd_value.specs.declared.tag.TypeTag.{TypeTag}
 use Rattle.rhd_value.specs.declared.fault.EvalAltResult.{EvalAltResult}
-use Rattle.rhd_value.specs.declared.fault.EvalAltResult.TheVariants.{ErrorNonPureMethodCallOnConstant, ErrorDataRace, ErrorMismatchOutputType, ErrorTooManyOperations, ErrorStackOverflow, ErrorDataTooLarge}
+use Rattle.rhd_value.specs.declared.fault.EvalAltResult.TheVariants.{ErrorNonPureMethodCallOnConstant, ErrorDataRace, ErrorMismatchOutputType, ErrorTooManyOperations, ErrorStackOverflow, ErrorDataTooLarge, ErrorModuleNotFound}
 use Rattle.rhd_func.specs.declared.func.RhaiFunc.{RhaiFunc}
 use Rattle.rhd_func.specs.declared.request.Carry.{Carry}
 use Rattle.rhd_func.specs.declared.request.CallRequest.{CallRequest}
-use Rattle.rhd_func.specs.declared.request.CallRequest.TheVariants.{Named}
+use Rattle.rhd_func.specs.declared.request.CallRequest.TheVariants.{Named, Qualified}
 use Rattle.rhd_func.specs.declared.request.CallShape.{CallShape}
 use Rattle.rhd_func.specs.declared.request.CallShape.TheVariants.{Plain, ByRef, Method}
 use Rattle.rhd_func.specs.declared.request.NativeStep.{NativeStep}
@@ -19,19 +18,20 @@ use Rattle.rhd_func.specs.Funcs.{is_method, is_script}
 use Rattle.rhd_func.specs.GivenBack.{back_of}
 use Rattle.rhd_func.specs.declared.request.HostAnswer.{HostAnswer}
 use Rattle.rhd_func.specs.declared.request.HostAnswer.TheVariants.{Value}
-use Rattle.rhd_func.specs.Shapes.{all_args, first_given, given, pos_of}
+use Rattle.rhd_func.specs.Shapes.{first_given, given, pos_of}
 use Rattle.rhd_engine.specs.Engine.{EngineLists, Frame}
 use Rattle.rhd_session.specs.World.{World, Objects, Moment}
-use Rattle.rhd_call.specs.End.{End, failed, refusing}
+use Rattle.rhd_call.specs.End.{End, refusing}
 use Rattle.rhd_call.specs.declared.node.CallNode.{CallNode}
 use Rattle.rhd_call.specs.declared.node.Whose.TheVariants.{Call, Called, Host}
 use Rattle.rhd_call.specs.declared.pick.Pick.{Pick}
 use Rattle.rhd_engine.specs.Display.{display}
-use Rattle.rhd_session.specs.Plans.{Plan, plan_of}
+use Rattle.rhd_session.specs.Plans.{is_unqualified, in_module, Plan, plan_of}
 use Rattle.rhd_session.specs.Received.{Convention, native_method, convention_of, has_the_given}
-use Rattle.rhd_engine.specs.NotFound.{not_found}
+use Rattle.rhd_dispatch.specs.Picks.{root_of}
+use Rattle.rhd_dispatch.specs.Races.{locked_place}
 use Rattle.rhd_session.specs.Ends.{wanted_name, first_at_end, end_of, missing_end}
-use Rattle.rhd_session.specs.Decisions.{locked_place, refusal, constant_end}
+use Rattle.rhd_session.specs.Decisions.{refusal, constant_end}
 use Rattle.rhd_session.specs.Decisions as decisions
 use Rattle.rhd_laws.specs.FirstAsks.{EndsAlone, is_refused, isnt_found, on_constant, IsAnsweredFirst, IsOnConstant}
 use Rattle.rhd_laws.specs.Causes.{IsOwn, IsForNoConstant, IsFirstLocked, NamesLocked, AreWithin, IsTooLarge, IsOfOtherKind, IsMismatch, EndsWith, RefusesKind, RefusesSize, RefusesHosts, RefusesValue, for_kind, for_size, for_host, ShowsGivenBack}
@@ -41,31 +41,26 @@ use Rattle.rhd_laws.specs.Hosts.{HostEnds}
 use Rattle.rhd_call.specs.Seen.{Seen, seen, begun_node, unbegun_node, cut_end}
 use Rattle.rhd_session.specs.Steps.{Starts}
 use Rattle.rhd_session.specs.Runs.{Runs, not_begun, ended, host_answered, finished, cut_short, Steps, received_by}
-use Rattle.rhd_session.proofs.Found.{plan_pos, deep_end, locked_end, refused_where, refusal_is}
+use Rattle.rhd_session.proofs.Found.{plan_pos, deep_end, locked_end, rootless_end, own_refusal}
 use Rattle.rhd_laws.proofs.FirstAnswered.{ends_missing, runs_first, asks_first, first_constant, asks_no_pick, host_ends}
 use Rattle.rhd_laws.proofs.UnfoundRows.{missing_number}
 use Rattle.rhd_laws.proofs.HostEnds.{HostSays, says_nothing, says_fault, says_other, says_value, host_says, host_other, host_first}
 use Rattle.rhd_laws.proofs.LastSteps.{EndsBy, fails, is_large, is_other, fits, ends_by, large_ends, other_ends}
 use Rattle.rhd_laws.proofs.Locked.{place_first, first_place}
+use Rattle.rhd_laws.proofs.Refusals.{Refused, for_level, for_lock, for_path, refused, unrefused, not_both_searches, none_locked, none_rootless}
+use Rattle.rhd_laws.proofs.Roots.{no_root, root_none}
+use Rattle.rhd_laws.specs.Roots.{HasNoRoot, NamesNoRoot}
 use Rattle.rhd_laws.proofs.Conventions.{method_no_script, native_convention, script_convention}
-
--- a call is refused for its level, or else for a locked argument
-pub refused_parts : (call : CallRequest) (limit level : ℕ) (deep : Bool) (locked : Option ℕ) (end : End) → ltb limit level ≡ deep → refused_where call deep locked ≡ Some end
-    → ((limit < level) × (end ≡ deep_end call)) ⊎ ((level ≤ limit) × (n : ℕ) × (locked ≡ Some n) × (end ≡ locked_end call n))
-refused_parts call limit level true locked end e h = inl (ltb-true limit level e, cc)
-refused_parts call limit level false (Some n) end e h = inr (ltb-false limit level e, n, refl, cc)
-refused_parts call limit level false None end e h = absurd cc
-
-unrefused_parts : (call : CallRequest) (limit level : ℕ) (deep : Bool) (locked : Option ℕ) → ltb limit level ≡ deep → refused_where call deep locked ≡ None → (level ≤ limit) × (locked ≡ None)
-unrefused_parts call limit level true locked e h = absurd cc
-unrefused_parts call limit level false (Some n) e h = absurd cc
-unrefused_parts call limit level false None e h = (ltb-false limit level e, refl)
 
 pub plan_given : (call : CallRequest) → (plan_of call).given ≡ given call
 plan_given (Named name token native_only shape want pos) = refl
+plan_given (Qualified path name shape pos) = refl
 
 pub given_shape : (call : CallRequest) → first_given (plan_of call).shape ≡ given call
 given_shape (Named name token native_only shape want pos) = refl
+given_shape (Qualified path name (Plain args) pos) = refl
+given_shape (Qualified path name (ByRef first args) pos) = refl
+given_shape (Qualified path name (Method object args) pos) = refl
 
 -- what of its first argument a function has itself
 method_has : (shape : CallShape) (first : Tree) → first_given shape ≡ Some first → has_the_given native_method shape ≡ true
@@ -105,10 +100,10 @@ same_overflow h = cc
 pub no_fault : {fault own : EvalAltResult} (end : End) → end.answer ≡ Err own → end.answer ≡ Err fault → (number fault ≡ number own → ⊥) → ⊥
 no_fault end e h n = n (ap number (not_own end e h))
 
-pub no_unfound : (e : EngineLists) (plan : Plan) {fault : EvalAltResult} (end : End) → end ≡ failed plan.given (not_found e plan.pos plan.name (all_args plan.shape)) → IsOwn end fault → (number fault ≤ 4 → ⊥) → ⊥
+pub no_unfound : (e : EngineLists) (plan : Plan) {fault : EvalAltResult} (end : End) → end ≡ missing_end e plan → IsOwn end fault → (number fault ≤ 4 → ⊥) → ⊥
 no_unfound e plan {fault} end k h n =
     let q = ap number (not_own end (ap (λ (x : End). x.answer) k) h.1) in
-    n (omega (arith, q, missing_number e plan.pos plan.name (all_args plan.shape)))
+    n (omega (arith, q, missing_number e plan plan.search))
 
 no_missing : (e : EngineLists) (call : CallRequest) {fault : EvalAltResult} (end : End) → end ≡ missing_end e (plan_of call) → IsOwn end fault → (number fault ≤ 4 → ⊥) → ⊥
 no_missing e call end k h n = no_unfound e (plan_of call) end k h n
@@ -176,20 +171,17 @@ module _ {H B : Type 0} (o : Objects H B) (w : World) where
   pub data ShowsEnd (f : Frame) (level : ℕ) (call : CallRequest) (node : CallNode) (cut : Bool) : Type 0 where
     isnt_begun : seen node ≡ unbegun_node call level → ShowsEnd f level call node cut
     is_deep : w.engine.limits.level < level → seen node ≡ begun_node call level None [] [] (deep_end call) → ShowsEnd f level call node cut
-    is_locked : (n : ℕ) → level ≤ w.engine.limits.level → locked_place (plan_of call).shape ≡ Some n → seen node ≡ begun_node call level None [] [] (locked_end call n) → ShowsEnd f level call node cut
-    is_missing : level ≤ w.engine.limits.level → locked_place (plan_of call).shape ≡ None → seen node ≡ begun_node call level None [] [] (missing_end w.engine (plan_of call)) → ShowsEnd f level call node cut
-    by_host : (from to : H) (answer : HostAnswer) → level ≤ w.engine.limits.level → locked_place (plan_of call).shape ≡ None → (seen node).call ≡ call
+    is_locked : (n : ℕ) → level ≤ w.engine.limits.level → is_unqualified (plan_of call).search ≡ true → locked_place (plan_of call).shape ≡ Some n → seen node ≡ begun_node call level None [] [] (locked_end call n) → ShowsEnd f level call node cut
+    is_rootless : (path : List Bytes) → level ≤ w.engine.limits.level → (plan_of call).search ≡ in_module path → root_of w.engine f.imports path ≡ None → seen node ≡ begun_node call level None [] [] (rootless_end call path) → ShowsEnd f level call node cut
+    is_missing : level ≤ w.engine.limits.level → own_refusal w.engine f call ≡ None → seen node ≡ begun_node call level None [] [] (missing_end w.engine (plan_of call)) → ShowsEnd f level call node cut
+    by_host : (from to : H) (answer : HostAnswer) → level ≤ w.engine.limits.level → own_refusal w.engine f call ≡ None → (seen node).call ≡ call
         → HostEnds o w.engine (seen node).call from answer to (seen node).end → (seen node).pick ≡ None → HostSays w.engine (plan_of (seen node).call) answer (seen node).end
         → ShowsEnd f level call node cut
-    is_constant : (own : Pick) → level ≤ w.engine.limits.level → locked_place (plan_of call).shape ≡ None → refusal w.engine f level call ≡ None → IsAnsweredFirst w.engine f call own
+    is_constant : (own : Pick) → level ≤ w.engine.limits.level → own_refusal w.engine f call ≡ None → refusal w.engine f level call ≡ None → IsAnsweredFirst w.engine f call own
         → IsOnConstant w.engine (plan_of call) own → seen node ≡ begun_node call level (Some own) [] [] (constant_end (plan_of call)) → ShowsEnd f level call node cut
-    has_ended : (pick : Pick) (last : NativeStep) → level ≤ w.engine.limits.level → locked_place (plan_of call).shape ≡ None → (seen node).call ≡ call → EndsWith o w f (seen node) pick last
+    has_ended : (pick : Pick) (last : NativeStep) → level ≤ w.engine.limits.level → own_refusal w.engine f call ≡ None → (seen node).call ≡ call → EndsWith o w f (seen node) pick last
         → EndsBy w.engine (plan_of (seen node).call) pick last (seen node).end → ShowsEnd f level call node cut
-    was_cut : (pick : Pick) → cut ≡ true → level ≤ w.engine.limits.level → locked_place (plan_of call).shape ≡ None → (seen node).begun ≡ true → (seen node).pick ≡ Some pick → (seen node).end ≡ cut_end call → ShowsEnd f level call node cut
-
-  -- nothing refuses a call whose function runs
-  unrefused : (f : Frame) (level : ℕ) (call : CallRequest) → refusal w.engine f level call ≡ None → (level ≤ w.engine.limits.level) × (locked_place (plan_of call).shape ≡ None)
-  unrefused f level call h = unrefused_parts call w.engine.limits.level level (ltb w.engine.limits.level level) (locked_place (plan_of call).shape) refl (sym (refusal_is w.engine f level call) ∙ h)
+    was_cut : (pick : Pick) → cut ≡ true → level ≤ w.engine.limits.level → own_refusal w.engine f call ≡ None → (seen node).begun ≡ true → (seen node).pick ≡ Some pick → (seen node).end ≡ cut_end call → ShowsEnd f level call node cut
 
   ended_by : (f : Frame) (level : ℕ) (call : CallRequest) (node : CallNode) (plan : Plan) (pick : Pick) (first last : NativeStep) (carries : List Carry) (children : List CallNode) (end : End) (from to till : Moment H B) →
       plan ≡ plan_of call → seen node ≡ begun_node call level (Some pick) carries children end →
@@ -209,19 +201,18 @@ module _ {H B : Type 0} (o : Objects H B) (w : World) where
         ends = subst (λ (p : Plan). end_of w.engine p pick last ≡ Some end) is e;
       })
 
+  refused_by : (f : Frame) (level : ℕ) (call : CallRequest) (node : CallNode) (cut : Bool) (pick : Option Pick) (end : End) → pick ≡ None → seen node ≡ begun_node call level pick [] [] end → Refused w.engine f level call end → ShowsEnd f level call node cut
+  refused_by f level call node cut pick end none s (for_level deep e) = is_deep deep (s ∙ (λ i. begun_node call level (none i) [] [] (e i)))
+  refused_by f level call node cut pick end none s (for_lock n l unqualified place e) = is_locked n l unqualified place (s ∙ (λ i. begun_node call level (none i) [] [] (e i)))
+  refused_by f level call node cut pick end none s (for_path path l search root e) = is_rootless path l search root (s ∙ (λ i. begun_node call level (none i) [] [] (e i)))
+
   alone_by : (f : Frame) (level : ℕ) (call : CallRequest) (node : CallNode) (cut : Bool) (pick : Option Pick) (end : End) → EndsAlone w.engine f level call pick end
       → seen node ≡ begun_node call level pick [] [] end → ShowsEnd f level call node cut
-  alone_by f level call node cut pick end (is_refused none refused) s =
-      let by : ((w.engine.limits.level < level) × (end ≡ deep_end call)) ⊎ ((level ≤ w.engine.limits.level) × (n : ℕ) × (locked_place (plan_of call).shape ≡ Some n) × (end ≡ locked_end call n)) → ShowsEnd f level call node cut =
-      elim [
-        | inl deep ↦ is_deep deep.0 (s ∙ (λ i. begun_node call level (none i) [] [] (deep.1 i)))
-        | inr locked ↦ is_locked locked.1 locked.0 locked.2 (s ∙ (λ i. begun_node call level (none i) [] [] (locked.3 i)))
-      ] in
-      by (refused_parts call w.engine.limits.level level (ltb w.engine.limits.level level) (locked_place (plan_of call).shape) end refl (sym (refusal_is w.engine f level call) ∙ refused))
+  alone_by f level call node cut pick end (is_refused none u) s = refused_by f level call node cut pick end none s (refused w.engine f level call end u)
   alone_by f level call node cut pick end (isnt_found none unrefused_is only missing un) s =
-      let u = unrefused f level call unrefused_is in is_missing u.0 u.1 (s ∙ (λ i. begun_node call level (none i) [] [] (missing i)))
+      let u = unrefused w.engine f level call unrefused_is in is_missing u.0 u.1 (s ∙ (λ i. begun_node call level (none i) [] [] (missing i)))
   alone_by f level call node cut pick end (on_constant own some unrefused_is first on constant) s =
-      let u = unrefused f level call unrefused_is in is_constant own u.0 u.1 unrefused_is first on (s ∙ (λ i. begun_node call level (some i) [] [] (constant i)))
+      let u = unrefused w.engine f level call unrefused_is in is_constant own u.0 u.1 unrefused_is first on (s ∙ (λ i. begun_node call level (some i) [] [] (constant i)))
 
   pub runs_end : {f : Frame} {level : ℕ} {call : CallRequest} {node : CallNode} {before after : Moment H B} {cut : Bool} → Runs o w f level call node before after cut → ShowsEnd f level call node cut
   runs_end (not_begun b s) = isnt_begun s
@@ -229,18 +220,18 @@ module _ {H B : Type 0} (o : Objects H B) (w : World) where
       alone_by f level call node false pick end (ends_missing w.engine f level call pick end d) s
   runs_end (host_answered {f = f} {level = level} {call = call} {node = node} {before = before} {plan = plan} {answer = answer} {host = host} b d a s) =
       let r = asks_first w.engine f level call plan d in
-      let u = unrefused f level call r.1.unrefused in
+      let u = unrefused w.engine f level call r.1.unrefused in
       let own : plan ≡ plan_of (seen node).call = r.0 ∙ ap plan_of (sym (ap (λ (x : Seen). x.call) s)) in
       let ended' = host_ends o w.engine (seen node).call plan before.host answer host own a (ap (λ (x : Seen). x.end) s) in
       by_host before.host host answer u.0 u.1 (ap (λ (x : Seen). x.call) s) ended' (ap (λ (x : Seen). x.pick) s) (host_says w.engine (plan_of (seen node).call) answer (seen node).end ended'.ends)
   runs_end (finished {f = f} {level = level} {call = call} {node = node} {before = before} {started = started} {after = after} {plan = plan} {pick = pick} {first = first} {last = last} {carries = carries} {children = children} {end = end} b d starts steps e s) =
       let r = runs_first w.engine f level call plan pick d in
-      let u = unrefused f level call r.0 in
+      let u = unrefused w.engine f level call r.0 in
       has_ended pick last u.0 u.1 (ap (λ (x : Seen). x.call) s) (ended_by f level call node plan pick first last carries children end _ started after r.1 s starts steps e)
       (subst (λ (p : Plan). EndsBy w.engine p pick last (seen node).end) (r.1 ∙ ap plan_of (sym (ap (λ (x : Seen). x.call) s)))
       (subst (λ (x : End). EndsBy w.engine plan pick last x) (sym (ap (λ (x : Seen). x.end) s)) (ends_by w.engine plan pick last end e)))
   runs_end (cut_short {f = f} {level = level} {call = call} {plan = plan} {pick = pick} b d starts steps r s) =
-      let u = unrefused f level call (runs_first w.engine f level call plan pick d).0 in
+      let u = unrefused w.engine f level call (runs_first w.engine f level call plan pick d).0 in
       was_cut pick refl u.0 u.1 (ap (λ (x : Seen). x.begun) s) (ap (λ (x : Seen). x.pick) s) (ap (λ (x : Seen). x.end) s)
 
   -- no last step ends a call with a fault of its own but for its kind or size
@@ -254,7 +245,8 @@ module _ {H B : Type 0} (o : Objects H B) (w : World) where
       → (level ≤ w.engine.limits.level) × NamesLocked call (ErrorDataRace text pos)
   race_only text pos (isnt_begun s) begun h = let q : false ≡ true = sym (ap (λ (x : Seen). x.begun) s) ∙ begun in absurd cc
   race_only {node = node} text pos (is_deep deep s) begun h = absurd (no_fault (seen node).end (ap (λ (x : Seen). x.end.answer) s) h.1 (λ q. absurd (omega (arith, q))))
-  race_only {call = call} {node = node} text pos (is_locked n l place s) begun h = (l, (n, place_first (plan_of call).shape n place, not_own (seen node).end (ap (λ (x : Seen). x.end.answer) s) h.1))
+  race_only {call = call} {node = node} text pos (is_locked n l unqualified place s) begun h = (l, (unqualified, n, place_first (plan_of call).shape n place, not_own (seen node).end (ap (λ (x : Seen). x.end.answer) s) h.1))
+  race_only {node = node} text pos (is_rootless path l search none s) begun h = absurd (no_fault (seen node).end (ap (λ (x : Seen). x.end.answer) s) h.1 (λ q. absurd (omega (arith, q))))
   race_only {call = call} {node = node} text pos (is_missing l none s) begun h = absurd (no_missing w.engine call (seen node).end (ap (λ (x : Seen). x.end) s) h (λ q. absurd (omega (arith, q))))
   race_only {node = node} text pos (by_host from to answer l none c asked alone says) begun h = absurd (no_host (seen node).end says h (λ q. absurd (omega (arith, q))) (λ q. absurd (omega (arith, q))))
   race_only {node = node} text pos (is_constant own l none u first on s) begun h = absurd (no_fault (seen node).end (ap (λ (x : Seen). x.end.answer) s) h.1 (λ q. absurd (omega (arith, q))))
@@ -264,30 +256,71 @@ module _ {H B : Type 0} (o : Objects H B) (w : World) where
       in absurd (no (own_last (seen node).end (ErrorDataRace text pos) by h))
   race_only {node = node} text pos (was_cut pick c l none begun' shown e) begun h = absurd (no_fault (seen node).end (ap (λ (x : End). x.answer) e) h.1 (λ q. absurd (omega (arith, q))))
 
-  pub race_shown : {f : Frame} {level : ℕ} {call : CallRequest} {node : CallNode} {cut : Bool} (n : ℕ) → ShowsEnd f level call node cut → (seen node).begun ≡ true → level ≤ w.engine.limits.level → IsFirstLocked (plan_of call).shape n
+  pub race_shown : {f : Frame} {level : ℕ} {call : CallRequest} {node : CallNode} {cut : Bool} (n : ℕ) → ShowsEnd f level call node cut → (seen node).begun ≡ true → level ≤ w.engine.limits.level
+      → is_unqualified (plan_of call).search ≡ true → IsFirstLocked (plan_of call).shape n
       → seen node ≡ begun_node call level None [] [] (locked_end call n)
-  race_shown n (isnt_begun s) begun l first = let q : false ≡ true = sym (ap (λ (x : Seen). x.begun) s) ∙ begun in absurd cc
-  race_shown n (is_deep deep s) begun l first = absurd (omega arith)
-  race_shown {level = level} {call = call} n (is_locked m l' place s) begun l first =
+  race_shown n (isnt_begun s) begun l unqualified first = let q : false ≡ true = sym (ap (λ (x : Seen). x.begun) s) ∙ begun in absurd cc
+  race_shown n (is_deep deep s) begun l unqualified first = absurd (omega arith)
+  race_shown {level = level} {call = call} n (is_locked m l' u place s) begun l unqualified first =
       let q : Some m ≡ Some n = sym place ∙ first_place (plan_of call).shape n first in
       let same : m ≡ n = cc in
       s ∙ ap (λ (k : ℕ). begun_node call level None [] [] (locked_end call k)) same
-  race_shown {call = call} n (is_missing l' none s) begun l first = let q : None ≡ Some n = sym none ∙ first_place (plan_of call).shape n first in absurd cc
-  race_shown {call = call} n (by_host from to answer l' none c asked alone says) begun l first = let q : None ≡ Some n = sym none ∙ first_place (plan_of call).shape n first in absurd cc
-  race_shown {call = call} n (is_constant own l' none u found on s) begun l first = let q : None ≡ Some n = sym none ∙ first_place (plan_of call).shape n first in absurd cc
-  race_shown {call = call} n (has_ended pick last l' none c came by) begun l first = let q : None ≡ Some n = sym none ∙ first_place (plan_of call).shape n first in absurd cc
-  race_shown {call = call} n (was_cut pick c l' none begun' shown e) begun l first = let q : None ≡ Some n = sym none ∙ first_place (plan_of call).shape n first in absurd cc
+  race_shown {call = call} n (is_rootless path l' search none s) begun l unqualified first = absurd (not_both_searches call path search unqualified)
+  race_shown {f} {call = call} n (is_missing l' none s) begun l unqualified first = absurd (none_locked w.engine f call n none unqualified (first_place (plan_of call).shape n first))
+  race_shown {f} {call = call} n (by_host from to answer l' none c asked alone says) begun l unqualified first = absurd (none_locked w.engine f call n none unqualified (first_place (plan_of call).shape n first))
+  race_shown {f} {call = call} n (is_constant own l' none u found on s) begun l unqualified first = absurd (none_locked w.engine f call n none unqualified (first_place (plan_of call).shape n first))
+  race_shown {f} {call = call} n (has_ended pick last l' none c came by) begun l unqualified first = absurd (none_locked w.engine f call n none unqualified (first_place (plan_of call).shape n first))
+  race_shown {f} {call = call} n (was_cut pick c l' none begun' shown e) begun l unqualified first = absurd (none_locked w.engine f call n none unqualified (first_place (plan_of call).shape n first))
 
   race_back : {f : Frame} {level : ℕ} {call : CallRequest} {node : CallNode} {cut : Bool} (text : Bytes) (pos : Position) → ShowsEnd f level call node cut → (seen node).begun ≡ true
       → (level ≤ w.engine.limits.level) × NamesLocked call (ErrorDataRace text pos)
       → IsOwn (seen node).end (ErrorDataRace text pos)
   race_back text pos ends begun h =
-      let s = race_shown h.1.0 ends begun h.0 h.1.1 in
-      (ap (λ (x : Seen). x.end.whose) s, ap (λ (x : Seen). x.end.answer) s ∙ ap Err (sym h.1.2))
+      let s = race_shown h.1.1 ends begun h.0 h.1.0 h.1.2 in
+      (ap (λ (x : Seen). x.end.whose) s, ap (λ (x : Seen). x.end.answer) s ∙ ap Err (sym h.1.3))
 
   pub race_exactly : {f : Frame} {level : ℕ} {call : CallRequest} {node : CallNode} {cut : Bool} (text : Bytes) (pos : Position) → ShowsEnd f level call node cut → (seen node).begun ≡ true
       → IsOwn (seen node).end (ErrorDataRace text pos) ↔ ((level ≤ w.engine.limits.level) × NamesLocked call (ErrorDataRace text pos))
   race_exactly text pos ends begun = (race_only text pos ends begun, race_back text pos ends begun)
+
+  -- fault 12
+  rootless_only : {f : Frame} {level : ℕ} {call : CallRequest} {node : CallNode} {cut : Bool} (text : Bytes) (pos : Position) → ShowsEnd f level call node cut → (seen node).begun ≡ true
+      → IsOwn (seen node).end (ErrorModuleNotFound text pos) → (level ≤ w.engine.limits.level) × NamesNoRoot w.engine f call (ErrorModuleNotFound text pos)
+  rootless_only text pos (isnt_begun s) begun h = let q : false ≡ true = sym (ap (λ (x : Seen). x.begun) s) ∙ begun in absurd cc
+  rootless_only {node = node} text pos (is_deep deep s) begun h = absurd (no_fault (seen node).end (ap (λ (x : Seen). x.end.answer) s) h.1 (λ q. absurd (omega (arith, q))))
+  rootless_only {node = node} text pos (is_locked n l unqualified place s) begun h = absurd (no_fault (seen node).end (ap (λ (x : Seen). x.end.answer) s) h.1 (λ q. absurd (omega (arith, q))))
+  rootless_only {f} {node = node} text pos (is_rootless path l search none s) begun h = (l, (path, search, no_root w.engine f path none, not_own (seen node).end (ap (λ (x : Seen). x.end.answer) s) h.1))
+  rootless_only {call = call} {node = node} text pos (is_missing l none s) begun h = absurd (no_missing w.engine call (seen node).end (ap (λ (x : Seen). x.end) s) h (λ q. absurd (omega (arith, q))))
+  rootless_only {node = node} text pos (by_host from to answer l none c asked alone says) begun h = absurd (no_host (seen node).end says h (λ q. absurd (omega (arith, q))) (λ q. absurd (omega (arith, q))))
+  rootless_only {node = node} text pos (is_constant own l none u first on s) begun h = absurd (no_fault (seen node).end (ap (λ (x : Seen). x.end.answer) s) h.1 (λ q. absurd (omega (arith, q))))
+  rootless_only {node = node} text pos (has_ended pick last l none c came by) begun h = absurd (no_other (seen node).end (ErrorModuleNotFound text pos) by (λ q. absurd (omega (arith, q))) (λ q. absurd (omega (arith, q))) h)
+  rootless_only {node = node} text pos (was_cut pick c l none begun' shown e) begun h = absurd (no_fault (seen node).end (ap (λ (x : End). x.answer) e) h.1 (λ q. absurd (omega (arith, q))))
+
+  same_search : (call : CallRequest) (path own : List Bytes) → (plan_of call).search ≡ in_module own → (plan_of call).search ≡ in_module path → own ≡ path
+  same_search call path own a b = let q : in_module own ≡ in_module path = sym a ∙ b in cc
+
+  pub rootless_shown : {f : Frame} {level : ℕ} {call : CallRequest} {node : CallNode} {cut : Bool} (path : List Bytes) → ShowsEnd f level call node cut → (seen node).begun ≡ true → level ≤ w.engine.limits.level
+      → (plan_of call).search ≡ in_module path → HasNoRoot w.engine f path
+      → seen node ≡ begun_node call level None [] [] (rootless_end call path)
+  rootless_shown path (isnt_begun s) begun l search root = let q : false ≡ true = sym (ap (λ (x : Seen). x.begun) s) ∙ begun in absurd cc
+  rootless_shown path (is_deep deep s) begun l search root = absurd (omega arith)
+  rootless_shown {call = call} path (is_locked n l' unqualified place s) begun l search root = absurd (not_both_searches call path search unqualified)
+  rootless_shown {level = level} {call = call} path (is_rootless own l' is none s) begun l search root = s ∙ ap (λ (x : List Bytes). begun_node call level None [] [] (rootless_end call x)) (same_search call path own is search)
+  rootless_shown {f} {call = call} path (is_missing l' none s) begun l search root = absurd (none_rootless w.engine f call path none search (root_none w.engine f path root))
+  rootless_shown {f} {call = call} path (by_host from to answer l' none c asked alone says) begun l search root = absurd (none_rootless w.engine f call path none search (root_none w.engine f path root))
+  rootless_shown {f} {call = call} path (is_constant own l' none u found on s) begun l search root = absurd (none_rootless w.engine f call path none search (root_none w.engine f path root))
+  rootless_shown {f} {call = call} path (has_ended pick last l' none c came by) begun l search root = absurd (none_rootless w.engine f call path none search (root_none w.engine f path root))
+  rootless_shown {f} {call = call} path (was_cut pick c l' none begun' shown e) begun l search root = absurd (none_rootless w.engine f call path none search (root_none w.engine f path root))
+
+  rootless_back : {f : Frame} {level : ℕ} {call : CallRequest} {node : CallNode} {cut : Bool} (text : Bytes) (pos : Position) → ShowsEnd f level call node cut → (seen node).begun ≡ true
+      → (level ≤ w.engine.limits.level) × NamesNoRoot w.engine f call (ErrorModuleNotFound text pos) → IsOwn (seen node).end (ErrorModuleNotFound text pos)
+  rootless_back text pos ends begun h =
+      let s = rootless_shown h.1.0 ends begun h.0 h.1.1 h.1.2 in
+      (ap (λ (x : Seen). x.end.whose) s, ap (λ (x : Seen). x.end.answer) s ∙ ap Err (sym h.1.3))
+
+  pub rootless_exactly : {f : Frame} {level : ℕ} {call : CallRequest} {node : CallNode} {cut : Bool} (text : Bytes) (pos : Position) → ShowsEnd f level call node cut → (seen node).begun ≡ true
+      → IsOwn (seen node).end (ErrorModuleNotFound text pos) ↔ ((level ≤ w.engine.limits.level) × NamesNoRoot w.engine f call (ErrorModuleNotFound text pos))
+  rootless_exactly text pos ends begun = (rootless_only text pos ends begun, rootless_back text pos ends begun)
 
   -- fault 5
   pub constant_only : {f : Frame} {level : ℕ} {call : CallRequest} {node : CallNode} {cut : Bool} (name : Bytes) (pos : Position) → ShowsEnd f level call node cut → (seen node).begun ≡ true
@@ -295,7 +328,8 @@ module _ {H B : Type 0} (o : Objects H B) (w : World) where
       → IsForNoConstant w.engine f level call (ErrorNonPureMethodCallOnConstant name pos)
   constant_only name pos (isnt_begun s) begun h = let q : false ≡ true = sym (ap (λ (x : Seen). x.begun) s) ∙ begun in absurd cc
   constant_only {node = node} name pos (is_deep deep s) begun h = absurd (no_fault (seen node).end (ap (λ (x : Seen). x.end.answer) s) h.1 (λ q. absurd (omega (arith, q))))
-  constant_only {node = node} name pos (is_locked n l place s) begun h = absurd (no_fault (seen node).end (ap (λ (x : Seen). x.end.answer) s) h.1 (λ q. absurd (omega (arith, q))))
+  constant_only {node = node} name pos (is_locked n l unqualified place s) begun h = absurd (no_fault (seen node).end (ap (λ (x : Seen). x.end.answer) s) h.1 (λ q. absurd (omega (arith, q))))
+  constant_only {node = node} name pos (is_rootless path l search none s) begun h = absurd (no_fault (seen node).end (ap (λ (x : Seen). x.end.answer) s) h.1 (λ q. absurd (omega (arith, q))))
   constant_only {call = call} {node = node} name pos (is_missing l none s) begun h = absurd (no_missing w.engine call (seen node).end (ap (λ (x : Seen). x.end) s) h (λ q. absurd (omega (arith, q))))
   constant_only {node = node} name pos (by_host from to answer l none c asked alone says) begun h = absurd (no_host (seen node).end says h (λ q. absurd (omega (arith, q))) (λ q. absurd (omega (arith, q))))
   constant_only {node = node} name pos (is_constant own l none u first on s) begun h = record { pick = own; unrefused = u; first = first; on = on; says = not_own (seen node).end (ap (λ (x : Seen). x.end.answer) s) h.1 }
@@ -399,7 +433,8 @@ module _ {H B : Type 0} (o : Objects H B) (w : World) where
       → RefusesKind o w f (seen node) (ErrorMismatchOutputType wanted got pos) ⊎ RefusesHosts o w.engine (seen node) (ErrorMismatchOutputType wanted got pos)
   kind_only {node = node} wanted got pos (isnt_begun s) h = absurd (no_fault (seen node).end (ap (λ (x : Seen). x.end.answer) s) h.1 (λ q. absurd (omega (arith, q))))
   kind_only {node = node} wanted got pos (is_deep deep s) h = absurd (no_fault (seen node).end (ap (λ (x : Seen). x.end.answer) s) h.1 (λ q. absurd (omega (arith, q))))
-  kind_only {node = node} wanted got pos (is_locked n l place s) h = absurd (no_fault (seen node).end (ap (λ (x : Seen). x.end.answer) s) h.1 (λ q. absurd (omega (arith, q))))
+  kind_only {node = node} wanted got pos (is_locked n l unqualified place s) h = absurd (no_fault (seen node).end (ap (λ (x : Seen). x.end.answer) s) h.1 (λ q. absurd (omega (arith, q))))
+  kind_only {node = node} wanted got pos (is_rootless path l search none s) h = absurd (no_fault (seen node).end (ap (λ (x : Seen). x.end.answer) s) h.1 (λ q. absurd (omega (arith, q))))
   kind_only {call = call} {node = node} wanted got pos (is_missing l none s) h = absurd (no_missing w.engine call (seen node).end (ap (λ (x : Seen). x.end) s) h (λ q. absurd (omega (arith, q))))
   kind_only {node = node} wanted got pos (by_host from to answer l none c asked alone says) h = inr (hosts_kind node asked alone says h (λ q. absurd (omega (arith, q))))
   kind_only {node = node} wanted got pos (is_constant own l none u first on s) h = absurd (no_fault (seen node).end (ap (λ (x : Seen). x.end.answer) s) h.1 (λ q. absurd (omega (arith, q))))
@@ -431,7 +466,8 @@ module _ {H B : Type 0} (o : Objects H B) (w : World) where
       → IsOwn (seen node).end (ErrorDataTooLarge what pos) → RefusesSize o w f (seen node) (ErrorDataTooLarge what pos)
   size_only {node = node} what pos (isnt_begun s) h = absurd (no_fault (seen node).end (ap (λ (x : Seen). x.end.answer) s) h.1 (λ q. absurd (omega (arith, q))))
   size_only {node = node} what pos (is_deep deep s) h = absurd (no_fault (seen node).end (ap (λ (x : Seen). x.end.answer) s) h.1 (λ q. absurd (omega (arith, q))))
-  size_only {node = node} what pos (is_locked n l place s) h = absurd (no_fault (seen node).end (ap (λ (x : Seen). x.end.answer) s) h.1 (λ q. absurd (omega (arith, q))))
+  size_only {node = node} what pos (is_locked n l unqualified place s) h = absurd (no_fault (seen node).end (ap (λ (x : Seen). x.end.answer) s) h.1 (λ q. absurd (omega (arith, q))))
+  size_only {node = node} what pos (is_rootless path l search none s) h = absurd (no_fault (seen node).end (ap (λ (x : Seen). x.end.answer) s) h.1 (λ q. absurd (omega (arith, q))))
   size_only {call = call} {node = node} what pos (is_missing l none s) h = absurd (no_missing w.engine call (seen node).end (ap (λ (x : Seen). x.end) s) h (λ q. absurd (omega (arith, q))))
   size_only {node = node} what pos (by_host from to answer l none c asked alone says) h = absurd (no_host (seen node).end says h (λ q. absurd (omega (arith, q))) (λ q. absurd (omega (arith, q))))
   size_only {node = node} what pos (is_constant own l none u first on s) h = absurd (no_fault (seen node).end (ap (λ (x : Seen). x.end.answer) s) h.1 (λ q. absurd (omega (arith, q))))
@@ -454,7 +490,8 @@ module _ {H B : Type 0} (o : Objects H B) (w : World) where
   pub spends_not : {f : Frame} {level : ℕ} {call : CallRequest} {node : CallNode} {cut : Bool} → ShowsEnd f level call node cut → cut ≡ false → (seen node).begun ≡ true → IsOwn (seen node).end (ErrorTooManyOperations (pos_of call)) → ⊥
   spends_not (isnt_begun s) lasts begun h = let q : false ≡ true = sym (ap (λ (x : Seen). x.begun) s) ∙ begun in absurd cc
   spends_not {node = node} (is_deep deep s) lasts begun h = no_fault (seen node).end (ap (λ (x : Seen). x.end.answer) s) h.1 (λ q. absurd (omega (arith, q)))
-  spends_not {node = node} (is_locked n l place s) lasts begun h = no_fault (seen node).end (ap (λ (x : Seen). x.end.answer) s) h.1 (λ q. absurd (omega (arith, q)))
+  spends_not {node = node} (is_locked n l unqualified place s) lasts begun h = no_fault (seen node).end (ap (λ (x : Seen). x.end.answer) s) h.1 (λ q. absurd (omega (arith, q)))
+  spends_not {node = node} (is_rootless path l search none s) lasts begun h = no_fault (seen node).end (ap (λ (x : Seen). x.end.answer) s) h.1 (λ q. absurd (omega (arith, q)))
   spends_not {call = call} {node = node} (is_missing l none s) lasts begun h = no_missing w.engine call (seen node).end (ap (λ (x : Seen). x.end) s) h (λ q. absurd (omega (arith, q)))
   spends_not {node = node} (by_host from to answer l none c asked alone says) lasts begun h = no_host (seen node).end says h (λ q. absurd (omega (arith, q))) (λ q. absurd (omega (arith, q)))
   spends_not {node = node} (is_constant own l none u first on s) lasts begun h = no_fault (seen node).end (ap (λ (x : Seen). x.end.answer) s) h.1 (λ q. absurd (omega (arith, q)))
@@ -466,7 +503,8 @@ module _ {H B : Type 0} (o : Objects H B) (w : World) where
       → IsOwn (seen node).end (ErrorStackOverflow pos) → (w.engine.limits.level < level) × (pos ≡ pos_of call)
   overflows pos (isnt_begun s) begun h = let q : false ≡ true = sym (ap (λ (x : Seen). x.begun) s) ∙ begun in absurd cc
   overflows {call = call} {node = node} pos (is_deep deep s) begun h = (deep, same_overflow (not_own (seen node).end (ap (λ (x : Seen). x.end.answer) s) h.1))
-  overflows {node = node} pos (is_locked n l place s) begun h = absurd (no_fault (seen node).end (ap (λ (x : Seen). x.end.answer) s) h.1 (λ q. absurd (omega (arith, q))))
+  overflows {node = node} pos (is_locked n l unqualified place s) begun h = absurd (no_fault (seen node).end (ap (λ (x : Seen). x.end.answer) s) h.1 (λ q. absurd (omega (arith, q))))
+  overflows {node = node} pos (is_rootless path l search none s) begun h = absurd (no_fault (seen node).end (ap (λ (x : Seen). x.end.answer) s) h.1 (λ q. absurd (omega (arith, q))))
   overflows {call = call} {node = node} pos (is_missing l none s) begun h = absurd (no_missing w.engine call (seen node).end (ap (λ (x : Seen). x.end) s) h (λ q. absurd (omega (arith, q))))
   overflows {node = node} pos (by_host from to answer l none c asked alone says) begun h = absurd (no_host (seen node).end says h (λ q. absurd (omega (arith, q))) (λ q. absurd (omega (arith, q))))
   overflows {node = node} pos (is_constant own l none u first on s) begun h = absurd (no_fault (seen node).end (ap (λ (x : Seen). x.end.answer) s) h.1 (λ q. absurd (omega (arith, q))))
@@ -478,7 +516,8 @@ module _ {H B : Type 0} (o : Objects H B) (w : World) where
   unfolding size_of_last kind_of_last
   refused_only value (isnt_begun s) h = let q : None ≡ Some value = sym (ap (λ (x : Seen). x.end.refused) s) ∙ h in absurd cc
   refused_only value (is_deep deep s) h = let q : None ≡ Some value = sym (ap (λ (x : Seen). x.end.refused) s) ∙ h in absurd cc
-  refused_only value (is_locked n l place s) h = let q : None ≡ Some value = sym (ap (λ (x : Seen). x.end.refused) s) ∙ h in absurd cc
+  refused_only value (is_locked n l unqualified place s) h = let q : None ≡ Some value = sym (ap (λ (x : Seen). x.end.refused) s) ∙ h in absurd cc
+  refused_only value (is_rootless path l search none s) h = let q : None ≡ Some value = sym (ap (λ (x : Seen). x.end.refused) s) ∙ h in absurd cc
   refused_only value (is_missing l none s) h = let q : None ≡ Some value = sym (ap (λ (x : Seen). x.end.refused) s) ∙ h in absurd cc
   refused_only {node = node} value (by_host from to answer l none c asked alone says) h = hosts_refused node value asked alone says h
   refused_only value (is_constant own l none u first on s) h = let q : None ≡ Some value = sym (ap (λ (x : Seen). x.end.refused) s) ∙ h in absurd cc
@@ -500,7 +539,8 @@ module _ {H B : Type 0} (o : Objects H B) (w : World) where
   pub first_alone : {f : Frame} {level : ℕ} {call : CallRequest} {node : CallNode} {cut : Bool} → ShowsEnd f level call node cut → (seen node).pick ≡ None → (seen node).end.first_after ≡ given call
   first_alone (isnt_begun s) h = ap (λ (x : Seen). x.end.first_after) s
   first_alone (is_deep deep s) h = ap (λ (x : Seen). x.end.first_after) s
-  first_alone (is_locked n l place s) h = ap (λ (x : Seen). x.end.first_after) s
+  first_alone (is_locked n l unqualified place s) h = ap (λ (x : Seen). x.end.first_after) s
+  first_alone (is_rootless path l search none s) h = ap (λ (x : Seen). x.end.first_after) s
   first_alone {call = call} (is_missing l none s) h = ap (λ (x : Seen). x.end.first_after) s ∙ plan_given call
   first_alone {call = call} (by_host from to answer l none c asked alone says) h = host_first says ∙ ap (λ (k : CallRequest). (plan_of k).given) c ∙ plan_given call
   first_alone (is_constant own l none u first on s) h = let q : Some own ≡ None = sym (ap (λ (x : Seen). x.pick) s) ∙ h in absurd cc
@@ -517,7 +557,8 @@ module _ {H B : Type 0} (o : Objects H B) (w : World) where
       → RanFirst f call node pick ⊎ (IsOnConstant w.engine (plan_of call) pick × ((seen node).end.first_after ≡ given call))
   ran_first pick (isnt_begun s) lasts h = let q : None ≡ Some pick = sym (ap (λ (x : Seen). x.pick) s) ∙ h in absurd cc
   ran_first pick (is_deep deep s) lasts h = let q : None ≡ Some pick = sym (ap (λ (x : Seen). x.pick) s) ∙ h in absurd cc
-  ran_first pick (is_locked n l place s) lasts h = let q : None ≡ Some pick = sym (ap (λ (x : Seen). x.pick) s) ∙ h in absurd cc
+  ran_first pick (is_locked n l unqualified place s) lasts h = let q : None ≡ Some pick = sym (ap (λ (x : Seen). x.pick) s) ∙ h in absurd cc
+  ran_first pick (is_rootless path l search none s) lasts h = let q : None ≡ Some pick = sym (ap (λ (x : Seen). x.pick) s) ∙ h in absurd cc
   ran_first pick (is_missing l none s) lasts h = let q : None ≡ Some pick = sym (ap (λ (x : Seen). x.pick) s) ∙ h in absurd cc
   ran_first pick (by_host from to answer l none c asked alone says) lasts h = let q : None ≡ Some pick = sym alone ∙ h in absurd cc
   ran_first {call = call} pick (is_constant own l none u first on s) lasts h =

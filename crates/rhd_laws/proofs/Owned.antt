@@ -1,13 +1,12 @@
 -- Whose the answer of a call is, and which calls aren't found.
-use Rattle.std.proofs.Common.{◌≡◌, ℕ, ◌<◌, ◌≤◌, Bool, true, false, ltb, [], refl, sym, ap, ◌∙◌, subst, ◌⊎◌, inl, inr, arith}
-use Rattle.std.specs.Prelude.{◌↔◌, Option, None, Some, Err}
+use Rattle.std.proofs.Common.{◌≡◌, ℕ, ◌≤◌, Bool, true, false, [], refl, sym, ap, ◌∙◌, subst, arith}
+use Rattle.std.specs.Prelude.{◌↔◌, Option, None, Err}
 use Rattle.rhd_value.specs.declared.fault.EvalAltResult.{EvalAltResult}
 use Rattle.rhd_func.specs.declared.request.CallRequest.{CallRequest}
 use Rattle.rhd_func.specs.declared.request.HostAnswer.{HostAnswer}
 use Rattle.rhd_func.specs.declared.request.HostAnswer.TheVariants.{Nothing}
 use Rattle.rhd_func.specs.declared.request.NativeStep.{NativeStep}
-use Rattle.rhd_func.specs.declared.request.CallRequest.TheVariants.{Named}
-use Rattle.rhd_func.specs.Shapes.{all_args, given}
+use Rattle.rhd_func.specs.Shapes.{given}
 use Rattle.rhd_engine.specs.Engine.{EngineLists, Frame}
 use Rattle.rhd_session.specs.World.{World, Objects, Moment}
 use Rattle.rhd_call.specs.End.{End, failed}
@@ -16,24 +15,23 @@ use Rattle.rhd_call.specs.declared.node.Whose.{Whose}
 use Rattle.rhd_call.specs.declared.node.Whose.TheVariants.{Call, Called, Host}
 use Rattle.rhd_call.specs.declared.pick.Pick.{Pick}
 use Rattle.rhd_session.specs.Plans.{Plan, plan_of}
-use Rattle.rhd_engine.specs.NotFound.{not_found}
-use Rattle.rhd_session.specs.Ends.{host_end, missing_end}
-use Rattle.rhd_session.specs.Decisions.{locked_place, refusal, decision}
+use Rattle.rhd_session.specs.Ends.{host_end, missing_fault, missing_end}
+use Rattle.rhd_session.specs.Decisions.{decision}
 use Rattle.rhd_session.specs.Decisions as decisions
 use Rattle.rhd_laws.specs.FirstAsks.{EndsAlone, is_refused, isnt_found, on_constant}
 use Rattle.rhd_laws.specs.Hosts.{HostEnds}
 use Rattle.rhd_laws.specs.Causes.{IsOwn}
 use Rattle.rhd_laws.specs.Owners.{IsHosts, hosts_value, hosts_fault, IsAnsweredByHost, IsFunctions, own_value, own_fault, IsAnsweredByFunction}
-use Rattle.rhd_laws.specs.Unfound.{fault_number as number, AllFail, without_host, and_host, IsUnfound}
+use Rattle.rhd_laws.specs.Unfound.{fault_number as number, AllFail, and_no_host, and_host, IsUnfound}
 use Rattle.rhd_call.specs.Seen.{Seen, seen, begun_node}
 use Rattle.rhd_session.specs.Runs.{Runs, not_begun, ended, host_answered, finished, cut_short}
 use Rattle.rhd_call.specs.Trees.{InTree}
 use Rattle.rhd_session.specs.Trees.{frame_at}
-use Rattle.rhd_session.proofs.Found.{deep_end, locked_end, refusal_is}
 use Rattle.rhd_laws.proofs.FirstAnswered.{ends_missing, missing_ends, asks_first, first_asks, host_ends}
 use Rattle.rhd_laws.proofs.LastSteps.{EndsBy, fails, is_large, is_other, fits, ends_by}
 use Rattle.rhd_laws.proofs.HostEnds.{HostSays, says_nothing, says_fault, says_other, says_value, host_says}
-use Rattle.rhd_laws.proofs.NodeEnds.{refused_parts, not_own, no_fault, no_other, ShowsEnd, isnt_begun, is_deep, is_locked, is_missing, by_host, is_constant, has_ended, was_cut, runs_end}
+use Rattle.rhd_laws.proofs.NodeEnds.{plan_given, not_own, no_fault, no_other, ShowsEnd, isnt_begun, is_deep, is_locked, is_rootless, is_missing, by_host, is_constant, has_ended, was_cut, runs_end}
+use Rattle.rhd_laws.proofs.Refusals.{Refused, for_level, for_lock, for_path, refused}
 use Rattle.rhd_laws.proofs.TreeLaws.{tree_runs}
 
 -- an end isn't of two owners
@@ -52,27 +50,23 @@ called_host h = absurd cc
 host_called : Host ≡ Called → ⊥
 host_called h = absurd cc
 
--- a refused call ends with one of two faults of its own
-refused_parts_of : (e : EngineLists) (f : Frame) (level : ℕ) (call : CallRequest) (end : End) → refusal e f level call ≡ Some end → (end ≡ deep_end call) ⊎ ((n : ℕ) × (end ≡ locked_end call n))
-refused_parts_of e f level call end h =
-    let by : ((e.limits.level < level) × (end ≡ deep_end call)) ⊎ ((level ≤ e.limits.level) × (n : ℕ) × (locked_place (plan_of call).shape ≡ Some n) × (end ≡ locked_end call n)) → (end ≡ deep_end call) ⊎ ((n : ℕ) × (end ≡ locked_end call n)) =
-    elim [ inl deep ↦ inl deep.1 | inr locked ↦ inr (locked.1, locked.3) ]
-    in by (refused_parts call e.limits.level level (ltb e.limits.level level) (locked_place (plan_of call).shape) end refl (sym (refusal_is e f level call) ∙ h))
+-- a refused call ends with a fault of its own
+refused_whose : {e : EngineLists} {f : Frame} {level : ℕ} {call : CallRequest} {end : End} → Refused e f level call end → end.whose ≡ Call
+refused_whose (for_level deep h) = ap (λ (x : End). x.whose) h
+refused_whose (for_lock n l unqualified place h) = ap (λ (x : End). x.whose) h
+refused_whose (for_path path l search none h) = ap (λ (x : End). x.whose) h
 
--- a call for which nothing runs ends with a fault of its own
-refused_whose : (call : CallRequest) (end : End) → (end ≡ deep_end call) ⊎ ((n : ℕ) × (end ≡ locked_end call n)) → end.whose ≡ Call
-refused_whose call end (inl h) = ap (λ (x : End). x.whose) h
-refused_whose call end (inr h) = ap (λ (x : End). x.whose) h.1
-
+-- so does a call for which nothing runs
 alone_whose : {e : EngineLists} {f : Frame} {level : ℕ} {call : CallRequest} {pick : Option Pick} {end : End} → EndsAlone e f level call pick end → end.whose ≡ Call
-alone_whose {e = e} {f = f} {level = level} {call = call} {end = end} (is_refused none u) = refused_whose call end (refused_parts_of e f level call end u)
+alone_whose {e = e} {f = f} {level = level} {call = call} {end = end} (is_refused none u) = refused_whose (refused e f level call end u)
 alone_whose (isnt_found none u only m un) = ap (λ (x : End). x.whose) m
 alone_whose (on_constant own some u first on m) = ap (λ (x : End). x.whose) m
 
 -- how it ends where it isn't found
-refused_found : (call : CallRequest) (end : End) {fault : EvalAltResult} → (end ≡ deep_end call) ⊎ ((n : ℕ) × (end ≡ locked_end call n)) → end.answer ≡ Err fault → number fault ≤ 4 → ⊥
-refused_found call end (inl h) a l = no_fault end (ap (λ (x : End). x.answer) h) a (λ q. absurd (omega (arith, q, l)))
-refused_found call end (inr h) a l = no_fault end (ap (λ (x : End). x.answer) h.1) a (λ q. absurd (omega (arith, q, l)))
+refused_found : {e : EngineLists} {f : Frame} {level : ℕ} {call : CallRequest} (end : End) {fault : EvalAltResult} → Refused e f level call end → end.answer ≡ Err fault → number fault ≤ 4 → ⊥
+refused_found end (for_level deep h) a l = no_fault end (ap (λ (x : End). x.answer) h) a (λ q. absurd (omega (arith, q, l)))
+refused_found end (for_lock n k unqualified place h) a l = no_fault end (ap (λ (x : End). x.answer) h) a (λ q. absurd (omega (arith, q, l)))
+refused_found end (for_path path k search none h) a l = no_fault end (ap (λ (x : End). x.answer) h) a (λ q. absurd (omega (arith, q, l)))
 
 -- a last step whose value or fault is the answer, and that alone
 last_called : {e : EngineLists} {plan : Plan} {pick : Pick} {last : NativeStep} {end : End} → EndsBy e plan pick last end → end.whose ≡ Called → IsFunctions e.printers plan pick last end.answer
@@ -118,7 +112,7 @@ not_called {end = end} (says_value v is e) h = not_both end (ap (λ (x : End). x
 
 -- the host gave nothing exactly where the call isn't found
 says_unfound : {e : EngineLists} {plan : Plan} {gave : HostAnswer} {end : End} {fault : EvalAltResult} → HostSays e plan gave end → IsOwn end fault → number fault ≤ 4
-    → (gave ≡ Nothing) × (fault ≡ not_found e plan.pos plan.name (all_args plan.shape))
+    → (gave ≡ Nothing) × (fault ≡ missing_fault e plan plan.search)
 says_unfound {end = end} (says_nothing is e) h l = (is, not_own end (ap (λ (x : End). x.answer) e) h.1)
 says_unfound {end = end} (says_fault fault is e) h l = absurd (not_both end h.0 (ap (λ (x : End). x.whose) e) call_host)
 says_unfound {end = end} (says_other v kind is other e) h l = absurd (no_fault end (ap (λ (x : End). x.answer) e) h.1 (λ q. absurd (omega (arith, q, l))))
@@ -128,8 +122,8 @@ nothing_missing : (e : EngineLists) (call : CallRequest) (end : End) → end ≡
 unfolding host_end
 nothing_missing e call end h = h
 
-missing_is : (e : EngineLists) (call : CallRequest) (fault : EvalAltResult) → fault ≡ not_found e (plan_of call).pos (plan_of call).name (all_args (plan_of call).shape) → missing_end e (plan_of call) ≡ failed (given call) fault
-missing_is e (Named name token native_only shape want pos) fault says = ap (failed (given (Named name token native_only shape want pos))) (sym says)
+missing_is : (e : EngineLists) (call : CallRequest) (fault : EvalAltResult) → fault ≡ missing_fault e (plan_of call) (plan_of call).search → missing_end e (plan_of call) ≡ failed (given call) fault
+missing_is e call fault says = (λ i. failed (plan_given call i) (sym says i))
 
 module _ {H B : Type 0} (o : Objects H B) (w : World) where
   host_only : {f : Frame} {level : ℕ} {call : CallRequest} {node : CallNode} {before after : Moment H B} {cut : Bool} → Runs o w f level call node before after cut → (seen node).end.whose ≡ Host
@@ -155,7 +149,8 @@ module _ {H B : Type 0} (o : Objects H B) (w : World) where
   called_only : {f : Frame} {level : ℕ} {call : CallRequest} {node : CallNode} {cut : Bool} → ShowsEnd o w f level call node cut → (seen node).end.whose ≡ Called → IsAnsweredByFunction o w f (seen node)
   called_only {node = node} (isnt_begun s) h = absurd (not_both (seen node).end (ap (λ (x : Seen). x.end.whose) s) h call_called)
   called_only {node = node} (is_deep deep s) h = absurd (not_both (seen node).end (ap (λ (x : Seen). x.end.whose) s) h call_called)
-  called_only {node = node} (is_locked n l place s) h = absurd (not_both (seen node).end (ap (λ (x : Seen). x.end.whose) s) h call_called)
+  called_only {node = node} (is_locked n l unqualified place s) h = absurd (not_both (seen node).end (ap (λ (x : Seen). x.end.whose) s) h call_called)
+  called_only {node = node} (is_rootless path l search none s) h = absurd (not_both (seen node).end (ap (λ (x : Seen). x.end.whose) s) h call_called)
   called_only {node = node} (is_missing l none s) h = absurd (not_both (seen node).end (ap (λ (x : Seen). x.end.whose) s) h call_called)
   called_only (by_host from to answer l none c asked alone says) h = absurd (not_called says h)
   called_only {node = node} (is_constant own l none u first on s) h = absurd (not_both (seen node).end (ap (λ (x : Seen). x.end.whose) s) h call_called)
@@ -173,8 +168,8 @@ module _ {H B : Type 0} (o : Objects H B) (w : World) where
   -- a call isn't found where nothing refuses it and all three fail
   alone_fails : {f : Frame} {level : ℕ} {call : CallRequest} {pick : Option Pick} {end : End} {fault : EvalAltResult} (from to : H) → EndsAlone w.engine f level call pick end → end.answer ≡ Err fault
       → number fault ≤ 4 → IsUnfound o w.engine f level call from to end fault
-  alone_fails {f = f} {level = level} {call = call} {end = end} from to (is_refused none u) a l = absurd (refused_found call end (refused_parts_of w.engine f level call end u) a l)
-  alone_fails {end = end} from to (isnt_found none u only m un) a l = record { all_fail = without_host u only un; says = not_own end (ap (λ (x : End). x.answer) m) a }
+  alone_fails {f = f} {level = level} {call = call} {end = end} from to (is_refused none u) a l = absurd (refused_found end (refused w.engine f level call end u) a l)
+  alone_fails {end = end} from to (isnt_found none u only m un) a l = record { all_fail = and_no_host u only un; says = not_own end (ap (λ (x : End). x.answer) m) a }
   alone_fails {end = end} from to (on_constant own some u first on m) a l = absurd (no_fault end (ap (λ (x : End). x.answer) m) a (λ q. absurd (omega (arith, q, l))))
 
   unfound_only : {f : Frame} {level : ℕ} {call : CallRequest} {node : CallNode} {before after : Moment H B} {cut : Bool} (fault : EvalAltResult) → Runs o w f level call node before after cut
@@ -215,7 +210,7 @@ module _ {H B : Type 0} (o : Objects H B) (w : World) where
 
   fails_shown : {f : Frame} {level : ℕ} {call : CallRequest} {node : CallNode} {before after : Moment H B} {cut : Bool} {from to : H} → Runs o w f level call node before after cut
       → (seen node).begun ≡ true → AllFail o w.engine f level call from to (seen node).end → seen node ≡ begun_node call level None [] [] (missing_end w.engine (plan_of call))
-  fails_shown {f = f} {level = level} {call = call} r begun (without_host u only un) = ends_shown (missing_end w.engine (plan_of call)) r begun (missing_ends w.engine f level call None (missing_end w.engine (plan_of call)) (isnt_found refl u only refl un))
+  fails_shown {f = f} {level = level} {call = call} r begun (and_no_host u only un) = ends_shown (missing_end w.engine (plan_of call)) r begun (missing_ends w.engine f level call None (missing_end w.engine (plan_of call)) (isnt_found refl u only refl un))
   fails_shown {f = f} {level = level} {call = call} {node = node} r begun (and_host asked answers) =
       host_shown (plan_of call) r begun (first_asks w.engine f level call (plan_of call) (refl, asked)) ∙ ap (λ (x : End). begun_node call level None [] [] x) (nothing_missing w.engine call (seen node).end answers.ends)
 

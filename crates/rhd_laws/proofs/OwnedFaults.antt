@@ -8,7 +8,6 @@ use Rattle.rhd_func.specs.declared.request.HostAnswer.{HostAnswer}
 use Rattle.rhd_func.specs.declared.request.HostAnswer.TheVariants.{Fault}
 use Rattle.rhd_func.specs.declared.request.NativeStep.{NativeStep}
 use Rattle.rhd_func.specs.declared.request.NativeStep.TheVariants.{Failed}
-use Rattle.rhd_func.specs.Shapes.{all_args}
 use Rattle.rhd_call.specs.End.{End, failed}
 use Rattle.rhd_call.specs.Seen.{Seen, seen}
 use Rattle.rhd_call.specs.Trees.{InTree}
@@ -16,19 +15,19 @@ use Rattle.rhd_call.specs.declared.node.CallNode.{CallNode}
 use Rattle.rhd_call.specs.declared.node.Whose.TheVariants.{Call, Called, Host}
 use Rattle.rhd_call.specs.declared.pick.Pick.{Pick}
 use Rattle.rhd_engine.specs.Engine.{EngineLists, Frame}
-use Rattle.rhd_engine.specs.NotFound.{not_found}
 use Rattle.rhd_session.specs.Plans.{Plan, plan_of}
+use Rattle.rhd_session.specs.Ends.{missing_fault, missing_end}
 use Rattle.rhd_session.specs.Runs.{Runs}
 use Rattle.rhd_session.specs.Trees.{frame_at}
 use Rattle.rhd_session.specs.World.{World, Objects, Moment}
 use Rattle.rhd_laws.specs.Causes.{IsOwn, EndsWith}
 use Rattle.rhd_laws.specs.Hosts.{HostEnds}
 use Rattle.rhd_laws.specs.Owners.{IsHosts, hosts_value, hosts_fault, IsAnsweredByHost, IsFunctions, own_value, own_fault}
-use Rattle.rhd_laws.specs.OwnFaults.{IsOwnNumber, one_to_seven, nine_to_eleven, IsRefusing, FaultOf, FunctionFails, HostFails}
+use Rattle.rhd_laws.specs.OwnFaults.{IsOwnNumber, one_to_seven, nine_to_twelve, IsRefusing, FaultOf, FunctionFails, HostFails}
 use Rattle.rhd_laws.specs.Unfound.{fault_number as number}
 use Rattle.rhd_laws.proofs.HostEnds.{HostSays, says_nothing, says_fault, says_other, says_value, host_says}
 use Rattle.rhd_laws.proofs.LastSteps.{EndsBy, fails, is_large, is_other, fits, ends_by}
-use Rattle.rhd_laws.proofs.NodeEnds.{not_own, ShowsEnd, isnt_begun, is_deep, is_locked, is_missing, by_host, is_constant, has_ended, was_cut, runs_end}
+use Rattle.rhd_laws.proofs.NodeEnds.{not_own, ShowsEnd, isnt_begun, is_deep, is_locked, is_rootless, is_missing, by_host, is_constant, has_ended, was_cut, runs_end}
 use Rattle.rhd_laws.proofs.Owned.{called_exactly, host_exactly}
 use Rattle.rhd_laws.proofs.TreeLaws.{tree_runs}
 use Rattle.rhd_laws.proofs.UnfoundRows.{missing_number, missing_positive}
@@ -56,11 +55,18 @@ small_end : (end : End) (first : Option Tree) (fault : EvalAltResult) → 1 ≤ 
 small_end end first fault l m e = plain_end end first fault (one_to_seven l (omega (arith, m))) (small_plain (number fault) m) e
 
 large_end : (end : End) (first : Option Tree) (fault : EvalAltResult) → 9 ≤ number fault → number fault ≤ 10 → end ≡ failed first fault → EndOf end
-large_end end first fault l m e = plain_end end first fault (nine_to_eleven l (omega (arith, m))) (large_plain (number fault) l m) e
+large_end end first fault l m e = plain_end end first fault (nine_to_twelve l (omega (arith, m))) (large_plain (number fault) l m) e
 
-missing_of : (e : EngineLists) (plan : Plan) (end : End) → end ≡ failed plan.given (not_found e plan.pos plan.name (all_args plan.shape)) → EndOf end
-missing_of e plan end h =
-    small_end end plan.given (not_found e plan.pos plan.name (all_args plan.shape)) (missing_positive e plan.pos plan.name (all_args plan.shape)) (omega (arith, missing_number e plan.pos plan.name (all_args plan.shape))) h
+-- and so doesn't 12
+rootless_plain : (n : ℕ) → n ≡ 12 → IsRefusing n → ⊥
+rootless_plain n is (inl h) = omega (arith, is, h)
+rootless_plain n is (inr h) = omega (arith, is, h)
+
+rootless_of : (end : End) (first : Option Tree) (fault : EvalAltResult) → number fault ≡ 12 → end ≡ failed first fault → EndOf end
+rootless_of end first fault is e = plain_end end first fault (nine_to_twelve (omega (arith, is)) (omega (arith, is))) (rootless_plain (number fault) is) e
+
+missing_of : (e : EngineLists) (plan : Plan) (end : End) → end ≡ missing_end e plan → EndOf end
+missing_of e plan end h = small_end end plan.given (missing_fault e plan plan.search) (missing_positive e plan plan.search) (omega (arith, missing_number e plan plan.search)) h
 
 last_of : {e : EngineLists} {plan : Plan} {pick : Pick} {last : NativeStep} {end : End} → EndsBy e plan pick last end → EndOf end
 last_of (fails fault back is h) = is_called (ap (λ (x : End). x.whose) h) (ap (λ (x : End). x.refused) h)
@@ -83,7 +89,7 @@ host_own end e h = let q : Host ≡ Call = sym e ∙ h.0 in absurd cc
 
 refusing_own : (n : ℕ) → IsRefusing n → IsOwnNumber n
 refusing_own n (inl h) = one_to_seven (omega (arith, h)) (omega (arith, h))
-refusing_own n (inr h) = nine_to_eleven (omega (arith, h)) (omega (arith, h))
+refusing_own n (inr h) = nine_to_twelve (omega (arith, h)) (omega (arith, h))
 
 number_of : (end : End) (fault : EvalAltResult) → EndOf end → IsOwn end fault → IsOwnNumber (number fault)
 number_of end fault (own_plain own is numbered plain none) h = subst (λ (x : EvalAltResult). IsOwnNumber (number x)) (sym (not_own end is.1 h.1)) numbered
@@ -134,7 +140,8 @@ module _ {H B : Type 0} (o : Objects H B) (w : World) where
   end_of_node : {f : Frame} {level : ℕ} {call : CallRequest} {node : CallNode} {cut : Bool} → ShowsEnd o w f level call node cut → EndOf (seen node).end
   end_of_node {node = node} (isnt_begun s) = large_end (seen node).end _ _ (omega arith) (omega arith) (ap (λ (x : Seen). x.end) s)
   end_of_node {node = node} (is_deep deep s) = large_end (seen node).end _ _ (omega arith) (omega arith) (ap (λ (x : Seen). x.end) s)
-  end_of_node {node = node} (is_locked n l place s) = small_end (seen node).end _ _ (omega arith) (omega arith) (ap (λ (x : Seen). x.end) s)
+  end_of_node {node = node} (is_locked n l unqualified place s) = small_end (seen node).end _ _ (omega arith) (omega arith) (ap (λ (x : Seen). x.end) s)
+  end_of_node {node = node} (is_rootless path l search none s) = rootless_of (seen node).end _ _ refl (ap (λ (x : Seen). x.end) s)
   end_of_node {call = call} {node = node} (is_missing l none s) = missing_of w.engine (plan_of call) (seen node).end (ap (λ (x : Seen). x.end) s)
   end_of_node (by_host from to answer l none c ended alone says) = hosts_of says
   end_of_node {node = node} (is_constant own l none u first on s) = small_end (seen node).end _ _ (omega arith) (omega arith) (ap (λ (x : Seen). x.end) s)

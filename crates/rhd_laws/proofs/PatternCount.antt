@@ -1,10 +1,18 @@
 -- How many patterns there are.
 use Rattle.std.proofs.Common.{◌≡◌, ℕ, ◌+◌, ◌*◌, List, [], ◌∷◌, length, ap, ◌∙◌, arith}
-use Rattle.std.specs.Prelude.{zero, suc, ◌^◌, min}
+use Rattle.std.specs.Prelude.{zero, suc, ◌^◌, min, map}
+use Rattle.std.proofs.lemmas.List.{length-append, length-map}
 use native.Mathlib.Nat.{pow-suc}
 use Rattle.rhd_value.specs.declared.tag.TypeTag.{TypeTag}
+use Rattle.rhd_value.specs.declared.tag.TypeTag.TheVariants.{Dynamic}
 use Rattle.rhd_dispatch.specs.Patterns.{patterns_to}
-use Rattle.rhd_dispatch.proofs.Looks.{twice_step}
+
+-- one place more makes twice as many
+twice_step : (n : ℕ) (t : TypeTag) (ts : List TypeTag) → length (patterns_to (suc n) (t ∷ ts)) ≡ length (patterns_to n ts) + length (patterns_to n ts)
+unfolding patterns_to
+twice_step n t ts =
+    let ps = patterns_to n ts in
+    length-append (map (λ p. t ∷ p) ps) (map (λ p. Dynamic ∷ p) ps) ∙ (λ i. length-map ps (λ p. t ∷ p) i + length-map ps (λ p. Dynamic ∷ p) i)
 
 -- one that no place may change
 one_alone : (n k : ℕ) → min n k ≡ 0 → 1 ≡ 2 ^ min n k

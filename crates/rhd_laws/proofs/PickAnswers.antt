@@ -11,7 +11,7 @@ use Rattle.rhd_value.specs.declared.tag.FnId.{FnId}
 use Rattle.rhd_value.specs.declared.tag.TypeTag.{TypeTag}
 use Rattle.rhd_func.specs.Shapes.{all_args}
 use Rattle.rhd_func.specs.declared.request.CallRequest.{CallRequest}
-use Rattle.rhd_func.specs.declared.request.CallRequest.TheVariants.{Named}
+use Rattle.rhd_func.specs.declared.request.CallRequest.TheVariants.{Named, Qualified}
 use Rattle.rhd_func.specs.declared.request.CallShape.{CallShape}
 use Rattle.rhd_func.specs.declared.request.CallShape.TheVariants.{Plain, ByRef, Method}
 use Rattle.rhd_hash.specs.declared.key.Key.{Key}
@@ -24,12 +24,12 @@ use Rattle.rhd_engine.specs.Operators.{operator_eq, operator_eq-Decides}
 use Rattle.rhd_dispatch.specs.Patterns.{patterns_to}
 use Rattle.rhd_session.specs.World.{Objects}
 use Rattle.rhd_call.specs.End.{End}
-use Rattle.rhd_laws.specs.Unfound.{AllFail, without_host, and_host}
+use Rattle.rhd_laws.specs.Unfound.{AllFail, and_no_host, and_host}
 use Rattle.rhd_session.specs.Received.{Convention, native_method, other_native, script, received}
 use Rattle.rhd_dispatch.specs.Searched.{found}
-use Rattle.rhd_dispatch.specs.Asks.{looked, native_found, builtin, builtin_pick, params_of}
-use Rattle.rhd_session.specs.Plans.{plan_of, token_in}
-use Rattle.rhd_session.specs.Decisions.{asks_of}
+use Rattle.rhd_dispatch.specs.Asks.{native_found, builtin, builtin_pick, params_of}
+use Rattle.rhd_session.specs.Plans.{Search, by_name, in_module, plan_of, is_unqualified, token_in, without_host}
+use Rattle.rhd_session.specs.Decisions.{asks_of, look_of}
 use Rattle.rhd_laws.specs.FirstAsks.{IsAnsweredFirst, IsUnanswered}
 use Rattle.rhd_laws.specs.Matches.{TypesMatch, kinds_in, MatchesCall, by_type, by_number, by_kinds, rank, GoesBefore, lower_rank, more_exact, earlier_place, NoneMatches, IsFirstMatch, IsFirstBuiltin, HasBuiltin, IsAnsweredBy, by_declaration, by_builtin, all_received, IsInFirstPlace}
 use Rattle.rhd_laws.proofs.FirstAnswered.{first_is-first, first_none, none_first}
@@ -86,11 +86,12 @@ none_typed e f call target args shape h =
     let p = or_parts (found e f.lib f.imports (Typed None (plan_of call).name (length args) (display e target))) (option_or (found e f.lib f.imports (Script None (plan_of call).name (params_of (plan_of call).shape))) (option_or (native_look e f call) None)) h in
     none_scripts e f call (λ other others _ same. one_method e f (plan_of call).name target other args others p.0 (sym shape ∙ same)) p.1
 
-pub asked_in_vain : (e : EngineLists) (f : Frame) (call : CallRequest) → first_of (looked e f.lib f.imports) (asks_of e call) ≡ None → NoneMatches e f call × NoBuiltin e call
-asked_in_vain e f (Named name token true shape want pos) h = none_natives e f (Named name token true shape want pos) (λ target args allowed _. absurd (true_false allowed)) (λ allowed. absurd (true_false allowed)) h
-asked_in_vain e f (Named name token false (Plain args) want pos) h = none_scripts e f (Named name token false (Plain args) want pos) (λ target others _ same. absurd (plain_method args target others same)) h
-asked_in_vain e f (Named name token false (ByRef first args) want pos) h = none_scripts e f (Named name token false (ByRef first args) want pos) (λ target others _ same. absurd (ref_method first args target others same)) h
-asked_in_vain e f (Named name token false (Method target args) want pos) h = none_typed e f (Named name token false (Method target args) want pos) target args refl h
+pub asked_in_vain : (e : EngineLists) (f : Frame) (call : CallRequest) → is_unqualified (plan_of call).search ≡ true → first_of (look_of e f call) (asks_of e call) ≡ None → NoneMatches e f call × NoBuiltin e call
+asked_in_vain e f (Named name token true shape want pos) unqualified h = none_natives e f (Named name token true shape want pos) (λ target args allowed _. absurd (true_false allowed)) (λ allowed. absurd (true_false allowed)) h
+asked_in_vain e f (Named name token false (Plain args) want pos) unqualified h = none_scripts e f (Named name token false (Plain args) want pos) (λ target others _ same. absurd (plain_method args target others same)) h
+asked_in_vain e f (Named name token false (ByRef first args) want pos) unqualified h = none_scripts e f (Named name token false (ByRef first args) want pos) (λ target others _ same. absurd (ref_method first args target others same)) h
+asked_in_vain e f (Named name token false (Method target args) want pos) unqualified h = none_typed e f (Named name token false (Method target args) want pos) target args refl h
+asked_in_vain e f (Qualified path name shape pos) unqualified h = absurd cc
 
 -- Of two declarations that match, one goes before the other, or their keys are the same.
 
@@ -152,21 +153,21 @@ unanswered_not : (e : EngineLists) (f : Frame) (call : CallRequest) (pick : Pick
 unanswered_not e f call pick none (by_declaration key a) = none.0 key a.number a.decl a.matches a.stands
 unanswered_not e f call pick none (by_builtin also b) = none.1 pick b
 
-pub match_first : (e : EngineLists) (f : Frame) (call : CallRequest) (pick : Pick) → IsAnsweredBy e f call pick → IsAnsweredFirst e f call pick
-match_first e f call pick a =
-    let by : (o : Option Pick) → first_of (looked e f.lib f.imports) (asks_of e call) ≡ o → IsAnsweredFirst e f call pick = elim [
-      | None ↦ (λ h. absurd (unanswered_not e f call pick (asked_in_vain e f call h) a))
-      | Some own ↦ (λ h. first_is-first (looked e f.lib f.imports) pick (asks_of e call) (h ∙ ap Some (one_answer e f call own pick (asked_by e f call own h) a)))
+pub match_first : (e : EngineLists) (f : Frame) (call : CallRequest) (pick : Pick) → is_unqualified (plan_of call).search ≡ true → IsAnsweredBy e f call pick → IsAnsweredFirst e f call pick
+match_first e f call pick unqualified a =
+    let by : (o : Option Pick) → first_of (look_of e f call) (asks_of e call) ≡ o → IsAnsweredFirst e f call pick = elim [
+      | None ↦ (λ h. absurd (unanswered_not e f call pick (asked_in_vain e f call unqualified h) a))
+      | Some own ↦ (λ h. first_is-first (look_of e f call) pick (asks_of e call) (h ∙ ap Some (one_answer e f call own pick (asked_by e f call own unqualified h) a)))
     ]
-    in by (first_of (looked e f.lib f.imports) (asks_of e call)) refl
+    in by (first_of (look_of e f call) (asks_of e call)) refl
 
-pub unanswered_exactly : (e : EngineLists) (f : Frame) (call : CallRequest) → IsUnanswered e f call ↔ (NoneMatches e f call × ((pick : Pick) → HasBuiltin e call pick → ⊥))
-unanswered_exactly e f call =
-    let back : NoneMatches e f call × NoBuiltin e call → (o : Option Pick) → first_of (looked e f.lib f.imports) (asks_of e call) ≡ o → IsUnanswered e f call = λ none. elim [
-      | None ↦ (λ h. first_none (looked e f.lib f.imports) (asks_of e call) h)
-      | Some own ↦ (λ h. absurd (unanswered_not e f call own none (asked_by e f call own h)))
+pub unanswered_exactly : (e : EngineLists) (f : Frame) (call : CallRequest) → is_unqualified (plan_of call).search ≡ true → IsUnanswered e f call ↔ (NoneMatches e f call × ((pick : Pick) → HasBuiltin e call pick → ⊥))
+unanswered_exactly e f call unqualified =
+    let back : NoneMatches e f call × NoBuiltin e call → (o : Option Pick) → first_of (look_of e f call) (asks_of e call) ≡ o → IsUnanswered e f call = λ none. elim [
+      | None ↦ (λ h. first_none (look_of e f call) (asks_of e call) h)
+      | Some own ↦ (λ h. absurd (unanswered_not e f call own none (asked_by e f call own unqualified h)))
     ]
-    in (λ h. asked_in_vain e f call (none_first (looked e f.lib f.imports) (asks_of e call) h), λ none. back none (first_of (looked e f.lib f.imports) (asks_of e call)) refl)
+    in (λ h. asked_in_vain e f call unqualified (none_first (look_of e f call) (asks_of e call) h), λ none. back none (first_of (look_of e f call) (asks_of e call)) refl)
 
 -- What a function receives has the kinds of the arguments.
 
@@ -204,5 +205,10 @@ receives e call name types convention m = subst (TypesMatch types) (sym (same_ki
 
 -- a call that isn't found has no ask that is found
 pub not_found_unanswered : {H B : Type 0} {o : Objects H B} {e : EngineLists} {f : Frame} {level : ℕ} {call : CallRequest} {from to : H} {end : End} → AllFail o e f level call from to end → IsUnanswered e f call
-not_found_unanswered (without_host u only h) = h
+not_found_unanswered (and_no_host u only h) = h
 not_found_unanswered (and_host asked ended) = asked.unanswered
+
+-- a call that the host is asked for is unqualified
+pub hosts_unqualified : (search : Search) → without_host search ≡ false → is_unqualified search ≡ true
+hosts_unqualified (by_name token native_only) h = refl
+hosts_unqualified (in_module path) h = absurd cc

@@ -9,7 +9,7 @@ use Rattle.rhd_value.specs.declared.tag.FnId.{FnId}
 use Rattle.rhd_value.specs.declared.tag.TypeTag.{TypeTag}
 use Rattle.rhd_names.specs.declared.token.OpToken.{OpToken}
 use Rattle.rhd_func.specs.declared.request.CallRequest.{CallRequest}
-use Rattle.rhd_func.specs.declared.request.CallRequest.TheVariants.{Named}
+use Rattle.rhd_func.specs.declared.request.CallRequest.TheVariants.{Named, Qualified}
 use Rattle.rhd_func.specs.declared.request.CallShape.TheVariants.{Plain, ByRef, Method}
 use Rattle.rhd_hash.specs.declared.key.Key.{Key}
 use Rattle.rhd_hash.specs.declared.key.Key.TheVariants.{Script, Typed, Native}
@@ -22,8 +22,8 @@ use Rattle.rhd_engine.specs.Operators.{operator_eq, operator_eq-Decides}
 use Rattle.rhd_dispatch.specs.Patterns.{patterns_to}
 use Rattle.rhd_dispatch.specs.Searched.{found}
 use Rattle.rhd_dispatch.specs.Asks.{looked, native, native_found, builtin, builtin_pick, params_of}
-use Rattle.rhd_session.specs.Plans.{plan_of, only_natives, token_in}
-use Rattle.rhd_session.specs.Decisions.{asks_of}
+use Rattle.rhd_session.specs.Plans.{plan_of, is_unqualified, only_natives, token_in}
+use Rattle.rhd_session.specs.Decisions.{asks_of, look_of}
 use Rattle.rhd_laws.specs.FirstAsks.{IsAnsweredFirst}
 use Rattle.rhd_laws.specs.Matches.{TypesMatch, IsMoreExact, kinds_in, MatchesCall, by_type, by_number, by_kinds, HasDeclaration, rank, GoesBefore, lower_rank, more_exact, earlier_place, NoneMatches, IsFirstBuiltin, HasBuiltin, IsAnsweredBy, by_declaration, by_builtin, IsInFirstPlace}
 use Rattle.rhd_laws.proofs.FirstAnswered.{is-first_first}
@@ -217,11 +217,12 @@ plain_method args object others h = absurd cc
 pub ref_method : (first : Tree) (args : List Tree) (object : Tree) (others : List Tree) → ByRef first args ≡ Method object others → ⊥
 ref_method first args object others h = absurd cc
 
-pub asked_by : (e : EngineLists) (f : Frame) (call : CallRequest) (pick : Pick) → first_of (looked e f.lib f.imports) (asks_of e call) ≡ Some pick → IsAnsweredBy e f call pick
-asked_by e f (Named name token true shape want pos) pick h = from_natives e f (Named name token true shape want pos) pick (λ object args allowed _. absurd (true_false allowed)) (λ allowed. absurd (true_false allowed)) h
-asked_by e f (Named name token false (Plain args) want pos) pick h = from_scripts e f (Named name token false (Plain args) want pos) pick (λ object others _ same. absurd (plain_method args object others same)) refl h
-asked_by e f (Named name token false (ByRef first args) want pos) pick h = from_scripts e f (Named name token false (ByRef first args) want pos) pick (λ object others _ same. absurd (ref_method first args object others same)) refl h
-asked_by e f (Named name token false (Method object args) want pos) pick h = from_typed e f (Named name token false (Method object args) want pos) object args pick refl refl h
+pub asked_by : (e : EngineLists) (f : Frame) (call : CallRequest) (pick : Pick) → is_unqualified (plan_of call).search ≡ true → first_of (look_of e f call) (asks_of e call) ≡ Some pick → IsAnsweredBy e f call pick
+asked_by e f (Named name token true shape want pos) pick unqualified h = from_natives e f (Named name token true shape want pos) pick (λ object args allowed _. absurd (true_false allowed)) (λ allowed. absurd (true_false allowed)) h
+asked_by e f (Named name token false (Plain args) want pos) pick unqualified h = from_scripts e f (Named name token false (Plain args) want pos) pick (λ object others _ same. absurd (plain_method args object others same)) refl h
+asked_by e f (Named name token false (ByRef first args) want pos) pick unqualified h = from_scripts e f (Named name token false (ByRef first args) want pos) pick (λ object others _ same. absurd (ref_method first args object others same)) refl h
+asked_by e f (Named name token false (Method object args) want pos) pick unqualified h = from_typed e f (Named name token false (Method object args) want pos) object args pick refl refl h
+asked_by e f (Qualified path name shape pos) pick unqualified h = absurd cc
 
-pub first_match : (e : EngineLists) (f : Frame) (call : CallRequest) (pick : Pick) → IsAnsweredFirst e f call pick → IsAnsweredBy e f call pick
-first_match e f call pick h = asked_by e f call pick (is-first_first (looked e f.lib f.imports) pick (asks_of e call) h)
+pub first_match : (e : EngineLists) (f : Frame) (call : CallRequest) (pick : Pick) → is_unqualified (plan_of call).search ≡ true → IsAnsweredFirst e f call pick → IsAnsweredBy e f call pick
+first_match e f call pick unqualified h = asked_by e f call pick unqualified (is-first_first (look_of e f call) pick (asks_of e call) h)

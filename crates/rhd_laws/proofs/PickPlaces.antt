@@ -28,12 +28,12 @@ pub record IsNumbered {A B : Type 0} (f : A → Option B) (xs : List A) (y : B) 
   pub gives : f one ≡ Some y
   pub before : (n : ℕ) (x : A) → n < number → slice_get xs n ≡ Some x → f x ≡ None
 
-none_each : {A B : Type 0} (f : A → Option B) (xs : List A) → first_of f xs ≡ None → (n : ℕ) (x : A) → slice_get xs n ≡ Some x → f x ≡ None
+pub none_each : {A B : Type 0} (f : A → Option B) (xs : List A) → first_of f xs ≡ None → (n : ℕ) (x : A) → slice_get xs n ≡ Some x → f x ≡ None
 none_each f [] h n x is = absurd cc
 none_each f (a ∷ xs) h zero x is = ap f (sym (got a x is)) ∙ (or_parts (f a) (first_of f xs) h).0
 none_each f (a ∷ xs) h (suc n) x is = none_each f xs (or_parts (f a) (first_of f xs) h).1 n x is
 
-each_none : {A B : Type 0} (f : A → Option B) (xs : List A) → ((n : ℕ) (x : A) → slice_get xs n ≡ Some x → f x ≡ None) → first_of f xs ≡ None
+pub each_none : {A B : Type 0} (f : A → Option B) (xs : List A) → ((n : ℕ) (x : A) → slice_get xs n ≡ Some x → f x ≡ None) → first_of f xs ≡ None
 each_none f [] h = refl
 each_none f (a ∷ xs) h = or_nones (f a) (first_of f xs) (h 0 a refl) (each_none f xs (λ n x is. h (suc n) x is))
 
@@ -42,7 +42,7 @@ none_before : {A B : Type 0} (f : A → Option B) (a : A) (xs : List A) (number 
 none_before f a xs number none h zero x less is = ap f (sym (got a x is)) ∙ none
 none_before f a xs number none h (suc n) x less is = h n x (omega (arith, less)) is
 
-numbered : {A B : Type 0} (f : A → Option B) (xs : List A) (y : B) → first_of f xs ≡ Some y → IsNumbered f xs y
+pub numbered : {A B : Type 0} (f : A → Option B) (xs : List A) (y : B) → first_of f xs ≡ Some y → IsNumbered f xs y
 numbered f [] y h = absurd cc
 numbered f (a ∷ xs) y h =
     let below : f a ≡ None → IsNumbered f xs y → IsNumbered f (a ∷ xs) y = λ none r. record { number = suc r.number; one = r.one; stands = r.stands; gives = r.gives; before = none_before f a xs r.number none r.before } in
@@ -52,7 +52,7 @@ numbered f (a ∷ xs) y h =
     ]
     in by (or_cases (f a) (first_of f xs) y h)
 
-from_number : {A B : Type 0} (f : A → Option B) (xs : List A) (y : B) (number : ℕ) (one : A) → slice_get xs number ≡ Some one → f one ≡ Some y
+pub from_number : {A B : Type 0} (f : A → Option B) (xs : List A) (y : B) (number : ℕ) (one : A) → slice_get xs number ≡ Some one → f one ≡ Some y
     → ((n : ℕ) (x : A) → n < number → slice_get xs n ≡ Some x → f x ≡ None) → first_of f xs ≡ Some y
 from_number f [] y number one is gives before = absurd cc
 from_number {A} {B} f (a ∷ xs) y zero one is gives before = ap (λ (o : Option B). option_or o (first_of f xs)) (ap f (got a one is) ∙ gives)
@@ -61,10 +61,10 @@ from_number {A} {B} f (a ∷ xs) y (suc number) one is gives before =
 
 -- What a place has under a key.
 
-data PlacePick (key : Key) (place : Place) (pick : Pick) : Type 0 where
+pub data PlacePick (key : Key) (place : Place) (pick : Pick) : Type 0 where
   place_pick : (d : Declaration) → IsFirstWith key d place.pairs → pick.layer ≡ place.layer → pick.func ≡ d.func → pick.source ≡ place.source → PlacePick key place pick
 
-abbrev made : Place → Declaration → Pick
+abbrev pub made : Place → Declaration → Pick
 made place d = record { layer = place.layer; func = d.func; source = place.source }
 
 pick_by : (key : Key) (place : Place) (pick : Pick) (o : Option Declaration) → lookup (key_eq key) place.pairs ≡ o → option_map (made place) o ≡ Some pick → PlacePick key place pick
@@ -73,11 +73,11 @@ pick_by key place pick (Some d) is h =
     let same : made place d ≡ pick = got (made place d) pick h in
     place_pick d (found_first key_eq key_eq-Decides key d place.pairs is) (sym (ap (λ (p : Pick). p.layer) same)) (sym (ap (λ (p : Pick). p.func) same)) (sym (ap (λ (p : Pick). p.source) same))
 
-has_pick : (key : Key) (place : Place) (pick : Pick) → pick_at key place ≡ Some pick → PlacePick key place pick
+pub has_pick : (key : Key) (place : Place) (pick : Pick) → pick_at key place ≡ Some pick → PlacePick key place pick
 unfolding pick_at
 has_pick key place pick h = pick_by key place pick (lookup (key_eq key) place.pairs) refl h
 
-pick_of : (key : Key) (place : Place) (pick : Pick) (d : Declaration) → IsFirstWith key d place.pairs → pick.layer ≡ place.layer → pick.func ≡ d.func → pick.source ≡ place.source → pick_at key place ≡ Some pick
+pub pick_of : (key : Key) (place : Place) (pick : Pick) (d : Declaration) → IsFirstWith key d place.pairs → pick.layer ≡ place.layer → pick.func ≡ d.func → pick.source ≡ place.source → pick_at key place ≡ Some pick
 unfolding pick_at
 pick_of key place pick d r layer func source =
     let same : made place d ≡ pick = (λ i. record { layer = sym layer i; func = sym func i; source = sym source i }) in

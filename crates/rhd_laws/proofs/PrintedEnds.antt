@@ -1,6 +1,6 @@
 -- What the tests of a printer say, without their order.
 use Rattle.std.proofs.Common.{◌≡◌, Bool, true, false, ◌||◌, refl, sym, ap, ◌∙◌}
-use Rattle.std.specs.Prelude.{Option, None, Some, if◌then◌else◌, codes}
+use Rattle.std.specs.Prelude.{Option, None, Some, not, if◌then◌else◌, codes}
 use Rattle.std.specs.Option.{is_none}
 use Rattle.std.proofs.lemmas.Slice.Eq.{bytes_eq-Decides}
 use Rattle.rhd_value.specs.Tree.{Bytes, Tree}
@@ -12,11 +12,11 @@ use Rattle.rhd_value.specs.declared.fault.EvalAltResult.TheVariants.{ErrorMismat
 use Rattle.rhd_func.specs.Funcs.{is_script}
 use Rattle.rhd_engine.specs.declared.limits.Printers.{Printers}
 use Rattle.rhd_call.specs.declared.pick.Layer.{Layer}
-use Rattle.rhd_call.specs.declared.pick.Layer.TheVariants.{Library, Global, Builtin}
+use Rattle.rhd_call.specs.declared.pick.Layer.TheVariants.{Library, Global, Import, Static, Builtin}
 use Rattle.rhd_call.specs.declared.pick.Pick.{Pick}
 use Rattle.rhd_engine.specs.Engine.{EngineLists}
 use Rattle.rhd_engine.specs.Display.{display}
-use Rattle.rhd_session.specs.Plans.{Plan}
+use Rattle.rhd_session.specs.Plans.{is_unqualified, Plan}
 use Rattle.rhd_session.specs.Printed.{is_builtin, printer, no_text, printed_text, answer_after_printing}
 use Rattle.rhd_laws.specs.Prints.{Prints, by_print, by_debug, IsPrintable, Makes, unit_for_it, itself}
 
@@ -26,31 +26,34 @@ no_builtin layer h e = let q : false ≡ true = sym h ∙ ap is_builtin e in abs
 other_layer : (layer : Layer) → (layer ≡ Builtin → ⊥) → is_builtin layer ≡ false
 other_layer (Library n) h = refl
 other_layer (Global n) h = refl
+other_layer (Import n) h = refl
+other_layer (Static n) h = refl
 other_layer Builtin h = absurd (h refl)
 
--- the printer, by the tests of the function and of the name
-abbrev tested : Printers → Bool → Bool → Bool → Bool → Option Bool
-tested printers script builtin print debug = if script || builtin then None else if print then Some printers.print else if debug then Some printers.debug else None
+-- the printer, by whether the call is unqualified and by the tests of the function and of the name
+abbrev tested : Printers → Bool → Bool → Bool → Bool → Bool → Option Bool
+tested printers unqualified script builtin print debug = if not unqualified || (script || builtin) then None else if print then Some printers.print else if debug then Some printers.debug else None
 
-prints_by : (e : EngineLists) (plan : Plan) (pick : Pick) (set script builtin print debug : Bool) → is_script pick.func ≡ script → is_builtin pick.layer ≡ builtin
+prints_by : (e : EngineLists) (plan : Plan) (pick : Pick) (set unqualified script builtin print debug : Bool) → is_unqualified plan.search ≡ unqualified → is_script pick.func ≡ script → is_builtin pick.layer ≡ builtin
     → text_eq plan.name (codes "print") ≡ print → text_eq plan.name (codes "debug") ≡ debug
-    → tested e.printers script builtin print debug ≡ Some set → Prints e.printers plan pick set
-prints_by e plan pick set true builtin print debug s b p d h = absurd cc
-prints_by e plan pick set false true print debug s b p d h = absurd cc
-prints_by e plan pick set false false true debug s b p d h = by_print (s, no_builtin pick.layer b) ((bytes_eq-Decides plan.name (codes "print")).0 p) cc
-prints_by e plan pick set false false false true s b p d h = by_debug (s, no_builtin pick.layer b) ((bytes_eq-Decides plan.name (codes "debug")).0 d) cc
-prints_by e plan pick set false false false false s b p d h = absurd cc
+    → tested e.printers unqualified script builtin print debug ≡ Some set → Prints e.printers plan pick set
+prints_by e plan pick set false script builtin print debug u s b p d h = absurd cc
+prints_by e plan pick set true true builtin print debug u s b p d h = absurd cc
+prints_by e plan pick set true false true print debug u s b p d h = absurd cc
+prints_by e plan pick set true false false true debug u s b p d h = by_print u (s, no_builtin pick.layer b) ((bytes_eq-Decides plan.name (codes "print")).0 p) cc
+prints_by e plan pick set true false false false true u s b p d h = by_debug u (s, no_builtin pick.layer b) ((bytes_eq-Decides plan.name (codes "debug")).0 d) cc
+prints_by e plan pick set true false false false false u s b p d h = absurd cc
 
 -- a call has a printer exactly where it is one of the native `print` or `debug`
 pub printer_prints : (e : EngineLists) (plan : Plan) (pick : Pick) (set : Bool) → printer e.printers plan pick ≡ Some set → Prints e.printers plan pick set
 printer_prints e plan pick set h =
-    prints_by e plan pick set (is_script pick.func) (is_builtin pick.layer) (text_eq plan.name (codes "print")) (text_eq plan.name (codes "debug")) refl refl refl refl h
+    prints_by e plan pick set (is_unqualified plan.search) (is_script pick.func) (is_builtin pick.layer) (text_eq plan.name (codes "print")) (text_eq plan.name (codes "debug")) refl refl refl refl refl h
 
 pub prints_printer : (e : EngineLists) (plan : Plan) (pick : Pick) (set : Bool) → Prints e.printers plan pick set → printer e.printers plan pick ≡ Some set
-prints_printer e plan pick set (by_print native name is) =
-    (λ i. tested e.printers (native.0 i) (other_layer pick.layer native.1 i) ((bytes_eq-Decides plan.name (codes "print")).1 name i) (text_eq plan.name (codes "debug"))) ∙ ap Some is
-prints_printer e plan pick set (by_debug native name is) =
-    (λ i. tested e.printers (native.0 i) (other_layer pick.layer native.1 i) (text_eq (name i) (codes "print")) ((bytes_eq-Decides plan.name (codes "debug")).1 name i)) ∙ ap Some is
+prints_printer e plan pick set (by_print unqualified native name is) =
+    (λ i. tested e.printers (unqualified i) (native.0 i) (other_layer pick.layer native.1 i) ((bytes_eq-Decides plan.name (codes "print")).1 name i) (text_eq plan.name (codes "debug"))) ∙ ap Some is
+prints_printer e plan pick set (by_debug unqualified native name is) =
+    (λ i. tested e.printers (unqualified i) (native.0 i) (other_layer pick.layer native.1 i) (text_eq (name i) (codes "print")) ((bytes_eq-Decides plan.name (codes "debug")).1 name i)) ∙ ap Some is
 
 no_printer : (e : EngineLists) (plan : Plan) (pick : Pick) (p : Option Bool) → printer e.printers plan pick ≡ p → ((set : Bool) → Prints e.printers plan pick set → ⊥) → p ≡ None
 no_printer e plan pick None is h = refl

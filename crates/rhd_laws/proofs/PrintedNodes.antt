@@ -28,7 +28,7 @@ use Rattle.rhd_laws.proofs.PrintedEnds.{printed_prints, prints_printed}
 use Rattle.rhd_laws.proofs.HostEnds.{HostSays, host_unprinted}
 use Rattle.rhd_laws.proofs.Owned.{not_called}
 use Rattle.rhd_laws.proofs.LastSteps.{EndsBy, fails, is_large, is_other, fits, printed_ends, none_other, value_ends}
-use Rattle.rhd_laws.proofs.NodeEnds.{ShowsEnd, isnt_begun, is_deep, is_locked, is_missing, by_host, is_constant, has_ended, was_cut, runs_end}
+use Rattle.rhd_laws.proofs.NodeEnds.{ShowsEnd, isnt_begun, is_deep, is_locked, is_rootless, is_missing, by_host, is_constant, has_ended, was_cut, runs_end}
 use Rattle.rhd_laws.proofs.TreeLaws.{tree_runs}
 
 -- a last step with which the call prints
@@ -121,7 +121,8 @@ module _ {H B : Type 0} (o : Objects H B) (w : World) where
   ran_or_not : {f : Frame} {level : ℕ} {call : CallRequest} {node : CallNode} {cut : Bool} → ShowsEnd o w f level call node cut → RanOut f node ⊎ SaysNothing node
   ran_or_not {node = node} (isnt_begun s) = inr (says_nothing node _ _ (ap (λ (x : Seen). x.end) s))
   ran_or_not {node = node} (is_deep deep s) = inr (says_nothing node _ _ (ap (λ (x : Seen). x.end) s))
-  ran_or_not {node = node} (is_locked n l place s) = inr (says_nothing node _ _ (ap (λ (x : Seen). x.end) s))
+  ran_or_not {node = node} (is_locked n l unqualified place s) = inr (says_nothing node _ _ (ap (λ (x : Seen). x.end) s))
+  ran_or_not {node = node} (is_rootless path l search none s) = inr (says_nothing node _ _ (ap (λ (x : Seen). x.end) s))
   ran_or_not {node = node} (is_missing l none s) = inr (says_nothing node _ _ (ap (λ (x : Seen). x.end) s))
   ran_or_not {node = node} (by_host from to answer l none c asked alone says) = inr (hosts_nothing node alone says)
   ran_or_not {node = node} (is_constant own l none u first on s) = inr (says_nothing node _ _ (ap (λ (x : Seen). x.end) s))

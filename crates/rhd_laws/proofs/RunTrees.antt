@@ -6,7 +6,7 @@ use Rattle.rhd_func.specs.declared.request.CallRequest.{CallRequest}
 use Rattle.rhd_decl.specs.declared.fault.DeclFault.{DeclFault}
 use Rattle.rhd_decl.specs.declared.fault.DeclFault.TheVariants.{HashCollision}
 use Rattle.rhd_call.specs.declared.command.Command.{Command}
-use Rattle.rhd_call.specs.declared.command.Command.TheVariants.{NewModule, SetId, SetDoc, SetVar, SetType, Native, RawNative, Script, SubModule, Clear, RegisterFn, RegisterRaw, RegisterType, PushLib, PopLib, Call, Contains}
+use Rattle.rhd_call.specs.declared.command.Command.TheVariants.{NewModule, SetId, SetDoc, SetVar, SetType, Native, RawNative, Script, SubModule, Index, Clear, RegisterFn, RegisterRaw, RegisterType, GlobalModule, StaticModule, PushLib, PopLib, PushImport, PopImport, Call, Contains}
 use Rattle.rhd_call.specs.declared.command.Command.TheVariants.{Count as CountOf}
 use Rattle.rhd_call.specs.declared.command.ModuleId.{ModuleId}
 use Rattle.rhd_call.specs.declared.node.CallNode.{CallNode}
@@ -64,13 +64,18 @@ change_tree w f (SetType m a b) c root h is = mapped_tree _ (slice_get w.modules
 change_tree w f (Native m reg n) c root h is = mapped_tree _ (slice_get w.modules m.0) c root (λ old. done_tree root) h is
 change_tree w f (RawNative m name namespace types func) c root h is = mapped_tree _ (slice_get w.modules m.0) c root (λ old. done_tree root) h is
 change_tree w f (Script m def) c root h is = mapped_tree _ (slice_get w.modules m.0) c root (λ old. done_tree root) h is
+change_tree w f (Index m) c root h is = mapped_tree _ (slice_get w.modules m.0) c root (λ old. done_tree root) h is
 change_tree w f (Clear m) c root h is = mapped_tree _ (slice_get w.modules m.0) c root (λ old. done_tree root) h is
 change_tree w f (SubModule m name sub) c root h is = then_tree _ (slice_get w.modules sub.0) c root (λ child e. mapped_tree _ (slice_get w.modules m.0) c root (λ old. done_tree root) e) h is
 change_tree w f (RegisterFn name id) c root h is = one_tree _ c root (done_tree root) h is
 change_tree w f (RegisterRaw name types id) c root h is = one_tree _ c root (done_tree root) h is
 change_tree w f (RegisterType kind display) c root h is = one_tree _ c root (done_tree root) h is
+change_tree w f (GlobalModule m) c root h is = mapped_tree _ (slice_get w.modules m.0) c root (λ added. done_tree root) h is
+change_tree w f (StaticModule name m) c root h is = mapped_tree _ (slice_get w.modules m.0) c root (λ added. done_tree root) h is
 change_tree w f (PushLib m) c root h is = mapped_tree _ (slice_get w.modules m.0) c root (λ added. done_tree root) h is
 change_tree w f PopLib c root h is = one_tree _ c root (done_tree root) h is
+change_tree w f (PushImport name m) c root h is = mapped_tree _ (slice_get w.modules m.0) c root (λ added. done_tree root) h is
+change_tree w f PopImport c root h is = one_tree _ c root (done_tree root) h is
 change_tree w f (CountOf m) c root h is = mapped_tree _ (slice_get w.modules m.0) c root (λ asked. count_tree _ _ _ root) h is
 change_tree w f (Contains m key) c root h is = mapped_tree _ (slice_get w.modules m.0) c root (λ asked. truth_tree _ root) h is
 change_tree w f (Call request) c root h is = absurd cc
@@ -103,12 +108,17 @@ module _ {H B : Type 0} (o : Objects H B) where
   replied_tree w w2 f f2 before after (Native m reg n) reply root r is = absurd (applied_tree root r.0 is)
   replied_tree w w2 f f2 before after (RawNative m name namespace types func) reply root r is = absurd (applied_tree root r.0 is)
   replied_tree w w2 f f2 before after (Script m def) reply root r is = absurd (applied_tree root r.0 is)
+  replied_tree w w2 f f2 before after (Index m) reply root r is = absurd (applied_tree root r.0 is)
   replied_tree w w2 f f2 before after (Clear m) reply root r is = absurd (applied_tree root r.0 is)
   replied_tree w w2 f f2 before after (SubModule m name sub) reply root r is = absurd (applied_tree root r.0 is)
   replied_tree w w2 f f2 before after (RegisterFn name id) reply root r is = absurd (applied_tree root r.0 is)
   replied_tree w w2 f f2 before after (RegisterRaw name types id) reply root r is = absurd (applied_tree root r.0 is)
   replied_tree w w2 f f2 before after (RegisterType kind display) reply root r is = absurd (applied_tree root r.0 is)
+  replied_tree w w2 f f2 before after (GlobalModule m) reply root r is = absurd (applied_tree root r.0 is)
+  replied_tree w w2 f f2 before after (StaticModule name m) reply root r is = absurd (applied_tree root r.0 is)
   replied_tree w w2 f f2 before after (PushLib m) reply root r is = absurd (applied_tree root r.0 is)
+  replied_tree w w2 f f2 before after (PushImport name m) reply root r is = absurd (applied_tree root r.0 is)
+  replied_tree w w2 f f2 before after PopImport reply root r is = absurd (applied_tree root r.0 is)
   replied_tree w w2 f f2 before after (CountOf m) reply root r is = absurd (applied_tree root r.0 is)
   replied_tree w w2 f f2 before after (Contains m key) reply root r is = absurd (applied_tree root r.0 is)
   replied_tree w w2 f f2 before after (Call request) reply root r is = record { request = request; asked = refl; replied = subst (λ (x : Reply). CallReplied o w f before request x after) is r.0 }

@@ -1,7 +1,7 @@
 -- What each call of a tree shows, and where it ends with fault 9 or 10.
-use Rattle.std.proofs.Common.{◌≡◌, ℕ, ◌<◌, Bool, true, false, ltb, [], refl, sym, ap, ◌∙◌, ◌⊎◌, inl, inr, arith}
-use Rattle.std.specs.Prelude.{◌↔◌, Option, None, Some, Err}
-use Rattle.std.proofs.lemmas.Bool.{ltb-true}
+use Rattle.std.proofs.Common.{◌≡◌, ℕ, ◌<◌, Bool, true, false, List, [], refl, sym, ap, ◌∙◌, ◌⊎◌, inl, inr, arith}
+use Rattle.std.specs.Prelude.{◌↔◌, None, Some, Err}
+use Rattle.rhd_value.specs.Tree.{Bytes}
 use Rattle.rhd_value.specs.declared.fault.EvalAltResult.TheVariants.{ErrorTooManyOperations, ErrorStackOverflow}
 use Rattle.rhd_value.specs.declared.tag.Position.{Position}
 use Rattle.rhd_func.specs.declared.request.CallRequest.{CallRequest}
@@ -11,9 +11,8 @@ use Rattle.rhd_call.specs.declared.node.Whose.TheVariants.{Call}
 use Rattle.rhd_call.specs.declared.pick.Pick.{Pick}
 use Rattle.rhd_engine.specs.Engine.{EngineLists, Frame}
 use Rattle.rhd_session.specs.World.{World, Objects, Moment}
-use Rattle.rhd_session.specs.Plans.{plan_of}
 use Rattle.rhd_call.specs.End.{End, failed}
-use Rattle.rhd_session.specs.Decisions.{ends, asks_host, locked_place, refusal}
+use Rattle.rhd_session.specs.Decisions.{ends, asks_host, refusal}
 use Rattle.rhd_laws.specs.FirstAsks.{IsAnsweredFirst, EndsAlone}
 use Rattle.rhd_laws.specs.Causes.{IsOwn}
 use Rattle.rhd_laws.specs.Hosts.{EndsByHost}
@@ -21,7 +20,8 @@ use Rattle.rhd_call.specs.Seen.{Seen, seen, begun_node, unbegun_node}
 use Rattle.rhd_session.specs.Runs.{Runs, not_begun, ended, host_answered, finished, cut_short}
 use Rattle.rhd_call.specs.Trees.{InTree, is_root}
 use Rattle.rhd_session.specs.Trees.{frame_at}
-use Rattle.rhd_session.proofs.Found.{runs_within, decided_deep, deep_end, locked_end, refused_where, refusal_is, deep_refused}
+use Rattle.rhd_session.proofs.Found.{runs_within, decided_deep, deep_end, locked_end, rootless_end, deep_refused}
+use Rattle.rhd_laws.proofs.Refusals.{Refused, for_level, for_lock, for_path, refused}
 use Rattle.rhd_laws.proofs.NodeEnds.{runs_end, spends_not, overflows}
 use Rattle.rhd_laws.proofs.FirstAnswered.{ends_pick, runs_pick, asks_no_pick, shows_first, shows_missing, shows_unbegun}
 use Rattle.rhd_laws.proofs.TreeLaws.{tree_runs, runs_begun}
@@ -29,14 +29,17 @@ use Rattle.rhd_laws.proofs.TreeLaws.{tree_runs, runs_begun}
 not_deep : (call : CallRequest) (n : ℕ) → locked_end call n ≡ deep_end call → ⊥
 not_deep call n h = let same : (locked_end call n).answer ≡ (deep_end call).answer = ap (λ (x : End). x.answer) h in absurd cc
 
-deep_by : (call : CallRequest) (limit level : ℕ) (b : Bool) (locked : Option ℕ) → ltb limit level ≡ b → refused_where call b locked ≡ Some (deep_end call) → limit < level
-deep_by call limit level true locked e h = ltb-true limit level e
-deep_by call limit level false None e h = absurd cc
-deep_by call limit level false (Some n) e h = absurd (not_deep call n cc)
+path_not_deep : (call : CallRequest) (path : List Bytes) → rootless_end call path ≡ deep_end call → ⊥
+path_not_deep call path h = let same : (rootless_end call path).answer ≡ (deep_end call).answer = ap (λ (x : End). x.answer) h in absurd cc
 
 -- a call is refused for its level exactly where that is above the limit
+deep_by : {e : EngineLists} {f : Frame} {level : ℕ} {call : CallRequest} → Refused e f level call (deep_end call) → e.limits.level < level
+deep_by (for_level deep h) = deep
+deep_by {call = call} (for_lock n l unqualified place h) = absurd (not_deep call n (sym h))
+deep_by {call = call} (for_path path l search none h) = absurd (path_not_deep call path (sym h))
+
 refused_deep : (e : EngineLists) (f : Frame) (level : ℕ) (call : CallRequest) → refusal e f level call ≡ Some (deep_end call) → e.limits.level < level
-refused_deep e f level call h = deep_by call e.limits.level level (ltb e.limits.level level) (locked_place (plan_of call).shape) refl (sym (refusal_is e f level call) ∙ h)
+refused_deep e f level call h = deep_by (refused e f level call (deep_end call) h)
 
 pub refused_exactly : (e : EngineLists) (f : Frame) (level : ℕ) (call : CallRequest) → (refusal e f level call ≡ Some (failed (given call) (ErrorStackOverflow (pos_of call)))) ↔ (e.limits.level < level)
 refused_exactly e f level call = (refused_deep e f level call, deep_refused e f level call)

@@ -9,9 +9,12 @@ use Rattle.rhd_value.specs.Tree.{Bytes, Tree}
 use Rattle.rhd_value.specs.Same.{text_eq}
 use Rattle.rhd_value.specs.declared.tag.Position.{Position}
 use Rattle.rhd_value.specs.declared.fault.EvalAltResult.{EvalAltResult}
+use Rattle.rhd_func.specs.Shapes.{all_args}
 use Rattle.rhd_engine.specs.Engine.{EngineLists}
 use Rattle.rhd_engine.specs.Display.{display}
-use Rattle.rhd_engine.specs.NotFound.{get_index, set_index, get_property, set_property, not_found}
+use Rattle.rhd_engine.specs.NotFound.{get_index, set_index, get_property, set_property, not_found, not_found_in}
+use Rattle.rhd_session.specs.Plans.{Plan, Search, by_name, in_module}
+use Rattle.rhd_session.specs.Ends.{missing_fault}
 use Rattle.rhd_laws.specs.Unfound.{fault_number, IsProperty, is_getter, is_setter, IsIndexer, is_index_getter, is_index_setter, IsAccess}
 use Rattle.rhd_engine.proofs.Unfound.{by_tests, tested}
 
@@ -182,6 +185,11 @@ number_exactly e pos name args = (only_number name _ _ (row_of e pos name args),
 pub other_exactly : (e : EngineLists) (pos : Position) (name : Bytes) (args : List Tree) → (fault_number (not_found e pos name args) ≡ 1) ↔ ((n : ℕ) → IsAccess name n → ⊥)
 other_exactly e pos name args = (only_other name _ _ (row_of e pos name args), other_is name _ _ (row_of e pos name args))
 
+-- that of a qualified call is always 1
+pub qualified_exactly : (e : EngineLists) (path : List Bytes) (pos : Position) (name : Bytes) (args : List Tree) → fault_number (not_found_in e path pos name args) ≡ 1
+unfolding not_found_in
+qualified_exactly e path pos name args = refl
+
 -- it is one of the first four
 positive : (name : Bytes) (n k : ℕ) → Row name n k → 1 ≤ k
 positive name n k (by_property p e) = omega arith
@@ -189,8 +197,10 @@ positive name n k (by_indexer p e) = omega arith
 positive name n k (by_number m a d e) = omega arith
 positive name n k (by_other none e) = omega arith
 
-pub missing_positive : (e : EngineLists) (pos : Position) (name : Bytes) (args : List Tree) → 1 ≤ fault_number (not_found e pos name args)
-missing_positive e pos name args = positive name _ _ (row_of e pos name args)
+pub missing_positive : (e : EngineLists) (plan : Plan) (search : Search) → 1 ≤ fault_number (missing_fault e plan search)
+unfolding not_found_in
+missing_positive e plan (by_name token native_only) = positive plan.name _ _ (row_of e plan.pos plan.name (all_args plan.shape))
+missing_positive e plan (in_module path) = omega arith
 
 small : (name : Bytes) (n k : ℕ) → Row name n k → k ≤ 4
 small name n k (by_property p e) = omega arith
@@ -198,5 +208,7 @@ small name n k (by_indexer p e) = omega arith
 small name n k (by_number m a d e) = omega arith
 small name n k (by_other none e) = omega arith
 
-pub missing_number : (e : EngineLists) (pos : Position) (name : Bytes) (args : List Tree) → fault_number (not_found e pos name args) ≤ 4
-missing_number e pos name args = small name _ _ (row_of e pos name args)
+pub missing_number : (e : EngineLists) (plan : Plan) (search : Search) → fault_number (missing_fault e plan search) ≤ 4
+unfolding not_found_in
+missing_number e plan (by_name token native_only) = small plan.name _ _ (row_of e plan.pos plan.name (all_args plan.shape))
+missing_number e plan (in_module path) = omega arith

@@ -21,13 +21,13 @@ use Rattle.rhd_engine.specs.Engine.{EngineLists, Frame}
 use Rattle.rhd_session.specs.World.{World, Objects, Moment}
 use Rattle.rhd_call.specs.End.{End}
 use Rattle.rhd_engine.specs.declared.limits.Limits.{Limits}
-use Rattle.rhd_engine.specs.declared.limits.Printers.{Printers}
 use Rattle.rhd_call.specs.declared.node.Whose.TheVariants.{Call}
 use Rattle.rhd_call.specs.declared.pick.Pick.{Pick}
 use Rattle.rhd_engine.specs.Display.{display}
-use Rattle.rhd_session.specs.Plans.{Plan, plan_of}
+use Rattle.rhd_session.specs.Plans.{is_unqualified, Plan, plan_of}
 use Rattle.rhd_session.specs.Ends.{wanted_name, first_at_end, end_of}
-use Rattle.rhd_session.specs.Decisions.{locked_text, refusal}
+use Rattle.rhd_dispatch.specs.Races.{locked_text}
+use Rattle.rhd_session.specs.Decisions.{refusal}
 use Rattle.rhd_laws.specs.FirstAsks.{IsAnsweredFirst, IsOnConstant}
 use Rattle.rhd_session.specs.Entered.{context}
 use Rattle.rhd_laws.specs.Hosts.{HostEnds}
@@ -63,9 +63,9 @@ pub record IsLocked (shape : CallShape) (n : ℕ) : Type 0 where
 abbrev pub IsFirstLocked : CallShape → ℕ → Type 0
 IsFirstLocked shape n = IsLocked shape n × ((m : ℕ) → m < n → IsLocked shape m → ⊥)
 
--- the fault that names the first of them
+-- the call is unqualified, and the fault names the first of them
 abbrev pub NamesLocked : CallRequest → EvalAltResult → Type 0
-NamesLocked call fault = (n : ℕ) × IsFirstLocked (plan_of call).shape n × (fault ≡ ErrorDataRace (locked_text (plan_of call).name n) (pos_of call))
+NamesLocked call fault = (is_unqualified (plan_of call).search ≡ true) × (n : ℕ) × IsFirstLocked (plan_of call).shape n × (fault ≡ ErrorDataRace (locked_text (plan_of call).name n) (pos_of call))
 
 -- Nothing refuses the call, and the function of the first ask that is found isn't for a constant; the fault has the name.
 pub record IsForNoConstant (e : EngineLists) (f : Frame) (level : ℕ) (call : CallRequest) (fault : EvalAltResult) : Type 0 where
@@ -85,9 +85,9 @@ pub data Passes (limits : Limits) (sizes : Sizes) : Bytes → Type 0 where
   by_maps : {what : Bytes} → sizes.array ≤ limits.array → limits.map < sizes.map → what ≡ codes "Size of object map" → Passes limits sizes what
   by_texts : {what : Bytes} → sizes.array ≤ limits.array → sizes.map ≤ limits.map → limits.text < sizes.text → what ≡ codes "Length of string" → Passes limits sizes what
 
--- a native is called with this as its first argument by reference, or object, as that is in the end
+-- the call is unqualified, and a native is called with this as its first argument by reference, or object, as that is in the end
 abbrev pub HasFirst : EngineLists → Plan → Pick → Option Tree → Tree → Type 0
-HasFirst e plan pick back first = (is_script pick.func ≡ false) × (first_at_end e plan pick back ≡ Some first)
+HasFirst e plan pick back first = (is_unqualified plan.search ≡ true) × (is_script pick.func ≡ false) × (first_at_end e plan pick back ≡ Some first)
 
 -- neither the value nor such an argument passes a limit
 abbrev pub AreWithin : EngineLists → Plan → Pick → Option Tree → Tree → Type 0

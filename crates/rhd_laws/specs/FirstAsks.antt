@@ -10,21 +10,21 @@ use Rattle.rhd_hash.specs.declared.key.Key.{Key}
 use Rattle.rhd_engine.specs.Engine.{EngineLists, Frame}
 use Rattle.rhd_call.specs.declared.pick.Pick.{Pick}
 use Rattle.rhd_dispatch.specs.Searched.{searched, pick_at}
-use Rattle.rhd_dispatch.specs.Asks.{looked, native_found, builtin}
+use Rattle.rhd_dispatch.specs.Asks.{native_found, builtin}
 use Rattle.rhd_dispatch.specs.Patterns.{patterns}
 use Rattle.rhd_session.specs.Received.{received, convention_of, first_received}
-use Rattle.rhd_session.specs.Plans.{only_natives, Plan, plan_of}
+use Rattle.rhd_session.specs.Plans.{without_host, Plan, plan_of}
 use Rattle.rhd_call.specs.End.{End}
 use Rattle.rhd_session.specs.Ends.{missing_end}
-use Rattle.rhd_session.specs.Decisions.{asks_of, refusal, constant_end}
+use Rattle.rhd_session.specs.Decisions.{asks_of, look_of, refusal, constant_end}
 
--- the first ask that is found has this pick
+-- the first ask that is found has this pick: in all modules of the frame, or, of a qualified call, in the module at which its path begins
 abbrev pub IsAnsweredFirst : EngineLists → Frame → CallRequest → Pick → Type 0
-IsAnsweredFirst e f call pick = IsFirst (looked e f.lib f.imports) pick (asks_of e call)
+IsAnsweredFirst e f call pick = IsFirst (look_of e f call) pick (asks_of e call)
 
 -- no ask is found
 abbrev pub IsUnanswered : EngineLists → Frame → CallRequest → Type 0
-IsUnanswered e f call = NoneHas (looked e f.lib f.imports) (asks_of e call)
+IsUnanswered e f call = NoneHas (look_of e f call) (asks_of e call)
 
 -- the first place that has the key has this pick
 abbrev pub IsOfFirstPlace : EngineLists → Frame → Key → Pick → Type 0
@@ -38,16 +38,16 @@ pub record IsOnConstant (e : EngineLists) (plan : Plan) (pick : Pick) : Type 0 w
   pub receives : first_received (received (convention_of e.natives pick.func) plan.shape) ≡ Some first
   pub constant : first.marks.read_only ≡ true
 
--- Nothing runs: the call is refused so; or nothing refuses it, natives alone are meant and no ask is found; or the function of the first that is found isn't for a constant.
+-- Nothing runs: the call is refused so; or nothing refuses it, no ask is found and the host isn't asked, as natives alone are meant or the call is qualified; or the function of the first that is found isn't for a constant.
 pub data EndsAlone (e : EngineLists) (f : Frame) (level : ℕ) (call : CallRequest) (pick : Option Pick) (end : End) : Type 0 where
   is_refused : pick ≡ None → refusal e f level call ≡ Some end → EndsAlone e f level call pick end
-  isnt_found : pick ≡ None → refusal e f level call ≡ None → only_natives (plan_of call).search ≡ true → end ≡ missing_end e (plan_of call) → IsUnanswered e f call → EndsAlone e f level call pick end
+  isnt_found : pick ≡ None → refusal e f level call ≡ None → without_host (plan_of call).search ≡ true → end ≡ missing_end e (plan_of call) → IsUnanswered e f call → EndsAlone e f level call pick end
   on_constant : (own : Pick) → pick ≡ Some own → refusal e f level call ≡ None → IsAnsweredFirst e f call own → IsOnConstant e (plan_of call) own → end ≡ constant_end (plan_of call) → EndsAlone e f level call pick end
 
--- The host is asked: nothing refuses the call, scripts are allowed and no ask is found.
+-- The host is asked: nothing refuses the call, it is unqualified and scripts are allowed, and no ask is found.
 pub record IsForHost (e : EngineLists) (f : Frame) (level : ℕ) (call : CallRequest) : Type 0 where
   pub unrefused : refusal e f level call ≡ None
-  pub scripts : only_natives (plan_of call).search ≡ false
+  pub scripts : without_host (plan_of call).search ≡ false
   pub unanswered : IsUnanswered e f call
 
 -- what the native ask gives: the first pattern's native that is found, or, where none is, the built-in

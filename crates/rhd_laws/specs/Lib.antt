@@ -2,11 +2,13 @@ pub mod FirstAsks
 pub mod Hosts
 pub mod Requests
 pub mod Prints
+pub mod Roots
 pub mod Causes
 pub mod Unfound
 pub mod Owners
 pub mod PrintedTexts
 pub mod Matches
+pub mod Qualified
 pub mod Ran
 pub mod Reached
 pub mod OwnFaults

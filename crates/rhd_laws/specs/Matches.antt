@@ -1,4 +1,4 @@
--- Which declarations match a call, and which of two goes first, said without a search.
+-- Which declarations match an unqualified call, and which of two goes first, said without a search.
 use Rattle.std.specs.Prelude.{◌≡◌, ◌≢◌, ◌<◌, ℕ, false, List, [], ◌∷◌, ◌++◌, length, map, take, slice_get, Some, None}
 use Rattle.std.specs.List.{AllByRecursion}
 use Rattle.std.specs.Option.{option_map_or}
@@ -45,7 +45,7 @@ pub record IsMoreExact (kinds types others : List TypeTag) : Type 0 where
 abbrev pub kinds_in : CallRequest → List TypeTag
 kinds_in call = map tag_of (all_args (plan_of call).shape)
 
--- A declaration under this key matches a call: a script, where these are allowed, by name and number of parameters, or also by the type of the call's object; a native by name and types.
+-- A declaration under this key matches an unqualified call: a script, where these are allowed, by name and number of parameters, or also by the type of the call's object; a native by name and types.
 pub data MatchesCall (e : EngineLists) (call : CallRequest) (key : Key) : Type 0 where
   by_type : (object : Tree) (args : List Tree) → only_natives (plan_of call).search ≡ false → (plan_of call).shape ≡ Method object args
       → key ≡ Typed None (plan_of call).name (length args) (display e object) → MatchesCall e call key
@@ -84,7 +84,7 @@ pub data GoesBefore (kinds : List TypeTag) (key : Key) (n : ℕ) (other : Key) (
   more_exact : (name : Bytes) (types others : List TypeTag) → key ≡ Native None name types → other ≡ Native None name others → IsMoreExact kinds types others → GoesBefore kinds key n other behind
   earlier_place : key ≡ other → n < behind → GoesBefore kinds key n other behind
 
--- no declaration matches the call
+-- no declaration matches the unqualified call
 abbrev pub NoneMatches : EngineLists → Frame → CallRequest → Type 0
 NoneMatches e f call = (key : Key) (n : ℕ) (d : Declaration) → MatchesCall e call key → HasDeclaration e f n key d → ⊥
 
@@ -117,7 +117,7 @@ pub record HasBuiltin (e : EngineLists) (call : CallRequest) (pick : Pick) : Typ
   pub listed : IsFirstBuiltin (record { token = token; left = left; right = right }) id e.builtins
   pub shown : pick ≡ builtin_pick e token id
 
--- What answers a call: the first declaration that matches it, or where none matches a built-in.
+-- What answers an unqualified call: the first declaration that matches it, or where none matches a built-in.
 pub data IsAnsweredBy (e : EngineLists) (f : Frame) (call : CallRequest) (pick : Pick) : Type 0 where
   by_declaration : (key : Key) → IsFirstMatch e f call key pick → IsAnsweredBy e f call pick
   by_builtin : NoneMatches e f call → HasBuiltin e call pick → IsAnsweredBy e f call pick

@@ -15,10 +15,10 @@ use Rattle.rhd_laws.specs.Causes.{EndsWith}
 use Rattle.rhd_laws.specs.FirstAsks.{IsForHost}
 use Rattle.rhd_laws.specs.Hosts.{HostEnds}
 
--- the numbers of the faults of a call itself: 1 to 7 and 9 to 11
+-- the numbers of the faults of a call itself: 1 to 7 and 9 to 12
 pub data IsOwnNumber (n : ℕ) : Type 0 where
   one_to_seven : 1 ≤ n → n ≤ 7 → IsOwnNumber n
-  nine_to_eleven : 9 ≤ n → n ≤ 11 → IsOwnNumber n
+  nine_to_twelve : 9 ≤ n → n ≤ 12 → IsOwnNumber n
 
 -- Those that refuse a value: for its kind, and for a size.
 abbrev pub IsRefusing : ℕ → Type 0

@@ -31,7 +31,7 @@ pub data IsHosts (gave : HostAnswer) (answer : Result Tree EvalAltResult) : Type
   hosts_value : (v : Tree) → gave ≡ Value v → answer ≡ Ok v → IsHosts gave answer
   hosts_fault : (fault : EvalAltResult) → gave ≡ Fault fault → answer ≡ Err fault → IsHosts gave answer
 
--- Nothing refuses the call, scripts are allowed, no ask is found, and the call ends with the value or fault that the host gave between these states.
+-- Nothing refuses the call, it is unqualified and scripts are allowed, no ask is found, and the call ends with the value or fault that the host gave between these states.
 pub record IsAnsweredByHost {H B : Type 0} (o : Objects H B) (e : EngineLists) (f : Frame) (level : ℕ) (call : CallRequest) (from to : H) (end : End) : Type 0 where
   pub asked : IsForHost e f level call
   pub gave : HostAnswer

@@ -12,7 +12,7 @@ use Rattle.rhd_laws.specs.Prints.{Prints, IsPrintable, Makes}
 use Rattle.rhd_laws.specs.Causes.{AreWithin, IsOfOtherKind, EndsWith}
 use Rattle.rhd_call.specs.Seen.{Seen}
 
--- The node's function is the native `print` or `debug`, whose printer is set, and it ended with this text within the limits.
+-- The node's call is unqualified, its function is the native `print` or `debug`, whose printer is set, and it ended with this text within the limits.
 pub record ShowsText {H B : Type 0} (o : Objects H B) (w : World) (f : Frame) (node : Seen) (text : Bytes) : Type 0 where
   pub pick : Pick
   pub back : Option Tree

@@ -6,16 +6,16 @@ use Rattle.rhd_func.specs.Funcs.{is_script}
 use Rattle.rhd_engine.specs.declared.limits.Printers.{Printers}
 use Rattle.rhd_call.specs.declared.pick.Layer.TheVariants.{Builtin}
 use Rattle.rhd_call.specs.declared.pick.Pick.{Pick}
-use Rattle.rhd_session.specs.Plans.{Plan}
+use Rattle.rhd_session.specs.Plans.{is_unqualified, Plan}
 
 -- the function is a native that was found by its name: no script, and no built-in
 abbrev pub IsNative : Pick → Type 0
 IsNative pick = (is_script pick.func ≡ false) × (pick.layer ≡ Builtin → ⊥)
 
--- The call is one of the native `print` or `debug`. The truth value says whether the printer of that name is set.
+-- The call is an unqualified one of the native `print` or `debug`. The truth value says whether the printer of that name is set.
 pub data Prints (printers : Printers) (plan : Plan) (pick : Pick) : Bool → Type 0 where
-  by_print : {set : Bool} → IsNative pick → plan.name ≡ codes "print" → printers.print ≡ set → Prints printers plan pick set
-  by_debug : {set : Bool} → IsNative pick → plan.name ≡ codes "debug" → printers.debug ≡ set → Prints printers plan pick set
+  by_print : {set : Bool} → is_unqualified plan.search ≡ true → IsNative pick → plan.name ≡ codes "print" → printers.print ≡ set → Prints printers plan pick set
+  by_debug : {set : Bool} → is_unqualified plan.search ≡ true → IsNative pick → plan.name ≡ codes "debug" → printers.debug ≡ set → Prints printers plan pick set
 
 -- A printer that is set is given a text.
 abbrev pub IsPrintable : Printers → Plan → Pick → Tree → Type 0

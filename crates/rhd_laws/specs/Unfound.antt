@@ -3,15 +3,14 @@ use Rattle.std.specs.Prelude.{◌≡◌, ◌⊎◌, ℕ, ◌++◌, true, None, c
 use Rattle.rhd_value.specs.Tree.{Bytes}
 use Rattle.rhd_value.specs.declared.fault.EvalAltResult.{EvalAltResult}
 use Rattle.rhd_value.specs.declared.fault.EvalAltResult.TheVariants.{ErrorFunctionNotFound, ErrorDotExpr, ErrorIndexingType, ErrorParsing, ErrorNonPureMethodCallOnConstant, ErrorDataRace}
-use Rattle.rhd_value.specs.declared.fault.EvalAltResult.TheVariants.{ErrorMismatchOutputType, ErrorMismatchDataType, ErrorTooManyOperations, ErrorStackOverflow, ErrorDataTooLarge, ErrorRuntime}
+use Rattle.rhd_value.specs.declared.fault.EvalAltResult.TheVariants.{ErrorMismatchOutputType, ErrorMismatchDataType, ErrorTooManyOperations, ErrorStackOverflow, ErrorDataTooLarge, ErrorModuleNotFound, ErrorRuntime}
 use Rattle.rhd_func.specs.declared.request.CallRequest.{CallRequest}
 use Rattle.rhd_func.specs.declared.request.HostAnswer.TheVariants.{Nothing}
-use Rattle.rhd_func.specs.Shapes.{all_args}
 use Rattle.rhd_engine.specs.Engine.{EngineLists, Frame}
 use Rattle.rhd_session.specs.World.{Objects}
 use Rattle.rhd_call.specs.End.{End}
-use Rattle.rhd_session.specs.Plans.{only_natives, plan_of}
-use Rattle.rhd_engine.specs.NotFound.{not_found}
+use Rattle.rhd_session.specs.Plans.{without_host, plan_of}
+use Rattle.rhd_session.specs.Ends.{missing_fault}
 use Rattle.rhd_session.specs.Decisions.{refusal}
 use Rattle.rhd_laws.specs.FirstAsks.{IsUnanswered, IsForHost}
 use Rattle.rhd_laws.specs.Hosts.{HostEnds}
@@ -29,6 +28,7 @@ fault_number (ErrorMismatchDataType wanted got pos) = 8
 fault_number (ErrorTooManyOperations pos) = 9
 fault_number (ErrorStackOverflow pos) = 10
 fault_number (ErrorDataTooLarge text pos) = 11
+fault_number (ErrorModuleNotFound path pos) = 12
 fault_number (ErrorRuntime text pos) = 15
 
 -- The name is that of a getter or a setter, and n is the number of arguments that it takes.
@@ -45,12 +45,12 @@ pub data IsIndexer (name : Bytes) (n : ℕ) : Type 0 where
 abbrev pub IsAccess : Bytes → ℕ → Type 0
 IsAccess name n = IsProperty name n ⊎ IsIndexer name n
 
--- Nothing refuses the call, and neither a declaration nor a built-in answers it; and the host isn't asked, as natives alone are meant, or gave nothing between these states, and the call ends so.
+-- Nothing refuses the call, and neither a declaration nor a built-in answers it; and the host isn't asked, as natives alone are meant or the call is qualified, or gave nothing between these states, and the call ends so.
 pub data AllFail {H B : Type 0} (o : Objects H B) (e : EngineLists) (f : Frame) (level : ℕ) (call : CallRequest) (from to : H) (end : End) : Type 0 where
-  without_host : refusal e f level call ≡ None → only_natives (plan_of call).search ≡ true → IsUnanswered e f call → AllFail o e f level call from to end
+  and_no_host : refusal e f level call ≡ None → without_host (plan_of call).search ≡ true → IsUnanswered e f call → AllFail o e f level call from to end
   and_host : IsForHost e f level call → HostEnds o e call from Nothing to end → AllFail o e f level call from to end
 
--- so it is, and the fault is that of its name and arguments
+-- so it is, and the fault is that of its name and arguments, and of its path where it is qualified
 pub record IsUnfound {H B : Type 0} (o : Objects H B) (e : EngineLists) (f : Frame) (level : ℕ) (call : CallRequest) (from to : H) (end : End) (fault : EvalAltResult) : Type 0 where
   pub all_fail : AllFail o e f level call from to end
-  pub says : fault ≡ not_found e (plan_of call).pos (plan_of call).name (all_args (plan_of call).shape)
+  pub says : fault ≡ missing_fault e (plan_of call) (plan_of call).search

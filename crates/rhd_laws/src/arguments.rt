@@ -22,7 +22,8 @@ use rhd_func::{Bodies, Host, Natives};
 /// A function receives the arguments of its call in order. A native that takes all by value, and a
 /// script by reference, gets a copy of the first argument by reference or of the object, at its place,
 /// in which nothing is read-only; all else it receives as given. A native method has its first
-/// argument itself, and a script the object of a method.
+/// argument itself, and a script the object of a method. In a qualified call an object counts as a
+/// first argument by reference.
 pub fn a_function_receives_its_arguments()
     ensures copy { (e : EngineLists) (call : CallRequest) (pick : Pick) (value : Tree) → GetsCopy e.natives pick.func (plan_of call).shape
         → slice_get (all_args (plan_of call).shape) 0 ≡ Some value → slice_get (all_received (received_by e (plan_of call) pick)) 0 ≡ Some (copied value) }

@@ -3,7 +3,7 @@
 ghost use Rattle.std.specs.Prelude.{◌≡◌, ◌↔◌, ◌⊎◌, ◌+◌, ◌<◌, ◌≤◌, ℕ, Bool, true, false, if◌then◌else◌, List, [], length, Option, Some, None, Ok, Err};
 ghost use Rattle.std.specs.List.{Contains, sum_by};
 ghost use Rattle.rhd_value.specs.declared.fault.EvalAltResult.{EvalAltResult};
-ghost use Rattle.rhd_value.specs.declared.fault.EvalAltResult.TheVariants.{ErrorNonPureMethodCallOnConstant, ErrorDataRace, ErrorMismatchOutputType, ErrorTooManyOperations, ErrorStackOverflow, ErrorDataTooLarge};
+ghost use Rattle.rhd_value.specs.declared.fault.EvalAltResult.TheVariants.{ErrorNonPureMethodCallOnConstant, ErrorDataRace, ErrorMismatchOutputType, ErrorTooManyOperations, ErrorStackOverflow, ErrorDataTooLarge, ErrorModuleNotFound};
 ghost use Rattle.rhd_value.specs.declared.tag.Position.{Position};
 ghost use Rattle.rhd_value.specs.Tree.{Bytes, Tree, unit};
 ghost use Rattle.rhd_value.specs.Kinds.{plain};
@@ -21,9 +21,13 @@ ghost use Rattle.rhd_call.specs.declared.node.Whose.TheVariants as owners;
 ghost use Rattle.rhd_call.specs.declared.pick.Pick.{Pick};
 ghost use Rattle.rhd_engine.specs.Engine.{EngineLists, Frame};
 ghost use Rattle.rhd_dispatch.specs.Searched.{found};
-ghost use Rattle.rhd_session.specs.Plans.{Plan, plan_of};
+ghost use Rattle.rhd_dispatch.specs.Races.{locked_place, locked_text};
+ghost use Rattle.rhd_dispatch.specs.Picks.{root_of};
+ghost use Rattle.rhd_engine.specs.NotFound.{path_text};
+ghost use Rattle.rhd_laws.specs.Roots.{HasNoRoot, NamesNoRoot};
+ghost use Rattle.rhd_session.specs.Plans.{is_unqualified, in_module, Plan, plan_of};
 ghost use Rattle.rhd_call.specs.End.{End, failed};
-ghost use Rattle.rhd_session.specs.Decisions.{ends, asks_host, runs, locked_place, locked_text, refusal, decision, constant_end};
+ghost use Rattle.rhd_session.specs.Decisions.{ends, asks_host, runs, refusal, decision, constant_end};
 ghost use Rattle.rhd_laws.specs.Causes.{IsOwn, IsForNoConstant, IsFirstLocked, NamesLocked, RefusesKind, RefusesHosts, RefusesSize, RefusesValue, ShowsGivenBack};
 ghost use Rattle.rhd_laws.specs.FirstAsks.{IsAnsweredFirst, IsForHost, IsOnConstant, EndsAlone, IsOfFirstPlace, IsOfFirstPattern};
 ghost use Rattle.rhd_laws.specs.Hosts.{EndsByHost};
@@ -44,9 +48,10 @@ use rhd_func::{Bodies, Host, Natives};
 /// A call shows a function exactly where nothing refuses it and that is what the first ask of the
 /// call that is found gives. The function runs, unless it may change its first argument and this is
 /// a constant. Nothing runs exactly where the call is refused, or no ask of a call for natives alone
-/// is found, or for such a constant. The host is asked exactly where nothing refuses another call
-/// and no ask is found. A native is asked for by each pattern in rank, in all modules, and then
-/// among the built-ins.
+/// or of a qualified call is found, or for such a constant. The host is asked exactly where nothing
+/// refuses another call and no ask is found. An unqualified call asks in all modules: for a native
+/// by each pattern in rank, and then among the built-ins. A qualified call asks in the module at
+/// which its path begins.
 pub fn a_call_is_answered_by_the_first_declaration()
     ensures runs { (e : EngineLists) (f : Frame) (level : ℕ) (call : CallRequest) (plan : Plan) (pick : Pick) → (decision e f level call ≡ runs plan pick)
         ↔ ((refusal e f level call ≡ None) × (plan ≡ plan_of call) × IsAnsweredFirst e f call pick × (IsOnConstant e (plan_of call) pick → ⊥)) }
@@ -135,10 +140,11 @@ pub fn each_call_of_a_tree_runs_by_itself<H: Host, B: Bodies>(natives: &Natives)
 {}
 
 /// Each call of a tree that is begun has as its pick the function of the first ask that is found in
-/// its frame, a declaration or else a built-in, exactly where nothing refuses the call. Without a
-/// pick it is refused, or isn't found, or the host answers it. An answer is the host's exactly where
-/// no ask is found and the host gave it. A call that nothing refuses isn't found exactly where
-/// declarations, built-ins and the host, where it is asked, all fail.
+/// its frame, a declaration or else a built-in, or, where it is qualified, in the module at which its
+/// path begins, exactly where nothing refuses the call. Without a pick it is refused, or isn't found,
+/// or the host answers it. An answer is the host's exactly where no ask is found and the host gave it.
+/// A call that nothing refuses isn't found exactly where declarations, built-ins and the host, where
+/// it is asked, all fail.
 pub fn each_call_of_a_tree_shows_the_first_declaration<H: Host, B: Bodies>(natives: &Natives)
     ensures shown { let o = objects_of allows_call allows_resume B.allows_start B.allows_next H.allows_missing natives.now in
         (r : Ran o) (node : CallNode) (inside : InTree node r.node) (pick : Pick) → (seen node).begun ≡ true → ((seen node).pick ≡ Some pick)
@@ -178,16 +184,33 @@ pub fn the_level_of_a_call_is_limited<H: Host, B: Bodies>(natives: &Natives)
         (r : Ran o) (node : CallNode) → r.level ≡ 1 → InTree node r.node → (seen node).level ≤ r.world.engine.limits.level + 1 }
 {}
 
-/// A call whose level is within the limit ends with a data race of its own exactly where an argument
-/// that is given by value is locked. The fault names the first such place, and nothing runs.
+/// An unqualified call whose level is within the limit ends with a data race of its own exactly where
+/// an argument that is given by value is locked. The fault names the first such place, and nothing
+/// runs. No qualified call ends so.
 pub fn a_locked_argument_ends_the_call<H: Host, B: Bodies>(natives: &Natives)
     ensures place { (shape : CallShape) (n : ℕ) → (locked_place shape ≡ Some n) ↔ IsFirstLocked shape n }
     ensures ends { let o = objects_of allows_call allows_resume B.allows_start B.allows_next H.allows_missing natives.now in
         (r : Ran o) (text : Bytes) (pos : Position) → (seen r.node).begun ≡ true
         → IsOwn (seen r.node).end (ErrorDataRace text pos) ↔ ((r.level ≤ r.world.engine.limits.level) × NamesLocked r.call (ErrorDataRace text pos)) }
     ensures shown { let o = objects_of allows_call allows_resume B.allows_start B.allows_next H.allows_missing natives.now in
-        (r : Ran o) (n : ℕ) → (seen r.node).begun ≡ true → r.level ≤ r.world.engine.limits.level → IsFirstLocked (plan_of r.call).shape n
+        (r : Ran o) (n : ℕ) → (seen r.node).begun ≡ true → r.level ≤ r.world.engine.limits.level → is_unqualified (plan_of r.call).search ≡ true
+        → IsFirstLocked (plan_of r.call).shape n
         → seen r.node ≡ begun_node r.call r.level None [] [] (failed (given r.call) (ErrorDataRace (locked_text (plan_of r.call).name n) (pos_of r.call))) }
+{}
+
+/// A call whose level is within the limit ends with the fault of a missing module of its own exactly
+/// where it is qualified, and its path is empty or the path's first name is that of no import of its
+/// frame and of no static module. The fault has the names of the path, joined by `::`, and nothing
+/// runs.
+pub fn a_path_that_begins_at_no_module_ends_the_call<H: Host, B: Bodies>(natives: &Natives)
+    ensures root { (e : EngineLists) (f : Frame) (path : List Bytes) → (root_of e f.imports path ≡ None) ↔ HasNoRoot e f path }
+    ensures number { (text : Bytes) (pos : Position) → fault_number (ErrorModuleNotFound text pos) ≡ 12 }
+    ensures ends { let o = objects_of allows_call allows_resume B.allows_start B.allows_next H.allows_missing natives.now in
+        (r : Ran o) (text : Bytes) (pos : Position) → (seen r.node).begun ≡ true → IsOwn (seen r.node).end (ErrorModuleNotFound text pos)
+        ↔ ((r.level ≤ r.world.engine.limits.level) × NamesNoRoot r.world.engine r.frame r.call (ErrorModuleNotFound text pos)) }
+    ensures shown { let o = objects_of allows_call allows_resume B.allows_start B.allows_next H.allows_missing natives.now in
+        (r : Ran o) (path : List Bytes) → (seen r.node).begun ≡ true → r.level ≤ r.world.engine.limits.level → (plan_of r.call).search ≡ in_module path
+        → HasNoRoot r.world.engine r.frame path → seen r.node ≡ begun_node r.call r.level None [] [] (failed (given r.call) (ErrorModuleNotFound (path_text path) (pos_of r.call))) }
 {}
 
 /// A call ends with a fault for a constant of its own exactly where nothing refuses it and the first
@@ -205,8 +228,8 @@ pub fn a_constant_ends_the_call<H: Host, B: Bodies>(natives: &Natives)
 /// A call ends with a mismatch of its own exactly where its function ended with a value, no limit
 /// was passed, and the value is no text for a printer that is set, or what the call makes of it isn't
 /// of the wanted kind; or where the host's value isn't. It ends with a size of its own exactly where
-/// a limit was passed, by the value or by the first argument that a native had. The node shows the
-/// value, and a node shows a refused value in these cases alone.
+/// a limit was passed, by the value or by the first argument that a native of an unqualified call
+/// had. The node shows the value, and a node shows a refused value in these cases alone.
 pub fn a_value_is_refused_for_its_kind_or_size<H: Host, B: Bodies>(natives: &Natives)
     ensures kind { let o = objects_of allows_call allows_resume B.allows_start B.allows_next H.allows_missing natives.now in
         (r : Ran o) (wanted got : Bytes) (pos : Position) → IsOwn (seen r.node).end (ErrorMismatchOutputType wanted got pos)
@@ -239,8 +262,8 @@ pub fn a_call_shows_its_first_argument<H: Host, B: Bodies>(natives: &Natives)
         → (plan_of r.call).shape ≡ Method object args → ShowsGivenBack o r.world r.frame (seen r.node) pick }
 {}
 
-/// A call of a tree shows a printed text exactly where its function is the native `print` or `debug`,
-/// the printer of that name is set, and the function ended with this text within the limits; also
+/// A call of a tree shows a printed text exactly where it is unqualified, its function is the native
+/// `print` or `debug`, the printer of that name is set, and the function ended with this text within the limits; also
 /// where the call then refuses what it answers.
 pub fn a_printer_that_is_set_prints_a_text<H: Host, B: Bodies>(natives: &Natives)
     ensures { let o = objects_of allows_call allows_resume B.allows_start B.allows_next H.allows_missing natives.now in
@@ -249,8 +272,9 @@ pub fn a_printer_that_is_set_prints_a_text<H: Host, B: Bodies>(natives: &Natives
 {}
 
 /// A call of a tree answers a value of its function exactly where that ended with a value that
-/// neither a limit nor a printer refuses, the call makes this of it, and it is of the wanted kind. A
-/// call of the native `print` or `debug` that answers gives unit, whether the printer is set or not.
+/// neither a limit nor a printer refuses, the call makes this of it, and it is of the wanted kind. An
+/// unqualified call of the native `print` or `debug` that answers gives unit, whether the printer is
+/// set or not.
 pub fn a_call_answers_what_it_makes_of_a_value<H: Host, B: Bodies>(natives: &Natives)
     ensures value { let o = objects_of allows_call allows_resume B.allows_start B.allows_next H.allows_missing natives.now in
         (r : Ran o) (node : CallNode) (inside : InTree node r.node) (value : Tree)

@@ -17,7 +17,7 @@ ghost use Rattle.rhd_session.specs.Trees.{frame_at};
 
 use rhd_func::{Bodies, Host, Natives};
 
-/// A call's own end is a fault. It has one of the numbers 1 to 7 and 9 to 11, and refuses a value
+/// A call's own end is a fault. It has one of the numbers 1 to 7 and 9 to 12, and refuses a value
 /// exactly where its number is 7 or 11; no other end refuses one. A fault is the function's exactly
 /// where its last step failed with it, and the host's exactly where the host was asked and gave it.
 /// So a fault of a call itself is told apart from one of its function with the same number.

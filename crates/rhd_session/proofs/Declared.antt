@@ -22,7 +22,11 @@ use Rattle.rhd_decl.specs.declared.fault.DeclFault.TheVariants.{HashCollision, I
 use Rattle.rhd_module.specs.Tree.{ModuleTree, empty_module}
 use Rattle.rhd_module.specs.Contents.{with_sub}
 use Rattle.rhd_module.specs.Registered.{with_decl, unheld, Puts}
-use Rattle.rhd_engine.specs.Engine.{Frame}
+use Rattle.rhd_module.specs.Walk.{tree}
+use Rattle.rhd_module.specs.Index.{NoneClash, Indexes, indexed}
+use Rattle.rhd_engine.specs.Engine.{Frame, Imports}
+use Rattle.rhd_engine.specs.Lists.{second}
+use Rattle.rhd_engine.specs.Statics.{with_static, made_static, Places, TreeClear}
 use Rattle.rhd_engine.specs.Registered.{in_first, InFirst}
 use Rattle.rhd_call.specs.declared.command.Command.{Command}
 use Rattle.rhd_call.specs.declared.command.ModuleId.{ModuleId}
@@ -30,7 +34,7 @@ use Rattle.rhd_call.specs.declared.command.Command.TheVariants as commands
 use Rattle.rhd_call.specs.declared.reply.Reply.{Reply}
 use Rattle.rhd_call.specs.declared.reply.Reply.TheVariants.{Done, Made, Refused}
 use Rattle.rhd_session.specs.World.{World}
-use Rattle.rhd_session.specs.Commands.{cause, change, Change, ChangedModule, Keyed, eager_keys, with_keys, without_keys, module_change, target, operands, pop_operand, unknown_of, not_callable, indexer_not_allowed, with_module, changed, changed_by, changed_first, with_globals, with_libs, but_last, func_operands}
+use Rattle.rhd_session.specs.Commands.{cause, change, Change, ChangedModule, Keyed, eager_keys, tree_keys, with_imports, with_globals, with_statics, with_keys, without_keys, module_change, target, operands, pop_operand, unknown_of, not_callable, indexer_not_allowed, with_module, changed, changed_by, changed_first, with_globals, with_libs, but_last, func_operands}
 use Rattle.rhd_session.specs.Answered.{Declares, refused, collided, done, NoClash}
 use Rattle.rhd_session.specs.Changing.{ChangesModule, Goes, IsReply, module_cause, native_in, iterator_in}
 
@@ -125,6 +129,16 @@ pub done_in : (w w2 : World) (f f2 : Frame) (command : Command) (c : Change) →
 done_in w w2 f f2 command c none changes clear ew ef =
     subst (λ (x : World). Declares w f command c.reply x f2) (sym ew) (subst (λ (x : Frame). Declares w f command c.reply c.world x) (sym ef) (done none changes clear))
 
+-- the tables of trees in which no two keys clash, and one of them
+clear_keys : (ms : List ModuleTree) → AllByRecursion (λ m. NoneClash m.own.seeds (keys_of (tree m))) ms → AllByRecursion NoClash (map tree_keys ms)
+clear_keys [] all = tt
+clear_keys (m ∷ ms) all = (all.0, clear_keys ms all.1)
+
+keyed_there : (ms : List ModuleTree) (m : ModuleTree) → Contains ms m → Contains (map tree_keys ms) (tree_keys m)
+keyed_there [] m (i, within, is) = absurd (omega (arith, within))
+keyed_there (x ∷ ms) m (zero, within, is) = (0, omega arith, ap tree_keys is)
+keyed_there (x ∷ ms) m (suc i, within, is) = let h = keyed_there ms m (i, omega (arith, within), is) in (suc h.0, omega (arith, h.1), h.2)
+
 -- Commands on libraries, and questions.
 
 pub push_goes : (w : World) (f f2 : Frame) (id : ModuleId) (added : ModuleTree) → slice_get w.modules id.0 ≡ Some added → f2 ≡ record f { lib = f.lib ++ added ∷ [] } → Declares w f (commands.PushLib id) Done w f2
@@ -138,12 +152,12 @@ made_goes w w2 f id n made =
     subst (λ (x : ModuleId). Declares w f commands.NewModule (Made x) w2 f) (sym same)
     (subst (λ (x : World). Declares w f commands.NewModule (Made (record { 0 = length w.modules })) x f) (sym made) (done refl refl tt))
 
-but_last_push : (ms : List ModuleTree) (m : ModuleTree) → but_last (ms ++ m ∷ []) ≡ ms
+but_last_push : {A : Type 0} (ms : List A) (m : A) → but_last (ms ++ m ∷ []) ≡ ms
 but_last_push [] m = refl
 but_last_push (x ∷ []) m = refl
-but_last_push (x ∷ y ∷ ms) m = ap (λ (ns : List ModuleTree). x ∷ ns) (but_last_push (y ∷ ms) m)
+but_last_push {A} (x ∷ y ∷ ms) m = ap (λ (ns : List A). x ∷ ns) (but_last_push (y ∷ ms) m)
 
-one_left : (libs : List ModuleTree) (m : ModuleTree) → first_of unknown_of (pop_operand (libs ++ m ∷ [])) ≡ None
+one_left : {A : Type 0} (libs : List A) (m : A) → first_of unknown_of (pop_operand (libs ++ m ∷ [])) ≡ None
 one_left [] m = refl
 one_left (x ∷ libs) m = refl
 
@@ -157,6 +171,66 @@ pub pop_refused : (w : World) (f f2 : Frame) → f.lib ≡ [] → f2 ≡ f → D
 pop_refused w f f2 none same =
     let found : cause w f commands.PopLib ≡ Some (UnknownNumber 0 0) = by_unknown w f commands.PopLib (UnknownNumber 0 0) (ap (λ (ms : List ModuleTree). first_of unknown_of (pop_operand ms)) none) in
     subst (λ (x : Frame). Declares w f commands.PopLib (Refused (UnknownNumber 0 0)) w x) (sym same) (refused found)
+
+-- Commands on imports, on global modules and on static modules.
+
+pub import_goes : (w : World) (f f2 : Frame) (name : Bytes) (id : ModuleId) (m new : ModuleTree) → slice_get w.modules id.0 ≡ Some m → Indexes {A = Unit {0}} m (Ok tt) new → f2 ≡ record f { imports = f.imports ++ (name, new) ∷ [] }
+    → Declares w f (commands.PushImport name id) Done w f2
+import_goes w f f2 name id m new is does made =
+    let none = none_refuses w f (commands.PushImport name id) (one_held id.0 (length w.modules) (slice_get_within w.modules id.0 m is)) refl refl in
+    let c = with_imports w f (f.imports ++ (name, indexed m) ∷ []) (tree_keys m ∷ []) in
+    done_in w w f f2 (commands.PushImport name id) c none (ap (option_map (λ a. with_imports w f (f.imports ++ (name, indexed a) ∷ []) (tree_keys a ∷ []))) is) (does.0, tt) refl
+    (made ∙ ap (λ (x : ModuleTree). record f { imports = f.imports ++ (name, x) ∷ [] }) does.1)
+
+-- a module whose index isn't built is no import
+pub import_refused : (w : World) (f : Frame) (name : Bytes) (id : ModuleId) (m new : ModuleTree) (fault : DeclFault) → slice_get w.modules id.0 ≡ Some m → Indexes {A = Unit {0}} m (Err fault) new → Goes w f (commands.PushImport name id) (Err fault) w f
+import_refused w f name id m new (HashCollision held other) is does =
+    let none = none_refuses w f (commands.PushImport name id) (one_held id.0 (length w.modules) (slice_get_within w.modules id.0 m is)) refl refl in
+    collided none (ap (option_map (λ a. with_imports w f (f.imports ++ (name, indexed a) ∷ []) (tree_keys a ∷ []))) is) (0, omega arith, refl) does.0
+import_refused w f name id m new no_memory is does = (refl, refl)
+import_refused w f name id m new (IndexerNotAllowed key) is does = absurd does
+import_refused w f name id m new NotCallable is does = absurd does
+import_refused w f name id m new (UnknownNumber number count) is does = absurd does
+
+pub pop_import_goes : (w : World) (f f2 : Frame) (imports : Imports) (last : Bytes × ModuleTree) → f.imports ≡ imports ++ last ∷ [] → f2 ≡ record f { imports = imports } → Declares w f commands.PopImport Done w f2
+pop_import_goes w f f2 imports last is made =
+    let none = none_refuses w f commands.PopImport (ap (λ (es : Imports). first_of unknown_of (pop_operand es)) is ∙ one_left imports last) refl refl in
+    let left : but_last f.imports ≡ imports = ap but_last is ∙ but_last_push imports last in
+    done_in w w f f2 commands.PopImport (with_imports w f (but_last f.imports) []) none refl tt refl (made ∙ ap (λ (es : Imports). record f { imports = es }) (sym left))
+
+pub pop_import_refused : (w : World) (f f2 : Frame) → f.imports ≡ [] → f2 ≡ f → Declares w f commands.PopImport (Refused (UnknownNumber 0 0)) w f2
+pop_import_refused w f f2 none same =
+    let found : cause w f commands.PopImport ≡ Some (UnknownNumber 0 0) = by_unknown w f commands.PopImport (UnknownNumber 0 0) (ap (λ (es : Imports). first_of unknown_of (pop_operand es)) none) in
+    subst (λ (x : Frame). Declares w f commands.PopImport (Refused (UnknownNumber 0 0)) w x) (sym same) (refused found)
+
+pub global_goes : (w w2 : World) (f : Frame) (id : ModuleId) (m : ModuleTree) → slice_get w.modules id.0 ≡ Some m → w2 ≡ record w { engine = record w.engine { globals = second m w.engine.globals } } → Declares w f (commands.GlobalModule id) Done w2 f
+global_goes w w2 f id m is made =
+    let none = none_refuses w f (commands.GlobalModule id) (one_held id.0 (length w.modules) (slice_get_within w.modules id.0 m is)) refl refl in
+    done_in w w2 f f (commands.GlobalModule id) (with_globals w f (second m w.engine.globals) []) none (ap (option_map (λ a. with_globals w f (second a w.engine.globals) [])) is) tt made refl
+
+-- what registering a static module answers, as an answer of the session
+pub static_goes : (w : World) (f : Frame) (name : Bytes) (id : ModuleId) (m : ModuleTree) (new : Imports) (r : Result (Unit {0}) DeclFault) → slice_get w.modules id.0 ≡ Some m → Places w.engine.seeds name m w.engine.statics r new
+    → Goes w f (commands.StaticModule name id) r (record w { engine = record w.engine { statics = new } }) f
+static_goes w f name id m new r is places =
+    let none = none_refuses w f (commands.StaticModule name id) (one_held id.0 (length w.modules) (slice_get_within w.modules id.0 m is)) refl refl in
+    let tables = made_static w.engine.seeds name m w.engine.statics in
+    let changes : change w f (commands.StaticModule name id) ≡ Some (with_statics w f (with_static w.engine.seeds name m w.engine.statics) (map tree_keys tables)) =
+    ap (option_map (λ a. with_statics w f (with_static w.engine.seeds name a w.engine.statics) (map tree_keys (made_static w.engine.seeds name a w.engine.statics)))) is in
+    by none changes r places
+  where
+    put_in : Imports → World
+    put_in es = record w { engine = record w.engine { statics = es } }
+
+    by : cause w f (commands.StaticModule name id) ≡ None → change w f (commands.StaticModule name id) ≡ Some (with_statics w f (with_static w.engine.seeds name m w.engine.statics) (map tree_keys (made_static w.engine.seeds name m w.engine.statics)))
+        → (r : Result (Unit {0}) DeclFault) → Places w.engine.seeds name m w.engine.statics r new → Goes w f (commands.StaticModule name id) r (put_in new) f
+    by none changes (Ok u) places = done_in w (put_in new) f f (commands.StaticModule name id) _ none changes (clear_keys (made_static w.engine.seeds name m w.engine.statics) places.1) (ap put_in places.0) refl
+    by none changes (Err no_memory) places = (ap put_in places, refl)
+    by none changes (Err (HashCollision held other)) places =
+        subst (λ (x : World). Goes w f (commands.StaticModule name id) (Err (HashCollision held other)) x f) (sym (ap put_in places.1))
+        (collided none changes (keyed_there (made_static w.engine.seeds name m w.engine.statics) places.0.0 places.0.1) places.0.2)
+    by none changes (Err (IndexerNotAllowed key)) places = absurd places
+    by none changes (Err NotCallable) places = absurd places
+    by none changes (Err (UnknownNumber number count)) places = absurd places
 
 -- a question about a module that is held
 pub asked_goes : (w : World) (f : Frame) (command : Command) (id : ModuleId) (m : ModuleTree) (reply same : Reply) → operands w f command ≡ (id.0, length w.modules) ∷ [] → not_callable command ≡ None → indexer_not_allowed w.engine.natives command ≡ None → slice_get w.modules id.0 ≡ Some m

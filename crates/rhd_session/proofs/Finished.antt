@@ -5,9 +5,7 @@ use Rattle.rhd_value.specs.Tree.{Tree}
 use Rattle.rhd_value.specs.declared.fault.EvalAltResult.{EvalAltResult}
 use Rattle.rhd_func.specs.Natives.{NativeInfo}
 use Rattle.rhd_func.specs.declared.request.CallRequest.{CallRequest}
-use Rattle.rhd_func.specs.declared.request.CallRequest.TheVariants.{Named}
-use Rattle.rhd_func.specs.declared.request.CallShape.{CallShape}
-use Rattle.rhd_func.specs.Shapes.{first_given}
+use Rattle.rhd_func.specs.Shapes.{given}
 use Rattle.rhd_call.specs.End.{End, refusing}
 use Rattle.rhd_call.specs.declared.pick.Pick.{Pick}
 use Rattle.rhd_engine.specs.Engine.{EngineLists}
@@ -15,13 +13,14 @@ use Rattle.rhd_engine.specs.declared.limits.Printers.{Printers}
 use Rattle.rhd_session.specs.Plans.{Plan, plan_of}
 use Rattle.rhd_session.specs.Printed.{printer}
 use Rattle.rhd_session.specs.Received.{convention_of, first_after}
+use Rattle.rhd_session.proofs.HostEnds.{plan_given}
 use Rattle.rhd_session.specs.Ends.{first_at_end, unfit, end_with_printer, done}
 
 -- its first argument in the end
-pub first_is : (e : EngineLists) (natives : List NativeInfo) (call : CallRequest) (pick : Pick) (shape : CallShape) (back first : Option Tree) →
-    natives ≡ e.natives → shape ≡ (plan_of call).shape → first ≡ first_after (convention_of natives pick.func) shape (first_given shape) back → first ≡ first_at_end e (plan_of call) pick back
-first_is e natives (Named name token native_only given want pos) pick shape back first n s f =
-    f ∙ ap (λ (ns : List NativeInfo). first_after (convention_of ns pick.func) shape (first_given shape) back) n ∙ ap (λ (sh : CallShape). first_after (convention_of e.natives pick.func) sh (first_given sh) back) s
+pub first_is : (e : EngineLists) (natives : List NativeInfo) (call : CallRequest) (pick : Pick) (back first : Option Tree) →
+    natives ≡ e.natives → first ≡ first_after (convention_of natives pick.func) (plan_of call).shape (given call) back → first ≡ first_at_end e (plan_of call) pick back
+first_is e natives call pick back first n f =
+    f ∙ (λ i. first_after (convention_of (n i) pick.func) (plan_of call).shape (plan_given call i) back)
 
 -- nothing is refused
 where_fit : (x : Option EvalAltResult) (fits : End) (refused : EvalAltResult → End) → x ≡ None → fits ≡ elim x as (λ _. End) [ None ↦ fits | Some fault ↦ refused fault ]

@@ -20,7 +20,8 @@ use Rattle.rhd_value.specs.Kinds.{type_name}
 use Rattle.rhd_func.specs.declared.access.FnNamespace.TheVariants.{Global}
 use Rattle.rhd_module.specs.declared.registration.FuncRegistration.{FuncRegistration}
 use Rattle.rhd_module.specs.Contents.{with_sub, with_type}
-use Rattle.rhd_module.specs.Registered.{with_decl, unheld, native_at, native_key, native_decl, registered_decl, Puts}
+use Rattle.std.specs.Map.{keys_of}
+use Rattle.rhd_module.specs.Registered.{put, with_decl, unheld, native_at, native_key, native_decl, registered_decl, Puts}
 use Rattle.rhd_engine.specs.Engine.{Frame}
 use Rattle.rhd_engine.specs.Registered.{in_first, InFirst, RegistersFirst, RegistersRawFirst, fn_registration, raw_func}
 use Rattle.rhd_call.specs.declared.command.Command.{Command}
@@ -33,6 +34,8 @@ use Rattle.rhd_session.specs.Answered.{Declares, refused, collided, NoClash}
 use Rattle.rhd_session.specs.Changing.{Goes}
 use Rattle.rhd_engine.specs.Held.{names_held, all_held}
 use Rattle.rhd_engine.proofs.HeldLaws.{type_first_held, first_count}
+use Rattle.rhd_engine.proofs.HeldTrees.{sub_held}
+use Rattle.rhd_module.proofs.Fills.{none_clash}
 use Rattle.rhd_session.proofs.Declared.{none_refuses, two_held, done_in}
 
 -- a declaration is put into the first of these modules
@@ -46,7 +49,7 @@ module _ (w : World) (f : Frame) (command : Command) (k : ModuleTree → Key) (d
   first_step : (m changed : ModuleTree) (ms : List ModuleTree) (r : Result (Unit {0}) DeclFault) → w.engine.globals ≡ m ∷ ms
       → change w f command ≡ Some (with_globals w f (with_decl (k m) (d m) m ∷ ms) (eager_keys (with_decl (k m) (d m) m) ∷ [])) → Puts known (k m) (d m) m r changed → Goes w f command r (in_globals w (changed ∷ ms)) f
   first_step m changed ms (Ok u) is changes puts =
-      done_in w (in_globals w (changed ∷ ms)) f f command (with_globals w f (with_decl (k m) (d m) m ∷ ms) (eager_keys (with_decl (k m) (d m) m) ∷ [])) (caused ∙ puts.0) changes (puts.1, tt)
+      done_in w (in_globals w (changed ∷ ms)) f f command (with_globals w f (with_decl (k m) (d m) m ∷ ms) (eager_keys (with_decl (k m) (d m) m) ∷ [])) (caused ∙ puts.0) changes (none_clash m.own.seeds (keys_of (put (k m) (d m) m.own.eager)) puts.1, tt)
       (ap (λ (x : ModuleTree). in_globals w (x ∷ ms)) puts.2) refl
   first_step m changed ms (Err no_memory) is changes puts = (ap (λ (x : ModuleTree). in_globals w (x ∷ ms)) puts ∙ ap (in_globals w) (sym is), refl)
   first_step m changed ms (Err (HashCollision held other)) is changes puts =
@@ -115,14 +118,10 @@ sub_goes w w2 f id sub name old child new is from puts made =
     ap (option_and_then (λ c. option_map (λ o. with_module w f id (without_keys (with_sub name c o))) (slice_get w.modules id.0))) from ∙ ap (option_map (λ o. with_module w f id (without_keys (with_sub name child o)))) is in
     done_in w w2 f f (commands.SubModule id name sub) (with_module w f id (without_keys (with_sub name child old))) none changes tt (made ∙ ap (λ (m : ModuleTree). record w { modules = slice_set w.modules id.0 m }) puts) refl
 
--- a module that gets a sub-module declares what it did
-pub sub_held : (n : ℕ) (name : Bytes) (child m : ModuleTree) → names_held n (with_sub name child m) ≡ names_held n m
-sub_held n name child m = refl
-
 -- whether or not a sub-module is put
-pub sub_either : {E : Type 0} (r : Result (Unit {0}) E) (n : ℕ) (name : Bytes) (child old new : ModuleTree) → OnOk r (new ≡ with_sub name child old) → OnErr r (new ≡ old) → names_held n old ≡ true → names_held n new ≡ true
-sub_either (Ok u) n name child old new ok err all = ap (names_held n) ok ∙ all
-sub_either (Err e) n name child old new ok err all = ap (names_held n) err ∙ all
+pub sub_either : {E : Type 0} (r : Result (Unit {0}) E) (n : ℕ) (name : Bytes) (child old new : ModuleTree) → OnOk r (new ≡ with_sub name child old) → OnErr r (new ≡ old) → names_held n child ≡ true → names_held n old ≡ true → names_held n new ≡ true
+sub_either (Ok u) n name child old new ok err held all = ap (names_held n) ok ∙ sub_held n name child old held all
+sub_either (Err e) n name child old new ok err held all = ap (names_held n) err ∙ all
 
 -- whether or not a type is shown otherwise
 pub type_either : {E : Type 0} (r : Result (Unit {0}) E) (n : ℕ) (type_name display : Bytes) (old new : List ModuleTree) → OnOk r (new ≡ in_first (with_type type_name display []) old) → OnErr r (new ≡ old)

@@ -6,7 +6,7 @@ use Rattle.rhd_value.specs.declared.fault.EvalAltResult.{EvalAltResult}
 use Rattle.rhd_func.specs.declared.request.HostAnswer.{HostAnswer}
 use Rattle.rhd_func.specs.declared.request.HostAnswer.TheVariants.{Nothing, Value, Fault}
 use Rattle.rhd_func.specs.declared.request.CallRequest.{CallRequest}
-use Rattle.rhd_func.specs.declared.request.CallRequest.TheVariants.{Named}
+use Rattle.rhd_func.specs.declared.request.CallRequest.TheVariants.{Named, Qualified}
 use Rattle.rhd_func.specs.Shapes.{given}
 use Rattle.rhd_call.specs.declared.node.CallNode.{CallNode}
 use Rattle.rhd_call.specs.declared.node.Whose.TheVariants.{Host}
@@ -17,8 +17,9 @@ use Rattle.rhd_session.specs.Ends.{accepted, missing_end, host_end}
 use Rattle.rhd_call.specs.Seen.{seen}
 use Rattle.rhd_session.specs.Filling.{with_end}
 
-plan_given : (call : CallRequest) → given call ≡ (plan_of call).given
+pub plan_given : (call : CallRequest) → given call ≡ (plan_of call).given
 plan_given (Named name token native_only shape want pos) = refl
+plan_given (Qualified path name shape pos) = refl
 
 -- the end of a call with each answer of the host
 pub nothing_ends : (e : EngineLists) (old new : CallNode) (answer : HostAnswer) (fault : EvalAltResult) →

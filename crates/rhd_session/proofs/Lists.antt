@@ -18,6 +18,11 @@ use Rattle.rhd_session.specs.Answered.{Declares, declared, Replied, Answered, Be
 pub begins_none : (command : Command) (n : ℕ) → Begins command n n
 begins_none commands.NewModule n = refl
 begins_none commands.PopLib n = refl
+begins_none commands.PopImport n = refl
+begins_none (commands.PushImport name m) n = refl
+begins_none (commands.GlobalModule m) n = refl
+begins_none (commands.StaticModule name m) n = refl
+begins_none (commands.Index m) n = refl
 begins_none (commands.SetId m a) n = refl
 begins_none (commands.SetDoc m a) n = refl
 begins_none (commands.SetVar m a b) n = refl
@@ -40,6 +45,11 @@ pub declares_replied : {H B : Type 0} (o : Objects H B) (w w2 : World) (f f2 : F
 declares_replied o w w2 f f2 before after (commands.Call request) reply q d e = absurd (let x : true ≡ false = q in cc)
 declares_replied o w w2 f f2 before after commands.NewModule reply q d e = (declared d, e)
 declares_replied o w w2 f f2 before after commands.PopLib reply q d e = (declared d, e)
+declares_replied o w w2 f f2 before after commands.PopImport reply q d e = (declared d, e)
+declares_replied o w w2 f f2 before after (commands.PushImport name m) reply q d e = (declared d, e)
+declares_replied o w w2 f f2 before after (commands.GlobalModule m) reply q d e = (declared d, e)
+declares_replied o w w2 f f2 before after (commands.StaticModule name m) reply q d e = (declared d, e)
+declares_replied o w w2 f f2 before after (commands.Index m) reply q d e = (declared d, e)
 declares_replied o w w2 f f2 before after (commands.SetId m a) reply q d e = (declared d, e)
 declares_replied o w w2 f f2 before after (commands.SetDoc m a) reply q d e = (declared d, e)
 declares_replied o w w2 f f2 before after (commands.SetVar m a b) reply q d e = (declared d, e)
@@ -61,6 +71,11 @@ pub declares_begins : (command : Command) (before after : ℕ) → is_call comma
 declares_begins (commands.Call request) before after q e = absurd (let x : true ≡ false = q in cc)
 declares_begins commands.NewModule before after q e = e
 declares_begins commands.PopLib before after q e = e
+declares_begins commands.PopImport before after q e = e
+declares_begins (commands.PushImport name m) before after q e = e
+declares_begins (commands.GlobalModule m) before after q e = e
+declares_begins (commands.StaticModule name m) before after q e = e
+declares_begins (commands.Index m) before after q e = e
 declares_begins (commands.SetId m a) before after q e = e
 declares_begins (commands.SetDoc m a) before after q e = e
 declares_begins (commands.SetVar m a b) before after q e = e

@@ -24,7 +24,10 @@ use Rattle.rhd_value.specs.declared.tag.TypeTag.{TypeTag}
 use Rattle.rhd_func.specs.declared.access.FnNamespace.{FnNamespace}
 use Rattle.rhd_func.specs.declared.func.ScriptFuncDef.{ScriptFuncDef}
 use Rattle.rhd_module.specs.declared.registration.FuncRegistration.{FuncRegistration}
-use Rattle.rhd_module.specs.Registered.{with_decl, unheld, banned, native_at, native_key, native_decl, registered_func, registered_decl, registration_cause, raw_cause, script_key, script_decl, Puts, Registers, RegistersRaw}
+use Rattle.rhd_module.specs.Index.{Indexes}
+use Rattle.rhd_module.proofs.Fills.{none_clash}
+use Rattle.std.specs.Map.{keys_of}
+use Rattle.rhd_module.specs.Registered.{put, with_decl, unheld, banned, native_at, native_key, native_decl, registered_func, registered_decl, registration_cause, raw_cause, script_key, script_decl, Puts, Registers, RegistersRaw}
 use Rattle.rhd_engine.specs.Engine.{Frame}
 use Rattle.rhd_engine.specs.Held.{names_held}
 use Rattle.rhd_call.specs.declared.command.Command.{Command}
@@ -33,7 +36,7 @@ use Rattle.rhd_func.specs.declared.access.IterId.{IterId}
 use Rattle.rhd_call.specs.declared.reply.Reply.TheVariants.{Refused}
 use Rattle.rhd_call.specs.declared.command.Command.TheVariants as commands
 use Rattle.rhd_session.specs.World.{World}
-use Rattle.rhd_session.specs.Commands.{cause, change, Keyed, eager_keys, ChangedModule, with_keys, without_keys, module_change, target, operands, func_operands, unknown_of, not_callable, indexer_not_allowed, with_module, raw_registration}
+use Rattle.rhd_session.specs.Commands.{cause, change, Keyed, eager_keys, tree_keys, ChangedModule, with_keys, without_keys, module_change, target, operands, func_operands, unknown_of, not_callable, indexer_not_allowed, with_module, raw_registration}
 use Rattle.rhd_session.specs.Answered.{Declares, refused, collided, NoClash}
 use Rattle.rhd_session.specs.Changing.{ChangesModule, Goes, module_cause, native_in, iterator_in}
 use Rattle.rhd_engine.proofs.HeldLaws.{stays_held, number_held, registered_number, allowed_held, can_be_called, callable_by, infos_count}
@@ -43,7 +46,7 @@ use Rattle.rhd_session.proofs.Declared.{set_there, done_in, refused_first, refus
 pub puts_change : (natives : List NativeInfo) (command : Command) (known : Option DeclFault) (k : Key) (d : Declaration) (old new : ModuleTree) (r : Result (Unit {0}) DeclFault) → module_cause natives command ≡ known → module_change natives command old ≡ with_keys (with_decl k d old)
     → Puts known k d old r new → ChangesModule natives command old r new
 puts_change natives command known k d old new (Ok u) none is puts =
-    (none ∙ puts.0, subst (λ (c : ChangedModule). AllByRecursion NoClash c.tables) (sym is) (puts.1, tt), puts.2 ∙ ap (λ (c : ChangedModule). c.tree) (sym is))
+    (none ∙ puts.0, subst (λ (c : ChangedModule). AllByRecursion NoClash c.tables) (sym is) (none_clash old.own.seeds (keys_of (put k d old.own.eager)) puts.1, tt), puts.2 ∙ ap (λ (c : ChangedModule). c.tree) (sym is))
 puts_change natives command known k d old new (Err no_memory) none is puts = puts
 puts_change natives command known k d old new (Err (HashCollision held other)) none is puts = (
   none ∙ puts.0,
@@ -53,6 +56,18 @@ puts_change natives command known k d old new (Err (HashCollision held other)) n
 puts_change natives command known k d old new (Err (IndexerNotAllowed key)) none is puts = (none ∙ puts.0, puts.1)
 puts_change natives command known k d old new (Err NotCallable) none is puts = (none ∙ puts.0, puts.1)
 puts_change natives command known k d old new (Err (UnknownNumber number count)) none is puts = (none ∙ puts.0, puts.1)
+
+-- building an index is a change with the keys of the tree
+pub index_changes : (natives : List NativeInfo) (command : Command) (m : ModuleId) (old new : ModuleTree) (r : Result (Unit {0}) DeclFault) → command ≡ commands.Index m → Indexes old r new → ChangesModule natives command old r new
+index_changes natives command m old new r is does = subst (λ (c : Command). ChangesModule natives c old r new) (sym is) (by r does)
+  where
+    by : (r : Result (Unit {0}) DeclFault) → Indexes old r new → ChangesModule natives (commands.Index m) old r new
+    by (Ok u) does = (refl, (does.0, tt), does.1)
+    by (Err no_memory) does = does
+    by (Err (HashCollision held other)) does = (refl, (tree_keys old, (0, omega arith, refl), does.0), does.1)
+    by (Err (IndexerNotAllowed key)) does = absurd does
+    by (Err NotCallable) does = absurd does
+    by (Err (UnknownNumber number count)) does = absurd does
 
 -- the commands that put a declaration
 pub native_changes : (natives : List NativeInfo) (command : Command) (m : ModuleId) (reg : FuncRegistration) (id : FnId) (old new : ModuleTree) (r : Result (Unit {0}) DeclFault) → command ≡ commands.Native m reg id → Registers natives reg id old r new → ChangesModule natives command old r new
@@ -104,14 +119,19 @@ cause_held w f (commands.Native m reg n) id at plain below = caused w (commands.
 cause_held w f (commands.RawNative m name namespace types func) id at plain below =
     caused w (commands.RawNative m name namespace types func) _ (behind m.0 (length w.modules) (func_operands w func) (below_same w m id at below) ∙ func_unheld w func plain)
 cause_held w f (commands.Script m def) id at plain below = caused w (commands.Script m def) _ (behind m.0 (length w.modules) [] (below_same w m id at below))
+cause_held w f (commands.Index m) id at plain below = caused w (commands.Index m) _ (behind m.0 (length w.modules) [] (below_same w m id at below))
 cause_held w f (commands.Clear m) id at plain below = caused w (commands.Clear m) _ (behind m.0 (length w.modules) [] (below_same w m id at below))
 cause_held w f commands.NewModule id at plain below = absurd cc
 cause_held w f (commands.SubModule m name sub) id at plain below = absurd cc
 cause_held w f (commands.RegisterFn name n) id at plain below = absurd cc
 cause_held w f (commands.RegisterRaw name types n) id at plain below = absurd cc
 cause_held w f (commands.RegisterType kind display) id at plain below = absurd cc
+cause_held w f (commands.GlobalModule m) id at plain below = absurd cc
+cause_held w f (commands.StaticModule name m) id at plain below = absurd cc
 cause_held w f (commands.PushLib m) id at plain below = absurd cc
 cause_held w f commands.PopLib id at plain below = absurd cc
+cause_held w f (commands.PushImport name m) id at plain below = absurd cc
+cause_held w f commands.PopImport id at plain below = absurd cc
 cause_held w f (commands.Call request) id at plain below = absurd cc
 cause_held w f (commands.Count m) id at plain below = absurd cc
 cause_held w f (commands.Contains m key) id at plain below = absurd cc
@@ -131,14 +151,19 @@ change_held w f (commands.SetType m a b) id old at is = changed_at w f (commands
 change_held w f (commands.Native m reg n) id old at is = changed_at w f (commands.Native m reg n) m id old at is
 change_held w f (commands.RawNative m name namespace types func) id old at is = changed_at w f (commands.RawNative m name namespace types func) m id old at is
 change_held w f (commands.Script m def) id old at is = changed_at w f (commands.Script m def) m id old at is
+change_held w f (commands.Index m) id old at is = changed_at w f (commands.Index m) m id old at is
 change_held w f (commands.Clear m) id old at is = changed_at w f (commands.Clear m) m id old at is
 change_held w f commands.NewModule id old at is = absurd cc
 change_held w f (commands.SubModule m name sub) id old at is = absurd cc
 change_held w f (commands.RegisterFn name n) id old at is = absurd cc
 change_held w f (commands.RegisterRaw name types n) id old at is = absurd cc
 change_held w f (commands.RegisterType kind display) id old at is = absurd cc
+change_held w f (commands.GlobalModule m) id old at is = absurd cc
+change_held w f (commands.StaticModule name m) id old at is = absurd cc
 change_held w f (commands.PushLib m) id old at is = absurd cc
 change_held w f commands.PopLib id old at is = absurd cc
+change_held w f (commands.PushImport name m) id old at is = absurd cc
+change_held w f commands.PopImport id old at is = absurd cc
 change_held w f (commands.Call request) id old at is = absurd cc
 change_held w f (commands.Count m) id old at is = absurd cc
 change_held w f (commands.Contains m key) id old at is = absurd cc
@@ -185,14 +210,19 @@ held_once natives (commands.RawNative m name namespace types func) old none all 
     let refusals = banned (is_method natives func) name types ∷ [] in
     stays_held (length natives) _ _ old (can_be_called (length natives) func (allowed_held natives (native_of func) (where_holds test NotCallable ∷ refusals) none) (callable_by (unheld natives (native_of func)) test refusals none)) all
 held_once natives (commands.Script m def) old none all = stays_held (length natives) _ _ old refl all
+held_once natives (commands.Index m) old none all = all
 held_once natives (commands.Clear m) old none all = refl
 held_once natives commands.NewModule old none all = all
 held_once natives (commands.SubModule m name sub) old none all = all
 held_once natives (commands.RegisterFn name n) old none all = all
 held_once natives (commands.RegisterRaw name types n) old none all = all
 held_once natives (commands.RegisterType kind display) old none all = all
+held_once natives (commands.GlobalModule m) old none all = all
+held_once natives (commands.StaticModule name m) old none all = all
 held_once natives (commands.PushLib m) old none all = all
 held_once natives commands.PopLib old none all = all
+held_once natives (commands.PushImport name m) old none all = all
+held_once natives commands.PopImport old none all = all
 held_once natives (commands.Call request) old none all = all
 held_once natives (commands.Count m) old none all = all
 held_once natives (commands.Contains m key) old none all = all
@@ -232,14 +262,19 @@ first_operand w f (commands.SetType m a b) id at = ([], same_operand w m id [] a
 first_operand w f (commands.Native m reg n) id at = ((n.0, length w.engine.natives) ∷ [], same_operand w m id ((n.0, length w.engine.natives) ∷ []) at)
 first_operand w f (commands.RawNative m name namespace types func) id at = (func_operands w func, same_operand w m id (func_operands w func) at)
 first_operand w f (commands.Script m def) id at = ([], same_operand w m id [] at)
+first_operand w f (commands.Index m) id at = ([], same_operand w m id [] at)
 first_operand w f (commands.Clear m) id at = ([], same_operand w m id [] at)
 first_operand w f commands.NewModule id at = absurd cc
 first_operand w f (commands.SubModule m name sub) id at = absurd cc
 first_operand w f (commands.RegisterFn name n) id at = absurd cc
 first_operand w f (commands.RegisterRaw name types n) id at = absurd cc
 first_operand w f (commands.RegisterType kind display) id at = absurd cc
+first_operand w f (commands.GlobalModule m) id at = absurd cc
+first_operand w f (commands.StaticModule name m) id at = absurd cc
 first_operand w f (commands.PushLib m) id at = absurd cc
 first_operand w f commands.PopLib id at = absurd cc
+first_operand w f (commands.PushImport name m) id at = absurd cc
+first_operand w f commands.PopImport id at = absurd cc
 first_operand w f (commands.Call request) id at = absurd cc
 first_operand w f (commands.Count m) id at = absurd cc
 first_operand w f (commands.Contains m key) id at = absurd cc
@@ -256,14 +291,19 @@ iterator_operand w f (commands.SetVar m a b) id iterator at is = absurd cc
 iterator_operand w f (commands.SetType m a b) id iterator at is = absurd cc
 iterator_operand w f (commands.Native m reg n) id iterator at is = absurd cc
 iterator_operand w f (commands.Script m def) id iterator at is = absurd cc
+iterator_operand w f (commands.Index m) id iterator at is = absurd cc
 iterator_operand w f (commands.Clear m) id iterator at is = absurd cc
 iterator_operand w f commands.NewModule id iterator at is = absurd cc
 iterator_operand w f (commands.SubModule m name sub) id iterator at is = absurd cc
 iterator_operand w f (commands.RegisterFn name n) id iterator at is = absurd cc
 iterator_operand w f (commands.RegisterRaw name types n) id iterator at is = absurd cc
 iterator_operand w f (commands.RegisterType kind display) id iterator at is = absurd cc
+iterator_operand w f (commands.GlobalModule m) id iterator at is = absurd cc
+iterator_operand w f (commands.StaticModule name m) id iterator at is = absurd cc
 iterator_operand w f (commands.PushLib m) id iterator at is = absurd cc
 iterator_operand w f commands.PopLib id iterator at is = absurd cc
+iterator_operand w f (commands.PushImport name m) id iterator at is = absurd cc
+iterator_operand w f commands.PopImport id iterator at is = absurd cc
 iterator_operand w f (commands.Call request) id iterator at is = absurd cc
 iterator_operand w f (commands.Count m) id iterator at is = absurd cc
 iterator_operand w f (commands.Contains m key) id iterator at is = absurd cc

@@ -15,7 +15,8 @@ use Rattle.rhd_call.specs.declared.node.CallNode.{CallNode}
 use Rattle.rhd_call.specs.End.{End}
 use Rattle.rhd_call.specs.Seen.{Seen, seen, unbegun_node, done_of}
 use Rattle.rhd_engine.specs.Engine.{EngineLists, Frame}
-use Rattle.rhd_engine.specs.Held.{func_held, all_held, builtins_held}
+use Rattle.rhd_engine.specs.Held.{func_held, all_held, named_held, builtins_held}
+use Rattle.rhd_session.specs.Held.{frame_held}
 use Rattle.rhd_session.specs.World.{World, Objects, Moment, one_begun}
 use Rattle.rhd_session.specs.declared.machine.Outer.{Outer}
 use Rattle.rhd_session.specs.declared.machine.StackFrame.{StackFrame}
@@ -157,10 +158,10 @@ module _ {H B : Type 0} (o : Objects H B) (w : World) where
   bottom lowest e = (refl, refl, refl, refl)
   bottom (above {stack = stack'} {frame = frame'} waits opened outer_is e') e = let l : length stack' + 1 ≡ 0 = sym (length_push stack' frame') ∙ ap length (sym e' ∙ e) in absurd (omega (arith, l))
 
-  -- every frame of a stack has the libraries of the first
-  pub steady : {all : List StackFrame} {base f : Frame} {call asked : CallRequest} {before after : Moment H B} {level : ℕ} → Waits o w all base call before f level asked after → f.lib ≡ base.lib
-  steady lowest = refl
-  steady (above waits opened outer_is e) = ap (λ (x : Frame). x.lib) (opened_inner opened) ∙ steady waits
+  -- what every frame of a stack names is held as in the first
+  pub steady : (n : ℕ) {all : List StackFrame} {base f : Frame} {call asked : CallRequest} {before after : Moment H B} {level : ℕ} → Waits o w all base call before f level asked after → frame_held n f ≡ frame_held n base
+  steady n lowest = refl
+  steady n (above waits opened outer_is e) = ap (frame_held n) (opened_inner opened) ∙ steady n waits
 
   -- each level is at most one above the limit
   pub level_limited : {all : List StackFrame} {base f : Frame} {call asked : CallRequest} {before after : Moment H B} {level : ℕ} → Waits o w all base call before f level asked after → level ≤ w.engine.limits.level + 1
@@ -247,18 +248,18 @@ module _ {H B : Type 0} (o : Objects H B) (w : World) where
 
   -- the function of the top is held
   pub top_held : (stack : List StackFrame) (frame : StackFrame) (base f : Frame) (call : CallRequest) (before after : Moment H B) (hand : Hand) (n : ℕ) →
-      all_held n w.engine.globals ≡ true → all_held n base.lib ≡ true → builtins_held n w.engine.builtins ≡ true → Going o w (stack ++ frame ∷ []) base call before hand f after → func_held n frame.suspended.pick.func ≡ true
-  top_held stack frame base f call before after hand n globals libs bs going =
+      all_held n w.engine.globals ≡ true → named_held n w.engine.statics ≡ true → frame_held n base ≡ true → builtins_held n w.engine.builtins ≡ true → Going o w (stack ++ frame ∷ []) base call before hand f after → func_held n frame.suspended.pick.func ≡ true
+  top_held stack frame base f call before after hand n globals statics held bs going =
       let q = opened_at stack frame base f call going.waited before going.mid going.waits in
-      open_held q.opened (ap (all_held n) (steady q.waits) ∙ libs)
+      open_held q.opened (steady n q.waits ∙ held)
     where
-      open_held : {f inner : Frame} {level : ℕ} {own waited : CallRequest} {begun mid : Moment H B} → Open o w f level own frame.suspended inner waited begun mid → all_held n f.lib ≡ true → func_held n frame.suspended.pick.func ≡ true
-      open_held (function_waits {f = f} {level = level} {call = own} {plan = plan} {pick = pick} k q b d s steps) libs' =
-          ap (λ (x : Pick). func_held n x.func) q ∙ runs_is_held w.engine f level own plan pick n globals libs' bs d
+      open_held : {f inner : Frame} {level : ℕ} {own waited : CallRequest} {begun mid : Moment H B} → Open o w f level own frame.suspended inner waited begun mid → frame_held n f ≡ true → func_held n frame.suspended.pick.func ≡ true
+      open_held (function_waits {f = f} {level = level} {call = own} {plan = plan} {pick = pick} k q b d s steps) held' =
+          ap (λ (x : Pick). func_held n x.func) q ∙ runs_is_held w.engine f level own plan pick n globals statics held' bs d
 
-  -- the libraries of the frame that the state now is are held
-  pub libraries_held : (stack : List StackFrame) (base f : Frame) (call : CallRequest) (before after : Moment H B) (hand : Hand) (n : ℕ) → all_held n base.lib ≡ true → Going o w stack base call before hand f after → all_held n f.lib ≡ true
-  libraries_held stack base f call before after hand n libs going = ap (all_held n) (steady going.waits) ∙ libs
+  -- what the frame that the state now is names is held
+  pub state_held : (stack : List StackFrame) (base f : Frame) (call : CallRequest) (before after : Moment H B) (hand : Hand) (n : ℕ) → frame_held n base ≡ true → Going o w stack base call before hand f after → frame_held n f ≡ true
+  state_held stack base f call before after hand n held going = steady n going.waits ∙ held
 
   -- a call that waits is closed
   cut_opened : {f inner : Frame} {level : ℕ} {own waited : CallRequest} {suspended : Suspended} {child node : CallNode} {begun mid after : Moment H B} →

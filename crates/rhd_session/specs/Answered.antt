@@ -3,7 +3,8 @@ use Rattle.std.specs.Prelude.{◌≡◌, ℕ, ◌≤◌, ◌<◌, Bool, List, []
 use Rattle.rhd_func.specs.declared.request.CallRequest.{CallRequest}
 use Rattle.std.specs.List.{AllByRecursion, Contains}
 use Rattle.rhd_hash.specs.declared.key.Key.{Key}
-use Rattle.rhd_hash.specs.Table.{HasOwnHashes, Clashing}
+use Rattle.rhd_hash.specs.Table.{Clashing}
+use Rattle.rhd_module.specs.Index.{NoneClash}
 use Rattle.rhd_decl.specs.declared.fault.DeclFault.{DeclFault}
 use Rattle.rhd_decl.specs.declared.fault.DeclFault.TheVariants.{HashCollision}
 use Rattle.rhd_call.specs.declared.command.Command.{Command}
@@ -19,7 +20,7 @@ use Rattle.rhd_session.specs.Setting.{Setting}
 
 -- no two keys of a table clash
 abbrev pub NoClash : Keyed → Type 0
-NoClash table = HasOwnHashes table.seeds table.keys
+NoClash table = NoneClash table.seeds table.keys
 
 -- What a declaring command answers, and the world and the frame that it leaves. A collision tells two keys of one table that the command would leave.
 pub data Declares (w : World) (f : Frame) (command : Command) : Reply → World → Frame → Type 0 where

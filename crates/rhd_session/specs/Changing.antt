@@ -56,8 +56,12 @@ is_told (commands.SubModule m name sub) = true
 is_told (commands.RegisterFn name id) = true
 is_told (commands.RegisterRaw name types id) = true
 is_told (commands.RegisterType kind display) = true
+is_told (commands.GlobalModule m) = true
+is_told (commands.StaticModule name m) = true
 is_told (commands.PushLib m) = true
 is_told commands.PopLib = true
+is_told (commands.PushImport name m) = true
+is_told commands.PopImport = true
 is_told command = false
 
 -- the reply that such an answer is; want of memory is none

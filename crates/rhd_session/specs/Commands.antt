@@ -20,10 +20,14 @@ use Rattle.rhd_decl.specs.declared.fault.DeclFault.TheVariants.{UnknownNumber, N
 use Rattle.rhd_module.specs.declared.registration.FuncRegistration.{FuncRegistration}
 use Rattle.rhd_module.specs.Tree.{ModuleTree, empty_module}
 use Rattle.rhd_module.specs.Shown.{own_decl}
+use Rattle.rhd_module.specs.Walk.{tree}
+use Rattle.rhd_module.specs.Index.{indexed}
 use Rattle.rhd_module.specs.Contents.{with_id, with_doc, with_var, with_type, with_sub, cleared, counts}
 use Rattle.rhd_module.specs.Registered.{with_decl, native_at, native_key, native_decl, registered_decl, new_registration, script_key, script_decl, banned}
 use Rattle.rhd_engine.specs.Registered.{in_first, fn_registration, raw_func}
-use Rattle.rhd_engine.specs.Engine.{Frame}
+use Rattle.rhd_engine.specs.Engine.{Frame, Imports}
+use Rattle.rhd_engine.specs.Lists.{second}
+use Rattle.rhd_engine.specs.Statics.{with_static, made_static}
 use Rattle.rhd_call.specs.declared.command.Command.{Command}
 use Rattle.rhd_call.specs.declared.command.Command.TheVariants as commands
 use Rattle.rhd_call.specs.declared.command.ModuleId.{ModuleId}
@@ -65,13 +69,18 @@ operands w f (commands.SetType m type_name display) = module_operand w m ∷ []
 operands w f (commands.Native m reg id) = module_operand w m ∷ native_operand w id ∷ []
 operands w f (commands.RawNative m name namespace types func) = module_operand w m ∷ func_operands w func
 operands w f (commands.Script m def) = module_operand w m ∷ []
+operands w f (commands.Index m) = module_operand w m ∷ []
 operands w f (commands.SubModule m name sub) = module_operand w m ∷ module_operand w sub ∷ []
 operands w f (commands.Clear m) = module_operand w m ∷ []
 operands w f (commands.RegisterFn name id) = native_operand w id ∷ []
 operands w f (commands.RegisterRaw name types id) = native_operand w id ∷ []
 operands w f (commands.RegisterType kind display) = []
+operands w f (commands.GlobalModule m) = module_operand w m ∷ []
+operands w f (commands.StaticModule name m) = module_operand w m ∷ []
 operands w f (commands.PushLib m) = module_operand w m ∷ []
 operands w f commands.PopLib = pop_operand f.lib
+operands w f (commands.PushImport name m) = module_operand w m ∷ []
+operands w f commands.PopImport = pop_operand f.imports
 operands w f (commands.Call request) = []
 operands w f (commands.Count m) = module_operand w m ∷ []
 operands w f (commands.Contains m key) = module_operand w m ∷ []
@@ -107,6 +116,10 @@ pub record Keyed : Type 0 where
 abbrev pub eager_keys : ModuleTree → Keyed
 eager_keys m = record { seeds = m.own.seeds; keys = keys_of m.own.eager }
 
+-- the keys of a module's tree
+abbrev pub tree_keys : ModuleTree → Keyed
+tree_keys m = record { seeds = m.own.seeds; keys = keys_of (tree m) }
+
 -- a module as a command leaves it, and the tables in it that aren't as before
 pub record ChangedModule : Type 0 where
   pub tree : ModuleTree
@@ -139,6 +152,7 @@ target (commands.SetType m type_name display) = Some m
 target (commands.Native m reg id) = Some m
 target (commands.RawNative m name namespace types func) = Some m
 target (commands.Script m def) = Some m
+target (commands.Index m) = Some m
 target (commands.Clear m) = Some m
 target command = None
 
@@ -151,6 +165,7 @@ module_change natives (commands.SetType m type_name display) old = without_keys 
 module_change natives (commands.Native m reg id) old = with_keys (registered natives reg id old)
 module_change natives (commands.RawNative m name namespace types func) old = with_keys (registered_raw natives (raw_registration name namespace) types func old)
 module_change natives (commands.Script m def) old = with_keys (with_decl (script_key def) (script_decl old.own.seeds def None) old)
+module_change natives (commands.Index m) old = record { tree = indexed old; tables = tree_keys old ∷ [] }
 module_change natives (commands.Clear m) old = without_keys (cleared old)
 module_change natives command old = without_keys old
 
@@ -174,6 +189,14 @@ with_globals w f globals tables = record { reply = Done; world = record w { engi
 
 abbrev pub changed_first : World → Frame → (ModuleTree → ModuleTree) → Change
 changed_first w f change = let globals = in_first change w.engine.globals in with_globals w f globals (map eager_keys (take 1 globals))
+
+-- only the static modules change
+abbrev pub with_statics : World → Frame → Imports → List Keyed → Change
+with_statics w f statics tables = record { reply = Done; world = record w { engine = record w.engine { statics = statics } }; frame = f; tables = tables }
+
+-- only the imports change
+abbrev pub with_imports : World → Frame → Imports → List Keyed → Change
+with_imports w f imports tables = record { reply = Done; world = w; frame = record f { imports = imports }; tables = tables }
 
 -- only the libraries change
 abbrev pub with_libs : World → Frame → List ModuleTree → Change
@@ -204,8 +227,12 @@ change w f (commands.SubModule m name sub) = option_and_then (λ child. changed 
 change w f (commands.RegisterFn name id) = Some (changed_first w f (registered w.engine.natives (fn_registration w.engine.natives name id) id))
 change w f (commands.RegisterRaw name types id) = Some (changed_first w f (registered_raw w.engine.natives (raw_registration name Global) types (raw_func name types id)))
 change w f (commands.RegisterType kind display) = Some (with_globals w f (in_first (with_type (type_name (Custom kind)) display []) w.engine.globals) [])
+change w f (commands.GlobalModule m) = option_map (λ added. with_globals w f (second added w.engine.globals) []) (slice_get w.modules m.0)
+change w f (commands.StaticModule name m) = option_map (λ added. with_statics w f (with_static w.engine.seeds name added w.engine.statics) (map tree_keys (made_static w.engine.seeds name added w.engine.statics))) (slice_get w.modules m.0)
 change w f (commands.PushLib m) = option_map (λ added. with_libs w f (f.lib ++ added ∷ [])) (slice_get w.modules m.0)
 change w f commands.PopLib = Some (with_libs w f (but_last f.lib))
+change w f (commands.PushImport name m) = option_map (λ added. with_imports w f (f.imports ++ (name, indexed added) ∷ []) (tree_keys added ∷ [])) (slice_get w.modules m.0)
+change w f commands.PopImport = Some (with_imports w f (but_last f.imports) [])
 change w f (commands.Count m) = option_map (λ asked. answering w f (counted asked)) (slice_get w.modules m.0)
 change w f (commands.Contains m key) = option_map (λ asked. answering w f (Truth (is_some (own_decl asked key)))) (slice_get w.modules m.0)
 change w f command = changed_by w f command (target command)

@@ -1,18 +1,19 @@
 -- What becomes of a call: everything that no function has a choice in.
-use Rattle.std.specs.Prelude.{ℕ, ◌+◌, Bool, true, false, not, ◌&&◌, List, [], ◌∷◌, ◌++◌, nat_lt, if◌then◌else◌, Option, None, Some, option_map, codes, decimal}
-use Rattle.rhd_value.specs.Tree.{Bytes, Tree}
-use Rattle.rhd_value.specs.Firsts.{first_some, where_holds}
+use Rattle.std.specs.Prelude.{ℕ, Bool, true, false, not, ◌&&◌, List, [], ◌∷◌, nat_lt, if◌then◌else◌, Option, None, Some, option_map}
+use Rattle.std.specs.Option.{is_none}
+use Rattle.rhd_value.specs.Firsts.{first_of, first_some, where_holds}
 use Rattle.rhd_value.specs.declared.fault.EvalAltResult.{EvalAltResult}
-use Rattle.rhd_value.specs.declared.fault.EvalAltResult.TheVariants.{ErrorStackOverflow, ErrorDataRace, ErrorNonPureMethodCallOnConstant}
-use Rattle.rhd_func.specs.declared.request.CallShape.{CallShape}
-use Rattle.rhd_func.specs.declared.request.CallShape.TheVariants.{Plain, ByRef, Method}
+use Rattle.rhd_value.specs.declared.fault.EvalAltResult.TheVariants.{ErrorStackOverflow, ErrorModuleNotFound, ErrorNonPureMethodCallOnConstant}
 use Rattle.rhd_func.specs.declared.request.CallRequest.{CallRequest}
 use Rattle.rhd_func.specs.Funcs.{is_pure, is_script}
 use Rattle.rhd_func.specs.Shapes.{given, pos_of}
 use Rattle.rhd_engine.specs.Engine.{EngineLists, Frame}
+use Rattle.rhd_engine.specs.NotFound.{path_text}
 use Rattle.rhd_call.specs.declared.pick.Pick.{Pick}
-use Rattle.rhd_dispatch.specs.Asks.{Asked, asks, pick_unqualified}
-use Rattle.rhd_session.specs.Plans.{Search, by_name, Plan, plan_of}
+use Rattle.rhd_dispatch.specs.Asks.{Asked, asks, looked}
+use Rattle.rhd_dispatch.specs.Picks.{qualified_asks, looked_in, root_of}
+use Rattle.rhd_dispatch.specs.Races.{data_race}
+use Rattle.rhd_session.specs.Plans.{Search, by_name, in_module, Plan, plan_of}
 use Rattle.rhd_session.specs.Received.{received, convention_of, first_received, is_read_only}
 use Rattle.rhd_call.specs.End.{End, failed}
 use Rattle.rhd_session.specs.Ends.{missing_end}
@@ -22,19 +23,26 @@ pub data Decision : Type 0 where
   asks_host : Plan → Decision
   runs : Plan → Pick → Decision
 
+-- what a call asks for, in order
 abbrev pub asks_by : EngineLists → Plan → Search → List Asked
 asks_by e plan (by_name token native_only) = asks e plan.name token native_only plan.shape
+asks_by e plan (in_module path) = qualified_asks plan.name plan.shape
 
--- what a call asks for, in order
+-- what is looked up for a question: in all modules of a frame, or in the one at which a path begins
+abbrev pub look_by : EngineLists → Frame → Search → Asked → Option Pick
+look_by e f (by_name token native_only) = looked e f.lib f.imports
+look_by e f (in_module path) = looked_in path (root_of e f.imports path)
+
+-- the same of a request
 abbrev pub asks_of : EngineLists → CallRequest → List Asked
 asks_of e call = asks_by e (plan_of call) (plan_of call).search
 
-abbrev pub pick_by : EngineLists → Frame → Plan → Search → Option Pick
-pick_by e f plan (by_name token native_only) = pick_unqualified e f.lib f.imports plan.name token native_only plan.shape
+abbrev pub look_of : EngineLists → Frame → CallRequest → Asked → Option Pick
+look_of e f call = look_by e f (plan_of call).search
 
--- the pick of a call of one function
+-- the pick of a call of one function: the first question that is answered
 abbrev pub pick_of : EngineLists → Frame → Plan → Option Pick
-pick_of e f plan = pick_by e f plan plan.search
+pick_of e f plan = first_of (look_by e f plan.search) (asks_by e plan plan.search)
 
 -- A native or built-in that isn't pure receives a read-only first argument.
 abbrev pub is_on_constant : EngineLists → Plan → Pick → Bool
@@ -48,10 +56,11 @@ constant_end plan = failed plan.given (ErrorNonPureMethodCallOnConstant plan.nam
 abbrev pub picked : EngineLists → Plan → Pick → Decision
 picked e plan pick = if is_on_constant e plan pick then ends (Some pick) (constant_end plan) else runs plan pick
 
--- without a pick: the host is asked where scripts are allowed
+-- without a pick: the host is asked in an unqualified call that allows scripts
 abbrev pub unpicked : EngineLists → Plan → Search → Decision
 unpicked e plan (by_name token false) = asks_host plan
 unpicked e plan (by_name token true) = ends None (missing_end e plan)
+unpicked e plan (in_module path) = ends None (missing_end e plan)
 
 abbrev pub decided : EngineLists → Plan → Option Pick → Decision
 decided e plan None = unpicked e plan plan.search
@@ -61,29 +70,22 @@ decided e plan (Some pick) = picked e plan pick
 abbrev pub too_deep : EngineLists → ℕ → CallRequest → Option EvalAltResult
 too_deep e level call = where_holds (nat_lt e.limits.level level) (ErrorStackOverflow (pos_of call))
 
--- The place of the first locked argument, where n is the place of the head.
-abbrev pub locked_from : ℕ → List Tree → Option ℕ
-locked_from n [] = None
-locked_from n (v ∷ vs) = if v.marks.locked then Some n else locked_from (n + 1) vs
-
--- one among all, from 1; a first argument by reference and an object may be locked
-abbrev pub locked_place : CallShape → Option ℕ
-locked_place (Plain args) = locked_from 1 args
-locked_place (ByRef first args) = locked_from 2 args
-locked_place (Method object args) = locked_from 2 args
-
-abbrev pub locked_text : Bytes → ℕ → Bytes
-locked_text name n = codes "argument #" ++ decimal n ++ codes " of function '" ++ name ++ codes "'"
-
--- An argument is locked.
+-- An argument of an unqualified call is locked.
 abbrev pub locked_argument : Plan → Search → Option EvalAltResult
-locked_argument plan (by_name token native_only) = option_map (λ n. ErrorDataRace (locked_text plan.name n) plan.pos) (locked_place plan.shape)
+locked_argument plan (by_name token native_only) = data_race plan.name plan.shape plan.pos
+locked_argument plan (in_module path) = None
+
+-- The path of a qualified call is empty, or its first name is that of no import and of no static module.
+abbrev pub no_root : EngineLists → Frame → Plan → Search → Option EvalAltResult
+no_root e f plan (by_name token native_only) = None
+no_root e f plan (in_module path) = where_holds (is_none (root_of e f.imports path)) (ErrorModuleNotFound (path_text path) plan.pos)
 
 -- the causes of a refusal in their order, each with how the call then ends
 abbrev pub causes : EngineLists → Frame → ℕ → CallRequest → List (Option End)
 causes e f level call =
     option_map (failed (given call)) (too_deep e level call)
     ∷ option_map (failed (given call)) (locked_argument (plan_of call) (plan_of call).search)
+    ∷ option_map (failed (given call)) (no_root e f (plan_of call) (plan_of call).search)
     ∷ []
 
 -- the first of them that holds

@@ -1,5 +1,5 @@
 -- How a call ends: its answer, and what the checks of the answer make of it.
-use Rattle.std.specs.Prelude.{Bool, not, nat_lt, [], ◌∷◌, if◌then◌else◌, Option, None, Some, option_and_then, Ok, Err, codes}
+use Rattle.std.specs.Prelude.{Bool, not, ◌||◌, nat_lt, [], ◌∷◌, if◌then◌else◌, Option, None, Some, option_and_then, Ok, Err, codes}
 use Rattle.rhd_value.specs.Tree.{Bytes, Tree}
 use Rattle.rhd_value.specs.Kinds.{tag_of, type_name}
 use Rattle.rhd_value.specs.Sums.{sizes_of}
@@ -16,7 +16,7 @@ use Rattle.rhd_func.specs.declared.request.HostAnswer.{HostAnswer}
 use Rattle.rhd_func.specs.declared.request.HostAnswer.TheVariants as host
 use Rattle.rhd_func.specs.Funcs.{is_script}
 use Rattle.rhd_func.specs.Shapes.{all_args}
-use Rattle.rhd_engine.specs.NotFound.{not_found}
+use Rattle.rhd_engine.specs.NotFound.{not_found, not_found_in}
 use Rattle.rhd_engine.specs.declared.limits.Limits.{Limits}
 use Rattle.rhd_call.specs.declared.node.Whose.{Whose}
 use Rattle.rhd_call.specs.declared.node.Whose.TheVariants.{Called, Host}
@@ -24,7 +24,7 @@ use Rattle.rhd_call.specs.End.{End, answered, failed, refusing, with_printed}
 use Rattle.rhd_call.specs.declared.pick.Pick.{Pick}
 use Rattle.rhd_engine.specs.Display.{display, map_type_name}
 use Rattle.rhd_engine.specs.Engine.{EngineLists}
-use Rattle.rhd_session.specs.Plans.{Plan}
+use Rattle.rhd_session.specs.Plans.{Plan, Search, by_name, in_module, is_unqualified}
 use Rattle.rhd_session.specs.Printed.{printer, no_text, printed_text, answer_after_printing}
 use Rattle.rhd_session.specs.Received.{convention_of, first_after}
 
@@ -59,9 +59,9 @@ too_large limits pos v =
 abbrev pub first_at_end : EngineLists → Plan → Pick → Option Tree → Option Tree
 first_at_end e plan pick back = first_after (convention_of e.natives pick.func) plan.shape plan.given back
 
--- its size passes a limit, where the function is a native
+-- its size passes a limit, where the function of an unqualified call is a native
 abbrev pub first_too_large : EngineLists → Plan → Pick → Option Tree → Option EvalAltResult
-first_too_large e plan pick back = if is_script pick.func then None else option_and_then (too_large e.limits plan.pos) (first_at_end e plan pick back)
+first_too_large e plan pick back = if not (is_unqualified plan.search) || is_script pick.func then None else option_and_then (too_large e.limits plan.pos) (first_at_end e plan pick back)
 
 -- the checks of sizes, in their order
 abbrev pub unfit : EngineLists → Plan → Pick → Option Tree → Tree → Option EvalAltResult
@@ -96,9 +96,13 @@ end_of e plan pick (Done v back) = Some (done e plan pick back v)
 end_of e plan pick (Failed fault back) = Some (handed_on e plan pick back fault)
 end_of e plan pick (Ask request carry) = None
 
--- a call whose function isn't found
+-- the fault of a call whose function isn't found
+abbrev pub missing_fault : EngineLists → Plan → Search → EvalAltResult
+missing_fault e plan (by_name token native_only) = not_found e plan.pos plan.name (all_args plan.shape)
+missing_fault e plan (in_module path) = not_found_in e path plan.pos plan.name (all_args plan.shape)
+
 abbrev pub missing_end : EngineLists → Plan → End
-missing_end e plan = failed plan.given (not_found e plan.pos plan.name (all_args plan.shape))
+missing_end e plan = failed plan.given (missing_fault e plan plan.search)
 
 -- how a call ends with what the host answered
 unfoldable pub host_end : EngineLists → Plan → HostAnswer → End

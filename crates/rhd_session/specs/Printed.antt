@@ -1,5 +1,5 @@
 -- The natives `print` and `debug`: what is printed, and what their calls answer.
-use Rattle.std.specs.Prelude.{Bool, true, false, ◌||◌, if◌then◌else◌, Option, None, Some, codes}
+use Rattle.std.specs.Prelude.{Bool, true, false, not, ◌||◌, if◌then◌else◌, Option, None, Some, codes}
 use Rattle.std.specs.Option.{is_none}
 use Rattle.rhd_value.specs.Tree.{Bytes, Tree, unit}
 use Rattle.rhd_value.specs.Kinds.{plain, text_in}
@@ -11,11 +11,11 @@ use Rattle.rhd_value.specs.declared.fault.EvalAltResult.TheVariants.{ErrorMismat
 use Rattle.rhd_func.specs.Funcs.{is_script}
 use Rattle.rhd_engine.specs.declared.limits.Printers.{Printers}
 use Rattle.rhd_call.specs.declared.pick.Layer.{Layer}
-use Rattle.rhd_call.specs.declared.pick.Layer.TheVariants.{Library, Global, Builtin}
+use Rattle.rhd_call.specs.declared.pick.Layer.TheVariants.{Library, Global, Import, Static, Builtin}
 use Rattle.rhd_call.specs.declared.pick.Pick.{Pick}
 use Rattle.rhd_engine.specs.Engine.{EngineLists}
 use Rattle.rhd_engine.specs.Display.{display}
-use Rattle.rhd_session.specs.Plans.{Plan}
+use Rattle.rhd_session.specs.Plans.{Plan, is_unqualified}
 
 -- whether the printer of a name is set; no other name has one
 abbrev pub printer_named : Printers → Bytes → Option Bool
@@ -24,11 +24,13 @@ printer_named printers name = if text_eq name (codes "print") then Some printers
 abbrev pub is_builtin : Layer → Bool
 is_builtin (Library n) = false
 is_builtin (Global n) = false
+is_builtin (Import n) = false
+is_builtin (Static n) = false
 is_builtin Builtin = true
 
--- the same of a call that found a native by that name: a script or a built-in has none
+-- the same of an unqualified call that found a native by that name: a script or a built-in has none
 abbrev pub printer : Printers → Plan → Pick → Option Bool
-printer printers plan pick = if is_script pick.func || is_builtin pick.layer then None else printer_named printers plan.name
+printer printers plan pick = if not (is_unqualified plan.search) || (is_script pick.func || is_builtin pick.layer) then None else printer_named printers plan.name
 
 -- a printer that is set takes a text alone
 abbrev pub no_text : EngineLists → Option Bool → Position → Tree → Option EvalAltResult

@@ -11,11 +11,12 @@ ghost use Rattle.rhd_func.specs.Shapes.{all_args, is_method_shape};
 ghost use Rattle.rhd_module.specs.Tree.{ModuleTree};
 ghost use Rattle.rhd_call.specs.Seen.{seen, done_of};
 ghost use Rattle.rhd_engine.specs.Engine.{Frame};
-ghost use Rattle.rhd_engine.specs.Held.{func_held, all_held};
+ghost use Rattle.rhd_engine.specs.Held.{func_held};
+ghost use Rattle.rhd_session.specs.Held.{frame_held};
 ghost use Rattle.rhd_engine.specs.Of.{lists_of};
 ghost use Rattle.rhd_session.specs.World.{Moment, moment};
 ghost use Rattle.rhd_session.specs.Objects.{objects_of};
-ghost use Rattle.rhd_session.specs.Plans.{only_natives, plan_of};
+ghost use Rattle.rhd_session.specs.Plans.{without_host, plan_of};
 ghost use Rattle.rhd_session.specs.Received.{received, convention_of, first_received, is_read_only};
 ghost use Rattle.rhd_session.specs.Decisions.{refusal, decision, runs, pick_of, is_on_constant, constant_end};
 ghost use Rattle.rhd_session.specs.Filling.{is_begun, with_end, ended_unfound, ended_by_host, picking};
@@ -28,17 +29,17 @@ ghost use Rattle.rhd_session.specs.Waits.{Open, outcome_of, ComesIn};
 use crate::ends::{end_by_host, not_found};
 use crate::filling::{done, fail, picks};
 use crate::machine::{Asking, Outcome, Suspended, settle, settle_waiting};
-use crate::plan::{name_of, native_only_of, position_of, shape_of};
+use crate::plan::{name_of, position_of, without_host};
 use crate::received::{
     Received, all_args, context_if, is_method_shape, receive, receives_constant,
 };
 use crate::refusal::refusal;
 use rhd_call::{CallNode, Pick};
-use rhd_dispatch::resolve;
+use rhd_dispatch::{resolve, resolve_qualified};
 use rhd_engine::{Engine, GlobalRuntimeState};
 use rhd_func::{
-    Bodies, CallDone, CallRequest, CallShape, Carry, Host, HostAnswer, NativeCallContext,
-    NativeStep, Natives, RhaiFunc, ScriptFuncDef,
+    Bodies, CallDone, CallRequest, Carry, Host, HostAnswer, NativeCallContext, NativeStep, Natives,
+    RhaiFunc, ScriptFuncDef,
 };
 use rhd_hash::Steps;
 use rhd_value::{EvalAltResult, FnId, OutOfMemory};
@@ -54,7 +55,7 @@ pub fn begin<H: Host, B: Bodies>(
     host: &mut H,
     bodies: &mut B,
 ) -> Result<Option<Box<Asking>>, OutOfMemory>
-    requires { all_held (length engine.now.natives.items.items) state.now.lib ≡ true }
+    requires { frame_held (length engine.now.natives.items.items) state.now ≡ true }
     ensures { (modules : List ModuleTree) (begun : ℕ) → is_begun (seen node.old) → begun < engine.now.limits.budget → IfOk result (λ asking. ComesIn
         (setting_of allows_call allows_resume B.allows_start B.allows_next H.allows_missing info engine.now modules state.now) (seen node.old).level (seen node.old).call (outcome_of node.new asking)
         (moment begun host.old bodies.old) (moment (begun + 1) host.new bodies.new)) }
@@ -78,7 +79,7 @@ fn begin_unrefused<H: Host, B: Bodies>(
     host: &mut H,
     bodies: &mut B,
 ) -> Result<Option<Box<Asking>>, OutOfMemory>
-    requires { all_held (length engine.now.natives.items.items) state.now.lib ≡ true }
+    requires { frame_held (length engine.now.natives.items.items) state.now ≡ true }
     ensures { (modules : List ModuleTree) (begun : ℕ) → is_begun (seen node.old) → begun < engine.now.limits.budget
         → refusal (lists_of info engine.now) state.now (seen node.old).level (seen node.old).call ≡ None → IfOk result (λ asking. ComesIn
         (setting_of allows_call allows_resume B.allows_start B.allows_next H.allows_missing info engine.now modules state.now) (seen node.old).level (seen node.old).call (outcome_of node.new asking)
@@ -106,7 +107,7 @@ fn pick(
     state: &GlobalRuntimeState,
     call: &CallRequest,
 ) -> Result<Option<Pick>, OutOfMemory>
-    requires { all_held (length engine.now.natives.items.items) state.now.lib ≡ true }
+    requires { frame_held (length engine.now.natives.items.items) state.now ≡ true }
     ensures pick { IfOk result (λ pick. pick ≡ pick_of (lists_of info engine.now) state.now (plan_of call.now)) }
     ensures held { IfOk result (λ pick. IfSome pick (λ p. func_held (length engine.now.natives.items.items) p.func ≡ true)) }
 {
@@ -130,22 +131,32 @@ fn pick(
                 &mut steps,
             )
         }
+        CallRequest::Qualified {
+            path,
+            name,
+            shape,
+            ..
+        } => {
+            let mut steps = Steps::new();
+            resolve_qualified(alloc, engine, state, path, name, shape, &mut steps)
+        }
     }
 }
 
-/// Ends a call for which no function is found. The host is asked where scripts are allowed.
+/// Ends a call for which no function is found. The host is asked where an unqualified call allows
+/// scripts.
 fn unpicked<H: Host>(
     alloc: Global,
     engine: &Engine,
     node: &mut CallNode,
     host: &mut H,
 ) -> Result<(), OutOfMemory>
-    ensures alone { OnOk result (only_natives (plan_of (seen node.old).call).search ≡ true → (host.new ≡ host.old) × (seen node.new ≡ ended_unfound (lists_of info engine.now) (seen node.old))) }
-    ensures asked { OnOk result (only_natives (plan_of (seen node.old).call).search ≡ false → (answer : HostAnswer)
+    ensures alone { OnOk result (without_host (plan_of (seen node.old).call).search ≡ true → (host.new ≡ host.old) × (seen node.new ≡ ended_unfound (lists_of info engine.now) (seen node.old))) }
+    ensures asked { OnOk result (without_host (plan_of (seen node.old).call).search ≡ false → (answer : HostAnswer)
         × H.allows_missing host.old (plan_of (seen node.old).call).name (all_args (plan_of (seen node.old).call).shape) (is_method_shape (plan_of (seen node.old).call).shape) answer host.new
         × (seen node.new ≡ ended_by_host (lists_of info engine.now) (seen node.old) answer)) }
 {
-    if native_only_of(&node.call) {
+    if without_host(&node.call) {
         let fault = not_found(alloc, engine, &node.call)?;
         return fail(alloc, node, fault);
     }
@@ -153,16 +164,22 @@ fn unpicked<H: Host>(
     end_by_host(alloc, engine, node, answer)
 }
 
-/// What the host answers for a call.
+/// What the host answers for an unqualified call.
 fn ask_host<H: Host>(
     alloc: Global,
     call: &CallRequest,
     host: &mut H,
 ) -> Result<HostAnswer, OutOfMemory>
+    requires { without_host (plan_of call.now).search ≡ false }
     ensures { IfOk result (λ answer. H.allows_missing host.old (plan_of call.now).name (all_args (plan_of call.now).shape) (is_method_shape (plan_of call.now).shape) answer host.new) }
 {
-    let args = all_args(alloc, shape_of(call))?;
-    host.missing(alloc, name_of(call), &args, is_method_shape(shape_of(call)))
+    match call {
+        CallRequest::Named { name, shape, .. } => {
+            let args = all_args(alloc, shape)?;
+            host.missing(alloc, name, &args, is_method_shape(shape))
+        }
+        CallRequest::Qualified { .. } => unreachable!(),
+    }
 }
 
 /// Whether a native or built-in that isn't pure receives a read-only first argument.
@@ -170,7 +187,7 @@ fn on_constant(engine: &Engine, call: &CallRequest, pick: &Pick) -> bool
     ensures { result ≡ is_on_constant (lists_of info engine.now) (plan_of call.now) pick.now }
 {
     !pick.func.is_script()
-        && (!is_pure(engine, &pick.func) && gets_constant(engine, &pick.func, shape_of(call)))
+        && (!is_pure(engine, &pick.func) && gets_constant(engine, &pick.func, call))
 }
 
 /// Whether a function of an engine may be called on a constant.
@@ -181,10 +198,10 @@ fn is_pure(engine: &Engine, func: &RhaiFunc) -> bool
 }
 
 /// Whether the first that a function of an engine receives is read-only.
-fn gets_constant(engine: &Engine, func: &RhaiFunc, shape: &CallShape) -> bool
-    ensures { result ≡ is_read_only (first_received (received (convention_of (lists_of info engine.now).natives func.now) shape.now)) }
+fn gets_constant(engine: &Engine, func: &RhaiFunc, call: &CallRequest) -> bool
+    ensures { result ≡ is_read_only (first_received (received (convention_of (lists_of info engine.now).natives func.now) (plan_of call.now).shape)) }
 {
-    receives_constant(engine.natives(), func, shape)
+    receives_constant(engine.natives(), func, call)
 }
 
 /// Ends a call whose function isn't for a constant.
@@ -282,7 +299,7 @@ fn first_step<H: Host, B: Bodies>(
         (lists_of info engine.now).natives (context state.now (seen node.now).level (plan_of (seen node.now).call) pick.now) pick.now.func
         (received_by (lists_of info engine.now) (plan_of (seen node.now).call) pick.now) (moment begun host bodies.old) step (moment begun host bodies.new)) }
 {
-    let received = receive(alloc, engine.natives(), &pick.func, shape_of(&node.call))?;
+    let received = receive(alloc, engine.natives(), &pick.func, &node.call)?;
     start::<H, B>(alloc, engine, state, node, pick, received, bodies)
 }
 

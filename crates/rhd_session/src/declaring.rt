@@ -1,6 +1,6 @@
 //! How a session carries out the commands that declare something.
 
-ghost use Rattle.std.specs.Prelude.{◌≡◌, ◌≤◌, ◌<◌, ◌+◌, ◌^◌, true, false, Some, None, is_some, IfOk, OnErr, length, slice_get};
+ghost use Rattle.std.specs.Prelude.{◌≡◌, ◌≤◌, ◌<◌, ◌+◌, ◌^◌, true, false, Some, None, is_some, Err, IfOk, OnErr, IfSome, IfNone, length, slice_get};
 ghost use Rattle.std.specs.Option.{option_copied};
 ghost use Rattle.rhd_module.specs.Registered.{RegistersRaw};
 ghost use Rattle.rhd_decl.specs.declared.fault.DeclFault.TheVariants.{UnknownNumber};
@@ -52,6 +52,7 @@ pub(crate) fn target(command: &Command) -> Option<ModuleId>
         Command::Native { module: id, .. } => Some(*id),
         Command::RawNative { module: id, .. } => Some(*id),
         Command::Script { module: id, .. } => Some(*id),
+        Command::Index { module: id } => Some(*id),
         Command::Clear { module: id } => Some(*id),
         _ => None,
     }
@@ -67,8 +68,12 @@ pub(crate) fn is_told(command: &Command) -> bool
             | Command::RegisterFn { .. }
             | Command::RegisterRaw { .. }
             | Command::RegisterType { .. }
+            | Command::GlobalModule { .. }
+            | Command::StaticModule { .. }
             | Command::PushLib { .. }
             | Command::PopLib
+            | Command::PushImport { .. }
+            | Command::PopImport
     )
 }
 
@@ -146,6 +151,7 @@ fn change(
             func,
         ),
         Command::Script { def, .. } => changed.set_script_fn(alloc, def),
+        Command::Index { .. } => changed.build_index(alloc),
         Command::Clear { .. } => Ok(changed.clear(alloc)?),
         _ => unreachable!(),
     }
@@ -171,6 +177,22 @@ impl Session {
         Ok(Reply::Made(id))
     }
 
+    /// The refusal of a command that changes a module by itself, where it names a number that isn't held.
+    fn unheld(&self, id: ModuleId, command: &Command) -> Option<DeclFault>
+        requires { target command.now ≡ Some id }
+        ensures refused { IfSome result (λ fault. Goes (world_of info self.now) (frame_of self.now) command.now (Err fault) (world_of info self.now) (frame_of self.now)) }
+        ensures held { IfNone result ((id.0 < length (modules_of self.now)) × (iterator_in command.now ≡ None)) }
+    {
+        let at = id.0 as usize;
+        if at >= self.modules.len() {
+            return Some(unknown(id.0, self.modules.len()));
+        }
+        if let Some(iterator) = iterator_in(command) {
+            return Some(unknown(iterator.0, 0));
+        }
+        None
+    }
+
     /// Changes the module of a number as a command says that changes it by itself.
     pub(crate) fn change_module(
         &mut self,
@@ -184,14 +206,10 @@ impl Session {
         ensures begun { calls_begun_of self.new ≡ calls_begun_of self.old }
         ensures count { length (modules_of self.new) ≡ length (modules_of self.old) }
     {
-        let at = id.0 as usize;
-        if at >= self.modules.len() {
-            return Err(unknown(id.0, self.modules.len()));
+        match self.unheld(id, &command) {
+            Some(fault) => Err(fault),
+            None => self.change_held(alloc, id, command),
         }
-        if let Some(iterator) = iterator_in(&command) {
-            return Err(unknown(iterator.0, 0));
-        }
-        self.change_held(alloc, id, command)
     }
 
     /// Changes a module that is held, as a command says that changes it by itself.
@@ -330,6 +348,87 @@ impl Session {
     {
         match self.state.lib.pop() {
             Some(_library) => Ok(()),
+            None => Err(unknown(0, 0)),
+        }
+    }
+
+    /// Puts a module second among those whose functions all calls find.
+    pub(crate) fn global_module(&mut self, alloc: Global, id: ModuleId) -> Result<(), DeclFault>
+        ensures goes { Goes (world_of info self.old) (frame_of self.old) (commands.GlobalModule id) result (world_of info self.new) (frame_of self.new) }
+        ensures natives { natives_of self.new ≡ natives_of self.old }
+        ensures begun { calls_begun_of self.new ≡ calls_begun_of self.old }
+        ensures count { modules_of self.new ≡ modules_of self.old }
+    {
+        let at = id.0 as usize;
+        if at >= self.modules.len() {
+            return Err(unknown(id.0, self.modules.len()));
+        }
+        let Ok(added) = self.modules[at].dup(alloc) else {
+            return Err(DeclFault::OutOfMemory);
+        };
+        let engine = &mut self.engine;
+        match engine.globals.insert_second(added) {
+            Ok(()) => Ok(()),
+            Err(OutOfMemory) => Err(DeclFault::OutOfMemory),
+        }
+    }
+
+    /// Puts a module, indexed, under a name among the static modules.
+    pub(crate) fn static_module(
+        &mut self,
+        alloc: Global,
+        name: Text,
+        id: ModuleId,
+    ) -> Result<(), DeclFault>
+        ensures goes { Goes (world_of info self.old) (frame_of self.old) (commands.StaticModule name id) result (world_of info self.new) (frame_of self.new) }
+        ensures natives { natives_of self.new ≡ natives_of self.old }
+        ensures begun { calls_begun_of self.new ≡ calls_begun_of self.old }
+        ensures count { modules_of self.new ≡ modules_of self.old }
+    {
+        let at = id.0 as usize;
+        if at >= self.modules.len() {
+            return Err(unknown(id.0, self.modules.len()));
+        }
+        let Ok(added) = self.modules[at].dup(alloc) else {
+            return Err(DeclFault::OutOfMemory);
+        };
+        let engine = &mut self.engine;
+        let seeds = engine.seeds();
+        engine.statics.register_static(alloc, seeds, name, added)
+    }
+
+    /// Puts a module, indexed, under a name last among the imports.
+    pub(crate) fn push_import(
+        &mut self,
+        alloc: Global,
+        name: Text,
+        id: ModuleId,
+    ) -> Result<(), DeclFault>
+        ensures goes { Goes (world_of info self.old) (frame_of self.old) (commands.PushImport name id) result (world_of info self.new) (frame_of self.new) }
+        ensures natives { natives_of self.new ≡ natives_of self.old }
+        ensures begun { calls_begun_of self.new ≡ calls_begun_of self.old }
+        ensures count { modules_of self.new ≡ modules_of self.old }
+    {
+        let at = id.0 as usize;
+        if at >= self.modules.len() {
+            return Err(unknown(id.0, self.modules.len()));
+        }
+        let mut added = self.modules[at].dup(alloc)?;
+        match added.build_index(alloc) {
+            Ok(()) => Ok(self.state.imports.push(name, added)?),
+            Err(fault) => Err(fault),
+        }
+    }
+
+    /// Takes the last import off.
+    pub(crate) fn pop_import(&mut self) -> Result<(), DeclFault>
+        ensures goes { Goes (world_of info self.old) (frame_of self.old) commands.PopImport result (world_of info self.new) (frame_of self.new) }
+        ensures natives { natives_of self.new ≡ natives_of self.old }
+        ensures begun { calls_begun_of self.new ≡ calls_begun_of self.old }
+        ensures count { modules_of self.new ≡ modules_of self.old }
+    {
+        match self.state.imports.pop() {
+            Some((_name, _import)) => Ok(()),
             None => Err(unknown(0, 0)),
         }
     }

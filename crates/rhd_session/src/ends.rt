@@ -1,6 +1,6 @@
 //! How a call ends, and the checks of what its function answered.
 
-ghost use Rattle.std.specs.Prelude.{◌≡◌, IfOk, OnOk, Option, Some, option_and_then};
+ghost use Rattle.std.specs.Prelude.{◌≡◌, not, IfOk, OnOk, Option, Some, option_and_then};
 ghost use Rattle.rhd_value.specs.Tree.{Tree};
 ghost use Rattle.std.specs.Option.{option_copied};
 ghost use Rattle.rhd_value.specs.declared.fault.EvalAltResult.TheVariants as faults;
@@ -9,10 +9,10 @@ ghost use Rattle.rhd_call.specs.Seen.{seen};
 ghost use Rattle.rhd_engine.specs.Of.{lists_of};
 ghost use Rattle.rhd_session.specs.Ends as ends;
 ghost use Rattle.rhd_session.specs.Filling.{with_end, ended_by_host};
-ghost use Rattle.rhd_session.specs.Plans.{Plan, plan_of};
+ghost use Rattle.rhd_session.specs.Plans.{Plan, is_unqualified, plan_of};
 
 use crate::filling::{answer_with, fail, print, refuse};
-use crate::plan::{name_of, position_of, shape_of, want_of};
+use crate::plan::{is_qualified, position_of, want_of};
 use crate::printed::{answer_after_printing, no_text, printed_text, printer};
 use crate::received::{first_after, given};
 use rhd_call::{CallNode, Pick, Whose};
@@ -92,25 +92,26 @@ fn first_too_large(
     }
 }
 
-/// The fault of a value, or of the first argument that a native had, which holds more than the
-/// limits allow.
+/// The fault of a value, or of the first argument that the native of an unqualified call had, which
+/// holds more than the limits allow.
 #[tactic(auto, unfolding(rhd_engine::specs::Of::lists_of))]
 fn unfit(
     alloc: Global,
     engine: &Engine,
     pos: Position,
+    is_qualified: bool,
     pick: &Pick,
     first: &Option<Dynamic>,
     value: &Dynamic,
 ) -> Result<Option<EvalAltResult>, OutOfMemory>
-    ensures { (plan : Plan) (back : Option Tree) → plan.pos ≡ pos → ends.first_at_end (lists_of info engine.now) plan pick.now back ≡ first.now
+    ensures { (plan : Plan) (back : Option Tree) → plan.pos ≡ pos → is_qualified ≡ not (is_unqualified plan.search) → ends.first_at_end (lists_of info engine.now) plan pick.now back ≡ first.now
         → IfOk result (λ fault. fault ≡ ends.unfit (lists_of info engine.now) plan pick.now back value.now) }
 {
     let limits = engine.limits();
     match too_large(alloc, limits, pos, value)? {
         Some(fault) => Ok(Some(fault)),
         None => {
-            if pick.func.is_script() {
+            if is_qualified || pick.func.is_script() {
                 return Ok(None);
             }
             first_too_large(alloc, limits, pos, first.as_ref())
@@ -170,7 +171,7 @@ fn first_at_end(
 ) -> Result<Option<Dynamic>, OutOfMemory>
     ensures { IfOk result (λ first. first ≡ ends.first_at_end (lists_of info engine.now) (plan_of call.now) pick.now back) }
 {
-    first_after(alloc, engine.natives(), &pick.func, shape_of(call), back)
+    first_after(alloc, engine.natives(), &pick.func, call, back)
 }
 
 /// Ends a call whose function answered a value, and gave this back of its first argument.
@@ -187,7 +188,8 @@ pub fn finish(
 {
     let pos = position_of(&node.call);
     let first = first_at_end(alloc, engine, &node.call, pick, back)?;
-    match unfit(alloc, engine, pos, pick, &first, &value)? {
+    let is_qualified = is_qualified(&node.call);
+    match unfit(alloc, engine, pos, is_qualified, pick, &first, &value)? {
         Some(fault) => {
             refuse(node, first, value, fault);
             Ok(())
@@ -223,7 +225,20 @@ pub fn not_found(
 ) -> Result<EvalAltResult, OutOfMemory>
     ensures { IfOk result (λ fault. ending.failed (plan_of call.now).given fault ≡ ends.missing_end (lists_of info engine.now) (plan_of call.now)) }
 {
-    engine.not_found(alloc, name_of(call), shape_of(call), position_of(call))
+    match call {
+        CallRequest::Named {
+            name,
+            shape,
+            pos,
+            ..
+        } => engine.not_found(alloc, name, shape, *pos),
+        CallRequest::Qualified {
+            path,
+            name,
+            shape,
+            pos,
+        } => engine.not_found_in(alloc, path.as_slice(), name, shape, *pos),
+    }
 }
 
 /// Ends a call with what the host answered. Where that is nothing, its function isn't found.

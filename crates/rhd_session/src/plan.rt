@@ -1,10 +1,9 @@
 //! The parts of a request that a call of one function goes by.
 
-ghost use Rattle.std.specs.Prelude.{◌≡◌};
-ghost use Rattle.rhd_session.specs.Plans.{token_in, only_natives, plan_of};
+ghost use Rattle.std.specs.Prelude.{◌≡◌, not};
+ghost use Rattle.rhd_session.specs.Plans.{without_host, is_unqualified, plan_of};
 
-use rhd_func::{CallRequest, CallShape};
-use rhd_names::OpToken;
+use rhd_func::CallRequest;
 use rhd_value::{Position, Text, TypeTag};
 
 /// The name that is called.
@@ -13,15 +12,7 @@ pub fn name_of(request: &CallRequest) -> &Text
 {
     match request {
         CallRequest::Named { name, .. } => name,
-    }
-}
-
-/// The arguments.
-pub fn shape_of(request: &CallRequest) -> &CallShape
-    ensures { result.now ≡ (plan_of request.now).shape }
-{
-    match request {
-        CallRequest::Named { shape, .. } => shape,
+        CallRequest::Qualified { name, .. } => name,
     }
 }
 
@@ -31,6 +22,7 @@ pub fn want_of(request: &CallRequest) -> Option<TypeTag>
 {
     match request {
         CallRequest::Named { want, .. } => *want,
+        CallRequest::Qualified { .. } => None,
     }
 }
 
@@ -40,23 +32,26 @@ pub fn position_of(request: &CallRequest) -> Position
 {
     match request {
         CallRequest::Named { pos, .. } => *pos,
+        CallRequest::Qualified { pos, .. } => *pos,
     }
 }
 
-/// Whether natives alone are meant.
-pub fn native_only_of(request: &CallRequest) -> bool
-    ensures { result ≡ only_natives (plan_of request.now).search }
+/// Whether a function of a module is called.
+pub fn is_qualified(request: &CallRequest) -> bool
+    ensures { result ≡ not (is_unqualified (plan_of request.now).search) }
+{
+    match request {
+        CallRequest::Named { .. } => false,
+        CallRequest::Qualified { .. } => true,
+    }
+}
+
+/// Whether the host isn't asked where no function is found.
+pub fn without_host(request: &CallRequest) -> bool
+    ensures { result ≡ without_host (plan_of request.now).search }
 {
     match request {
         CallRequest::Named { native_only, .. } => *native_only,
-    }
-}
-
-/// The token that the name is, if it is one.
-pub fn token_of(request: &CallRequest) -> Option<OpToken>
-    ensures { result ≡ token_in (plan_of request.now).search }
-{
-    match request {
-        CallRequest::Named { token, .. } => *token,
+        CallRequest::Qualified { .. } => true,
     }
 }

@@ -5,7 +5,7 @@ ghost use Rattle.rhd_session.specs.Plans.{plan_of};
 ghost use Rattle.rhd_engine.specs.Of.{lists_of};
 ghost use Rattle.rhd_session.specs.Printed.{printer, printer_named, no_text, printed_text, answer_after_printing};
 
-use crate::plan::name_of;
+use crate::plan::{is_qualified, name_of};
 use rhd_call::{Layer, Pick};
 use rhd_engine::{Engine, Printers};
 use rhd_func::CallRequest;
@@ -25,11 +25,11 @@ fn printer_named(printers: Printers, name: &Text) -> Option<bool>
     None
 }
 
-/// The same of a call that found a native by that name; a script or a built-in has none.
+/// The same of an unqualified call that found a native by that name; a script or a built-in has none.
 pub fn printer(printers: Printers, call: &CallRequest, pick: &Pick) -> Option<bool>
     ensures { result ≡ printer printers (plan_of call.now) pick.now }
 {
-    if pick.func.is_script() || pick.layer == Layer::Builtin {
+    if is_qualified(call) || (pick.func.is_script() || pick.layer == Layer::Builtin) {
         return None;
     }
     printer_named(printers, name_of(call))

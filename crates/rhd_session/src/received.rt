@@ -4,9 +4,10 @@ ghost use Rattle.std.specs.Prelude.{◌≡◌, ◌∷◌, if◌then◌else◌, I
 ghost use Rattle.std.specs.Option.{option_copied};
 ghost use Rattle.rhd_value.specs.Tree.{copied};
 ghost use Rattle.rhd_value.specs.Firsts.{first_and_rest};
-ghost use Rattle.rhd_func.specs.Shapes.{first_given, given, all_args, is_method_shape};
+ghost use Rattle.rhd_func.specs.Shapes.{first_given, given, all_args, is_method_shape, by_reference};
 ghost use Rattle.rhd_func.specs.Funcs.{is_method};
 ghost use Rattle.rhd_func.specs.Infos.{infos_of};
+ghost use Rattle.rhd_session.specs.Plans.{plan_of};
 ghost use Rattle.rhd_session.specs.Received.{received, convention_of, has_the_given, first_after, first_received, is_read_only};
 ghost use Rattle.rhd_session.specs.Entered.{context_if};
 
@@ -30,7 +31,7 @@ fn is_method(natives: &Natives, func: &RhaiFunc) -> bool
 }
 
 /// Whether a function has the first argument by reference, or the object, itself and no copy.
-pub fn has_the_given(natives: &Natives, func: &RhaiFunc, shape: &CallShape) -> bool
+fn has_the_first(natives: &Natives, func: &RhaiFunc, shape: &CallShape) -> bool
     ensures { result ≡ has_the_given (convention_of (infos_of info natives.now) func.now) shape.now }
 {
     match shape {
@@ -40,8 +41,29 @@ pub fn has_the_given(natives: &Natives, func: &RhaiFunc, shape: &CallShape) -> b
     }
 }
 
-/// Whether the first that a function receives is read-only.
-pub fn receives_constant(natives: &Natives, func: &RhaiFunc, shape: &CallShape) -> bool
+/// The same where an object counts as a first argument by reference.
+fn has_it_by_reference(natives: &Natives, func: &RhaiFunc, shape: &CallShape) -> bool
+    ensures { result ≡ has_the_given (convention_of (infos_of info natives.now) func.now) (by_reference shape.now) }
+{
+    match shape {
+        CallShape::Plain(_) => false,
+        CallShape::ByRef(_, _) => is_method(natives, func),
+        CallShape::Method(_, _) => is_method(natives, func),
+    }
+}
+
+/// The same of a call.
+pub fn has_the_given(natives: &Natives, func: &RhaiFunc, call: &CallRequest) -> bool
+    ensures { result ≡ has_the_given (convention_of (infos_of info natives.now) func.now) (plan_of call.now).shape }
+{
+    match call {
+        CallRequest::Named { shape, .. } => has_the_first(natives, func, shape),
+        CallRequest::Qualified { shape, .. } => has_it_by_reference(natives, func, shape),
+    }
+}
+
+/// Whether the first of these arguments that a function receives is read-only.
+fn first_is_constant(natives: &Natives, func: &RhaiFunc, shape: &CallShape) -> bool
     ensures { result ≡ is_read_only (first_received (received (convention_of (infos_of info natives.now) func.now) shape.now)) }
 {
     match shape {
@@ -53,6 +75,27 @@ pub fn receives_constant(natives: &Natives, func: &RhaiFunc, shape: &CallShape) 
         CallShape::Method(object, _) => {
             (is_method(natives, func) || func.is_script()) && object.is_read_only()
         }
+    }
+}
+
+/// The same where an object counts as a first argument by reference.
+fn reference_is_constant(natives: &Natives, func: &RhaiFunc, shape: &CallShape) -> bool
+    ensures { result ≡ is_read_only (first_received (received (convention_of (infos_of info natives.now) func.now) (by_reference shape.now))) }
+{
+    match shape {
+        CallShape::Plain(_) => first_is_constant(natives, func, shape),
+        CallShape::ByRef(_, _) => first_is_constant(natives, func, shape),
+        CallShape::Method(object, _) => is_method(natives, func) && object.is_read_only(),
+    }
+}
+
+/// Whether the first that a function receives of a call's arguments is read-only.
+pub fn receives_constant(natives: &Natives, func: &RhaiFunc, call: &CallRequest) -> bool
+    ensures { result ≡ is_read_only (first_received (received (convention_of (infos_of info natives.now) func.now) (plan_of call.now).shape)) }
+{
+    match call {
+        CallRequest::Named { shape, .. } => first_is_constant(natives, func, shape),
+        CallRequest::Qualified { shape, .. } => reference_is_constant(natives, func, shape),
     }
 }
 
@@ -90,8 +133,8 @@ fn receive_first(
     Ok(Received { first: None, args })
 }
 
-/// What a function receives of a call's arguments.
-pub fn receive(
+/// What a function receives of these arguments.
+fn receive_all(
     alloc: Global,
     natives: &Natives,
     func: &RhaiFunc,
@@ -100,11 +143,45 @@ pub fn receive(
     ensures first { IfOk result (λ r. r.first ≡ (received (convention_of (infos_of info natives.now) func.now) shape.now).first) }
     ensures args { IfOk result (λ r. r.args ≡ (received (convention_of (infos_of info natives.now) func.now) shape.now).args) }
 {
-    let itself = has_the_given(natives, func, shape);
+    let itself = has_the_first(natives, func, shape);
     match shape {
         CallShape::Plain(args) => receive_plain(alloc, is_method(natives, func), args),
         CallShape::ByRef(first, args) => receive_first(alloc, itself, first, args),
         CallShape::Method(object, args) => receive_first(alloc, itself, object, args),
+    }
+}
+
+/// The same where an object counts as a first argument by reference.
+fn receive_by_reference(
+    alloc: Global,
+    natives: &Natives,
+    func: &RhaiFunc,
+    shape: &CallShape,
+) -> Result<Received, OutOfMemory>
+    ensures first { IfOk result (λ r. r.first ≡ (received (convention_of (infos_of info natives.now) func.now) (by_reference shape.now)).first) }
+    ensures args { IfOk result (λ r. r.args ≡ (received (convention_of (infos_of info natives.now) func.now) (by_reference shape.now)).args) }
+{
+    let itself = has_it_by_reference(natives, func, shape);
+    match shape {
+        CallShape::Plain(args) => receive_plain(alloc, is_method(natives, func), args),
+        CallShape::ByRef(first, args) => receive_first(alloc, itself, first, args),
+        CallShape::Method(object, args) => receive_first(alloc, itself, object, args),
+    }
+}
+
+/// What a function receives of a call's arguments.
+pub fn receive(
+    alloc: Global,
+    natives: &Natives,
+    func: &RhaiFunc,
+    call: &CallRequest,
+) -> Result<Received, OutOfMemory>
+    ensures first { IfOk result (λ r. r.first ≡ (received (convention_of (infos_of info natives.now) func.now) (plan_of call.now).shape).first) }
+    ensures args { IfOk result (λ r. r.args ≡ (received (convention_of (infos_of info natives.now) func.now) (plan_of call.now).shape).args) }
+{
+    match call {
+        CallRequest::Named { shape, .. } => receive_all(alloc, natives, func, shape),
+        CallRequest::Qualified { shape, .. } => receive_by_reference(alloc, natives, func, shape),
     }
 }
 
@@ -156,6 +233,7 @@ pub fn given(alloc: Global, request: &CallRequest) -> Result<Option<Dynamic>, Ou
 {
     match request {
         CallRequest::Named { shape, .. } => first_given(alloc, shape),
+        CallRequest::Qualified { shape, .. } => first_given(alloc, shape),
     }
 }
 
@@ -164,15 +242,15 @@ pub fn first_after(
     alloc: Global,
     natives: &Natives,
     func: &RhaiFunc,
-    shape: &CallShape,
+    call: &CallRequest,
     back: Option<Dynamic>,
 ) -> Result<Option<Dynamic>, OutOfMemory>
-    ensures { IfOk result (λ first. first ≡ first_after (convention_of (infos_of info natives.now) func.now) shape.now (first_given shape.now) back) }
+    ensures { IfOk result (λ first. first ≡ first_after (convention_of (infos_of info natives.now) func.now) (plan_of call.now).shape (given call.now) back) }
 {
-    if has_the_given(natives, func, shape) {
+    if has_the_given(natives, func, call) {
         return Ok(back);
     }
-    first_given(alloc, shape)
+    given(alloc, call)
 }
 
 /// The context, for a function that is handed it.

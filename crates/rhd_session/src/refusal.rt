@@ -1,67 +1,37 @@
 //! Why a call is refused before any function is looked for.
 
-ghost use Rattle.std.specs.Prelude.{◌≡◌, ◌≤◌, IfOk, option_map};
+ghost use Rattle.std.specs.Prelude.{◌≡◌, IfOk, option_map, is_none};
 ghost use Rattle.rhd_engine.specs.Of.{lists_of};
-ghost use Rattle.rhd_value.specs.declared.fault.EvalAltResult.TheVariants.{ErrorDataRace};
+ghost use Rattle.rhd_engine.specs.NotFound.{path_text};
+ghost use Rattle.rhd_value.specs.Firsts.{where_holds};
+ghost use Rattle.rhd_value.specs.declared.fault.EvalAltResult.TheVariants.{ErrorModuleNotFound};
 ghost use Rattle.rhd_func.specs.Shapes.{given};
+ghost use Rattle.rhd_dispatch.specs.Picks.{root_of};
 ghost use Rattle.rhd_call.specs.End.{failed};
-ghost use Rattle.rhd_session.specs.Plans.{plan_of};
-ghost use Rattle.rhd_session.specs.Decisions.{locked_from, locked_place, locked_text, locked_argument, refusal};
+ghost use Rattle.rhd_session.specs.Decisions.{refusal};
 
-use crate::plan::{name_of, position_of, shape_of};
-use rhd_engine::{Engine, GlobalRuntimeState};
-use rhd_func::{CallRequest, CallShape};
-use rhd_value::{Dynamic, EvalAltResult, OutOfMemory, Position, Text};
+use crate::plan::position_of;
+use rhd_dispatch::{ensure_no_data_race, has_root};
+use rhd_engine::{Engine, GlobalRuntimeState, path_text};
+use rhd_func::CallRequest;
+use rhd_value::{EvalAltResult, OutOfMemory, Position, Text};
 use std::alloc::Global;
 
-/// The place of the first locked value, where the first has this place.
-fn locked_from(start: u64, values: &[Dynamic]) -> Option<u64>
-    requires { start ≤ 2 }
-    ensures { result ≡ locked_from start values.now }
-{
-    let mut place = start;
-    for value in values {
-        if value.is_locked() {
-            return Some(place);
-        }
-        place += 1;
-    }
-    None
-}
-
-/// The place of the first locked argument among all, from 1. A first argument by reference and an
-/// object may be locked.
-fn locked_place(shape: &CallShape) -> Option<u64>
-    ensures { result ≡ locked_place shape.now }
-{
-    match shape {
-        CallShape::Plain(args) => locked_from(1, args.as_slice()),
-        CallShape::ByRef(_, args) => locked_from(2, args.as_slice()),
-        CallShape::Method(_, args) => locked_from(2, args.as_slice()),
-    }
-}
-
-/// The fault of a locked argument at a place.
-fn locked_at(
+/// The fault of a path that is empty, or whose first name is that of no import and of no static module.
+fn no_root(
     alloc: Global,
-    name: &Text,
-    place: u64,
+    engine: &Engine,
+    state: &GlobalRuntimeState,
+    path: &[Text],
     pos: Position,
-) -> Result<EvalAltResult, OutOfMemory>
-    ensures { IfOk result (λ fault. fault ≡ ErrorDataRace (locked_text name.now place) pos) }
+) -> Result<Option<EvalAltResult>, OutOfMemory>
+    ensures { IfOk result (λ fault. fault ≡ where_holds (is_none (root_of (lists_of info engine.now) state.now.imports path.now)) (ErrorModuleNotFound (path_text path.now) pos)) }
 {
-    let text = format!(in alloc; "argument #{place} of function '{}'", name.as_str())?;
-    Ok(EvalAltResult::ErrorDataRace(Text::from_string(text), pos))
-}
-
-/// The fault of a call with a locked argument.
-fn locked_argument(alloc: Global, call: &CallRequest) -> Result<Option<EvalAltResult>, OutOfMemory>
-    ensures { IfOk result (λ fault. fault ≡ locked_argument (plan_of call.now) (plan_of call.now).search) }
-{
-    match locked_place(shape_of(call)) {
-        None => Ok(None),
-        Some(place) => Ok(Some(locked_at(alloc, name_of(call), place, position_of(call))?)),
+    if has_root(engine, state, path) {
+        return Ok(None);
     }
+    let text = path_text(alloc, path)?;
+    Ok(Some(EvalAltResult::ErrorModuleNotFound(text, pos)))
 }
 
 /// The fault of a call that is refused.
@@ -69,14 +39,24 @@ fn locked_argument(alloc: Global, call: &CallRequest) -> Result<Option<EvalAltRe
 pub fn refusal(
     alloc: Global,
     engine: &Engine,
-    _state: &GlobalRuntimeState,
+    state: &GlobalRuntimeState,
     level: u32,
     call: &CallRequest,
 ) -> Result<Option<EvalAltResult>, OutOfMemory>
-    ensures { IfOk result (λ fault. option_map (failed (given call.now)) fault ≡ refusal (lists_of info engine.now) _state.now level call.now) }
+    ensures { IfOk result (λ fault. option_map (failed (given call.now)) fault ≡ refusal (lists_of info engine.now) state.now level call.now) }
 {
     if level > engine.limits().level {
         return Ok(Some(EvalAltResult::ErrorStackOverflow(position_of(call))));
     }
-    locked_argument(alloc, call)
+    match call {
+        CallRequest::Named {
+            name,
+            shape,
+            pos,
+            ..
+        } => ensure_no_data_race(alloc, name, shape, *pos),
+        CallRequest::Qualified { path, pos, .. } => {
+            no_root(alloc, engine, state, path.as_slice(), *pos)
+        }
+    }
 }

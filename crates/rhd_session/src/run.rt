@@ -5,7 +5,8 @@ ghost use Rattle.rhd_func.specs.declared.request.CallRequest.{CallRequest};
 ghost use Rattle.rhd_module.specs.Tree.{ModuleTree};
 ghost use Rattle.rhd_call.specs.declared.reply.Reply.TheVariants.{Called};
 ghost use Rattle.rhd_engine.specs.Engine.{Frame};
-ghost use Rattle.rhd_engine.specs.Held.{func_held, all_held};
+ghost use Rattle.rhd_engine.specs.Held.{func_held};
+ghost use Rattle.rhd_session.specs.Held.{frame_held};
 ghost use Rattle.rhd_session.specs.declared.machine.Hand.TheVariants.{Asked, Answered};
 ghost use Rattle.rhd_session.specs.World.{Moment, moment};
 ghost use Rattle.rhd_session.specs.Filling.{IsBegunFor};
@@ -36,7 +37,7 @@ pub fn fill<H: Host, B: Bodies>(
     host: &mut H,
     bodies: &mut B,
 ) -> Result<(), OutOfMemory>
-    requires libraries { all_held (length engine.now.natives.items.items) state.old.lib ≡ true }
+    requires held { frame_held (length engine.now.natives.items.items) state.old ≡ true }
     requires within { begun.old ≤ engine.now.limits.budget }
     requires begun { (call : CallRequest) × IsBegunFor call reply.old }
     ensures replied { (modules : List ModuleTree) (call : CallRequest) → IsBegunFor call reply.old → OnOk result (CallRepliedIn
@@ -73,7 +74,7 @@ fn fill_on<H: Host, B: Bodies>(
     host: &mut H,
     bodies: &mut B,
 ) -> Result<(), OutOfMemory>
-    requires libraries { all_held (length engine.now.natives.items.items) state.old.lib ≡ true }
+    requires held { frame_held (length engine.now.natives.items.items) state.old ≡ true }
     requires within { begun.old ≤ engine.now.limits.budget }
     requires comes { (modules : List ModuleTree) × (node : CallNode) × (call : CallRequest) × (before : Moment H B) × (reply.old ≡ Called node) × ComesIn
         (setting_of allows_call allows_resume B.allows_start B.allows_next H.allows_missing info engine.now modules state.old) 1 call (outcome_of node (Some asking)) before
@@ -106,7 +107,7 @@ fn run_on<H: Host, B: Bodies>(
     host: &mut H,
     bodies: &mut B,
 ) -> Result<CallNode, OutOfMemory>
-    requires libraries { all_held (length engine.now.natives.items.items) state.old.lib ≡ true }
+    requires held { frame_held (length engine.now.natives.items.items) state.old ≡ true }
     requires within { begun.old ≤ engine.now.limits.budget }
     requires comes { (modules : List ModuleTree) × (call : CallRequest) × (before : Moment H B)
         × ComesIn (setting_of allows_call allows_resume B.allows_start B.allows_next H.allows_missing info engine.now modules state.old) 1 call outcome before (moment begun.old host.old bodies.old) }
@@ -135,7 +136,7 @@ fn run_stack<H: Host, B: Bodies>(
     host: &mut H,
     bodies: &mut B,
 ) -> Result<CallNode, OutOfMemory>
-    requires libraries { all_held (length engine.now.natives.items.items) state.old.lib ≡ true }
+    requires held { frame_held (length engine.now.natives.items.items) state.old ≡ true }
     requires within { begun.old ≤ engine.now.limits.budget }
     requires comes { (modules : List ModuleTree) × (call : CallRequest) × (before : Moment H B)
         × ComesIn (setting_of allows_call allows_resume B.allows_start B.allows_next H.allows_missing info engine.now modules state.old) 1 call outcome before (moment begun.old host.old bodies.old) }
@@ -180,7 +181,7 @@ fn ask<H: Host, B: Bodies>(
     host: &mut H,
     bodies: &mut B,
 ) -> Result<Hand, OutOfMemory>
-    requires libraries { all_held (length engine.now.natives.items.items) state.old.lib ≡ true }
+    requires held { frame_held (length engine.now.natives.items.items) state.old ≡ true }
     requires few { length stack.old.items ≤ 1000 }
     ensures going { (modules : List ModuleTree) (base : Frame) (call : CallRequest) (before : Moment H B) (begun : ℕ) → begun < engine.now.limits.budget → GoingIn
         (setting_of allows_call allows_resume B.allows_start B.allows_next H.allows_missing info engine.now modules base) stack.old.items call before (Asked request) state.old

@@ -5,6 +5,7 @@ ghost use Rattle.rhd_func.specs.Infos.{infos_of};
 ghost use Rattle.rhd_call.specs.declared.reply.Reply.{Reply};
 ghost use Rattle.rhd_engine.specs.Held.{all_held, builtins_held};
 ghost use Rattle.rhd_engine.specs.Start.{start_frame};
+ghost use Rattle.rhd_session.specs.Held.{frame_held};
 ghost use Rattle.rhd_session.specs.World.{Moment};
 ghost use Rattle.rhd_session.specs.Objects.{objects_of};
 ghost use Rattle.rhd_session.specs.Start.{start_world};
@@ -31,7 +32,7 @@ pub struct Session {
     pub(crate) modules: Vec<SharedModule>,
     begun: u64,
     ghost modules_held: { all_held (length engine.natives.items.items) modules.items ≡ true },
-    ghost libraries_held: { all_held (length engine.natives.items.items) state.lib ≡ true },
+    ghost state_held: { frame_held (length engine.natives.items.items) state ≡ true },
     ghost within: { begun ≤ engine.limits.budget },
 }
 
@@ -121,8 +122,12 @@ impl Session {
             Command::RegisterFn { name, id } => self.register_fn(alloc, name, id),
             Command::RegisterRaw { name, types, id } => self.register_raw(alloc, name, &types, id),
             Command::RegisterType { kind, display } => self.register_type(alloc, kind, display),
+            Command::GlobalModule { module: id } => self.global_module(alloc, id),
+            Command::StaticModule { name, module: id } => self.static_module(alloc, name, id),
             Command::PushLib { module: id } => self.push_lib(alloc, id),
             Command::PopLib => self.pop_lib(),
+            Command::PushImport { name, module: id } => self.push_import(alloc, name, id),
+            Command::PopImport => self.pop_import(),
             _ => unreachable!(),
         }
     }

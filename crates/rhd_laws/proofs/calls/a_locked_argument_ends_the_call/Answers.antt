@@ -9,4 +9,4 @@ pub returns-clause-ends : goal.returns-clause-ends
 returns-clause-ends g c = λ r text pos begun. race_exactly _ _ text pos (runs_end _ _ r.runs) begun
 
 pub returns-clause-shown : goal.returns-clause-shown
-returns-clause-shown g c = λ r n begun l first. race_shown _ _ n (runs_end _ _ r.runs) begun l first
+returns-clause-shown g c = λ r n begun l unqualified first. race_shown _ _ n (runs_end _ _ r.runs) begun l unqualified first

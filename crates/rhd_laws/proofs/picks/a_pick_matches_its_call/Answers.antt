@@ -5,13 +5,14 @@ use Rattle.rhd_laws.proofs.PickAnswers.{match_first, unanswered_exactly, receive
 use Rattle.rhd_laws.proofs.picks.a_pick_matches_its_call.Goals as goal
 
 pub returns-clause-answered : goal.returns-clause-answered
-returns-clause-answered c = λ e f call pick. (first_match e f call pick, match_first e f call pick)
+returns-clause-answered c = λ e f call pick unqualified. (first_match e f call pick unqualified, match_first e f call pick unqualified)
 
 pub returns-clause-unanswered : goal.returns-clause-unanswered
-returns-clause-unanswered c = λ e f call. unanswered_exactly e f call
+returns-clause-unanswered c = λ e f call unqualified. unanswered_exactly e f call unqualified
 
 pub returns-clause-shown : goal.returns-clause-shown
-returns-clause-shown c = λ e f level call pick. (let r = picked_exactly e f level call pick in (λ h. ((r.0 h).0, first_match e f call pick (r.0 h).1), λ h. r.1 (h.0, match_first e f call pick h.1)))
+returns-clause-shown c = λ e f level call pick unqualified.
+    (let r = picked_exactly e f level call pick in (λ h. ((r.0 h).0, first_match e f call pick unqualified (r.0 h).1), λ h. r.1 (h.0, match_first e f call pick unqualified h.1)))
 
 pub returns-clause-receives : goal.returns-clause-receives
 returns-clause-receives c = λ e f call name types pick m. receives e call name types (convention_of e.natives pick.func) m.matches

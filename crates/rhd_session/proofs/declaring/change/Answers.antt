@@ -1,4 +1,4 @@
-use Rattle.rhd_session.proofs.ModuleChanges.{native_changes, raw_changes, script_changes}
+use Rattle.rhd_session.proofs.ModuleChanges.{native_changes, raw_changes, script_changes, index_changes}
 use Rattle.rhd_session.proofs.declaring.change.Goals as goal
 
 pub returns-in-Native : goal.returns-in-Native
@@ -9,3 +9,6 @@ returns-in-RawNative g c = raw_changes _ c.args.command _ _ _ _ _ c.args.changed
 
 pub returns-in-Script : goal.returns-in-Script
 returns-in-Script g c = script_changes _ c.args.command _ _ c.args.changed.now _ c.set_script_fn.result c.in-Script.is c.set_script_fn.ensures
+
+pub returns-in-Index : goal.returns-in-Index
+returns-in-Index g c = index_changes _ c.args.command _ c.args.changed.now _ c.build_index.result c.in-Index.is c.build_index.ensures

@@ -11,7 +11,7 @@ pub returns-in-None : goal.returns-in-None
 unfolding lists_of
 returns-in-None g c =
     let f = c.in_ok-first.ensures in
-    let none = sym (c.in_ok-fault.ensures (plan_of (seen c.args.node.now).call) c.args.back (sym c.position_of-pos.ensures) (sym f)) ∙ c.in-None.is in
+    let none = sym (c.in_ok-fault.ensures (plan_of (seen c.args.node.now).call) c.args.back (sym c.position_of-pos.ensures) c.is_qualified-is_qualified.ensures (sym f)) ∙ c.in-None.is in
     on_ok_weaker c.print_and_accept.result
     (λ h. h ∙ ap (with_end (seen c.args.node.now)) (fit_ends (lists_of (λ z. (goal.PluginFunc-dyn g z).info z.1) c.args.engine.now) (plan_of (seen c.args.node.now).call) c.args.pick.now c.args.back c.in_ok-first.first c.args.value c.printer-printer.result c.printers.result f none c.printers.ensures c.printer-printer.ensures))
     c.print_and_accept.ensures
@@ -20,5 +20,5 @@ pub returns-in-Some : goal.returns-in-Some
 unfolding lists_of
 returns-in-Some g c =
     let f = c.in_ok-first.ensures in
-    let some = sym (c.in_ok-fault.ensures (plan_of (seen c.args.node.now).call) c.args.back (sym c.position_of-pos.ensures) (sym f)) ∙ c.in-Some.is in
+    let some = sym (c.in_ok-fault.ensures (plan_of (seen c.args.node.now).call) c.args.back (sym c.position_of-pos.ensures) c.is_qualified-is_qualified.ensures (sym f)) ∙ c.in-Some.is in
     c.refuse.ensures ∙ ap (with_end (seen c.args.node.now)) (unfit_ends (lists_of (λ z. (goal.PluginFunc-dyn g z).info z.1) c.args.engine.now) (plan_of (seen c.args.node.now).call) c.args.pick.now c.args.back c.in_ok-first.first c.args.value c.in-Some.fault f some)

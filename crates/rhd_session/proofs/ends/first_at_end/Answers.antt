@@ -12,5 +12,5 @@ unfolding lists_of
 returns g c =
     let n = ap (infos_of (λ z. (goal.PluginFunc-dyn g z).info z.1)) c.natives.ensures in
     IfOk-weaker c.first_after.result _ (λ first. first ≡ first_at_end (lists_of (λ z. (goal.PluginFunc-dyn g z).info z.1) c.args.engine.now) (plan_of c.args.call.now) c.args.pick.now c.args.back)
-    (λ first is. first_is (lists_of (λ z. (goal.PluginFunc-dyn g z).info z.1) c.args.engine.now) (infos_of (λ z. (goal.PluginFunc-dyn g z).info z.1) c.natives.result.now) c.args.call.now c.args.pick.now c.shape_of.result.now c.args.back first n c.shape_of.ensures is)
+    (λ first is. first_is (lists_of (λ z. (goal.PluginFunc-dyn g z).info z.1) c.args.engine.now) (infos_of (λ z. (goal.PluginFunc-dyn g z).info z.1) c.natives.result.now) c.args.call.now c.args.pick.now c.args.back first n is)
     c.first_after.ensures

@@ -4,7 +4,7 @@ use Rattle.std.proofs.lemmas.Result.{IfOk-weaker}
 use Rattle.rhd_engine.specs.declared.limits.Limits.{Limits}
 use Rattle.rhd_engine.specs.Of.{lists_of}
 use Rattle.rhd_session.specs.World.{moment}
-use Rattle.rhd_session.proofs.Stack.{root_goes, spent, stack_limited, answer_ends, top_held, libraries_held, above_itself}
+use Rattle.rhd_session.proofs.Stack.{root_goes, spent, stack_limited, answer_ends, top_held, state_held, above_itself}
 use Rattle.rhd_session.proofs.run.run_stack.Goals as goal
 
 pub loop-hand-init : goal.loop-hand-init
@@ -41,10 +41,10 @@ overflow_add-level g c =
     let l = stack_limited _ _ c.loop-hand.stack.items c.args.state.now c.loop-hand.state c.requires.comes.1 c.requires.comes.2 _ (moment c.loop-hand.begun c.loop-hand.host c.loop-hand.bodies) going in
     omega (arith, e, l, c.args.engine.now.limited)
 
-pub ask-requires-clause-libraries : goal.ask-requires-clause-libraries
-ask-requires-clause-libraries g c =
+pub ask-requires-clause-held : goal.ask-requires-clause-held
+ask-requires-clause-held g c =
     let going = rw c.in-Asked.is at (c.loop-hand.invariant.going c.requires.comes.0 c.requires.comes.1 c.requires.comes.2 c.requires.comes.3) in
-    libraries_held _ _ c.loop-hand.stack.items c.args.state.now c.loop-hand.state c.requires.comes.1 c.requires.comes.2 (moment c.loop-hand.begun c.loop-hand.host c.loop-hand.bodies) _ _ c.requires.libraries going
+    state_held _ _ c.loop-hand.stack.items c.args.state.now c.loop-hand.state c.requires.comes.1 c.requires.comes.2 (moment c.loop-hand.begun c.loop-hand.host c.loop-hand.bodies) _ _ c.requires.held going
 
 pub ask-requires-clause-few : goal.ask-requires-clause-few
 unfolding lists_of
@@ -57,7 +57,7 @@ pub answer-requires : goal.answer-requires
 unfolding lists_of
 answer-requires g c =
     let going = rw (c.in-Answered.is, c.in-Some.ensures.items) at (c.loop-hand.invariant.going c.requires.comes.0 c.requires.comes.1 c.requires.comes.2 c.requires.comes.3) in
-    top_held _ _ c.pop.new.self.items c.in-Some.frame c.args.state.now c.loop-hand.state c.requires.comes.1 c.requires.comes.2 (moment c.loop-hand.begun c.loop-hand.host c.loop-hand.bodies) _ _ c.args.engine.now.globals_held c.requires.libraries c.args.engine.now.builtins_held going
+    top_held _ _ c.pop.new.self.items c.in-Some.frame c.args.state.now c.loop-hand.state c.requires.comes.1 c.requires.comes.2 (moment c.loop-hand.begun c.loop-hand.host c.loop-hand.bodies) _ _ c.args.engine.now.globals_held c.args.engine.now.statics_held c.requires.held c.args.engine.now.builtins_held going
 
 pub returns-in_err-hand-clause-above : goal.returns-in_err-hand-clause-above
 returns-in_err-hand-clause-above g c = c.put.ensures.above c.args.state.now (above_itself c.args.state.now)

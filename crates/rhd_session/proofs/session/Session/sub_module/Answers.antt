@@ -3,6 +3,7 @@ use Rattle.rhd_module.specs.Tree.{ModuleTree}
 use Rattle.rhd_module.specs.Contents.{with_sub}
 use Rattle.rhd_call.specs.declared.command.Command.TheVariants as commands
 use Rattle.rhd_session.specs.Of.{world_of, frame_of}
+use Rattle.rhd_engine.specs.Held.{names_held}
 use Rattle.rhd_engine.proofs.HeldLaws.{all_at, all_set}
 use Rattle.rhd_session.proofs.Declared.{goes_refused, refused_first, refused_second, at_place}
 use Rattle.rhd_session.proofs.GlobalChanges.{sub_goes, sub_either}
@@ -31,8 +32,11 @@ invariant_of-self-clause-modules_held g c =
     let h : c.args.id.0 < length c.args.self.now.modules.items = omega (arith, m, c.if-at-len.false) in
     let there = at_place c.args.self.now.modules.items c.args.id.0 c.index_mut.result.now h c.index_mut.ensures.value in
     let held = all_at _ c.args.self.now.modules.items c.args.id.0 c.index_mut.result.now c.args.self.now.modules_held there in
+    let k : c.len-2.result ≡ length c.args.self.now.modules.items = search rules in
+    let b : c.args.sub.0 < length c.args.self.now.modules.items = omega (arith, k, c.if-from-len.false) in
+    let child = all_at _ c.args.self.now.modules.items c.args.sub.0 c.index.result.now c.args.self.now.modules_held (at_place c.args.self.now.modules.items c.args.sub.0 _ b c.index.ensures) in
     all_set _ c.args.self.now.modules.items c.args.id.0 c.set_sub_module.new.self c.args.self.now.modules_held
-    (sub_either c.set_sub_module.result _ c.args.name _ c.index_mut.result.now c.set_sub_module.new.self c.set_sub_module.ensures.ok c.set_sub_module.ensures.err held)
+    (sub_either c.set_sub_module.result _ c.args.name _ c.index_mut.result.now c.set_sub_module.new.self c.set_sub_module.ensures.ok c.set_sub_module.ensures.err (ap (names_held _) c.in_ok-child.ensures ∙ child) held)
 
 pub returns-clause-goes : goal.returns-clause-goes
 returns-clause-goes g c =
