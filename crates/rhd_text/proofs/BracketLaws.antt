@@ -1,5 +1,5 @@
 -- Elements between round brackets.
-use Rattle.std.proofs.Common.{◌≡◌, ℕ, Bool, true, false, cond, List, [], ◌∷◌, length, Option, Some, None, refl, subst, arith}
+use Rattle.std.proofs.Common.{◌≡◌, ℕ, Bool, true, false, cond, List, [], length, Some, None, refl, subst, arith}
 use Rattle.rhd_text.specs.Spans.{Span, bracket, each, bracketed}
 use Rattle.rhd_text.specs.Reading.{◌>>=◌, Parse, comes, after_bracket, many, bracketed_at}
 use Rattle.rhd_text.proofs.Agrees.{Agrees, bind_some, some_pair}

@@ -26,6 +26,7 @@ pub mod WrittenValues
 pub mod ArgumentLaws
 pub mod OperandLaws
 pub mod RowLaws
+pub mod PathLaws
 pub mod TableLaws
 pub mod PlanLaws
 pub mod HeldNatives

@@ -13,7 +13,7 @@ use Rattle.rhd_text.specs.declared.part.Part.TheVariants as parts
 use Rattle.rhd_text.specs.declared.place.Place.{Place}
 use Rattle.rhd_text.specs.Rows.{Operand, From, from_then, position, nowhere, definition, defined, call_form, planned, called, step, form}
 use Rattle.rhd_text.specs.Reading.{◌>>=◌, is_end}
-use Rattle.rhd_text.specs.ReadRows.{operand_at, operands_at, row_at, definition_at, plan_at, named_at}
+use Rattle.rhd_text.specs.ReadRows.{operand_at, operands_at, row_at, definition_at, plan_at, named_at, qualified_at}
 
 ended : {A B : Type 0} (f : A → B) (b : Bool) (o : Option A) → cond b (option_map f o) None ≡ option_map f (cond b o None)
 ended f true o = refl
@@ -71,3 +71,11 @@ method_plan given pos bytes = refl
 pub method_native_plan : (given : Bool) (pos : Position) (bytes : List ℕ) → plan_at given words.MethodNative pos bytes ≡ named_at given true handings.AsObject pos bytes
 unfolding plan_at named_at
 method_native_plan given pos bytes = refl
+
+pub qual_plan : (given : Bool) (pos : Position) (bytes : List ℕ) → plan_at given words.Qual pos bytes ≡ qualified_at given handings.ByValue pos bytes
+unfolding plan_at qualified_at
+qual_plan given pos bytes = refl
+
+pub qual_ref_plan : (given : Bool) (pos : Position) (bytes : List ℕ) → plan_at given words.QualRef pos bytes ≡ qualified_at given handings.ByRef pos bytes
+unfolding plan_at qualified_at
+qual_ref_plan given pos bytes = refl

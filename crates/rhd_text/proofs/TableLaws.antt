@@ -7,7 +7,7 @@ use Rattle.rhd_text.specs.declared.part.Part.{Part}
 use Rattle.rhd_text.specs.declared.place.Place.{Place}
 use Rattle.rhd_text.specs.declared.keyword.Keyword.{Keyword}
 use Rattle.rhd_text.specs.declared.keyword.Keyword.TheVariants.{Seeds, Limits, Printer, Builtin, Host, Body, Ret, Fail, Register, RegisterRaw, RegisterType, Module}
-use Rattle.rhd_text.specs.declared.keyword.Keyword.TheVariants.{SetId, SetDoc, SetVar, SetType, Native, Raw, RawIter, RawScript, Script, Submodule, Clear, Count, HasNative, HasScript, Lib, PopLib, Call}
+use Rattle.rhd_text.specs.declared.keyword.Keyword.TheVariants.{SetId, SetDoc, SetVar, SetType, Native, Raw, RawIter, RawScript, Script, Submodule, Clear, Count, HasNative, HasScript, Lib, PopLib, Index, Global, Static, Import, PopImport, Call}
 use Rattle.rhd_text.specs.declared.keyword.CallWord.{CallWord}
 use Rattle.rhd_text.specs.declared.keyword.CallWord.TheVariants as words
 use Rattle.rhd_text.specs.Rows.{call_form, step, all_calls, form, all_keywords, line_forms, step_forms}
@@ -28,6 +28,8 @@ call_placed given words.Ref = refl
 call_placed given words.RefNative = refl
 call_placed given words.Method = refl
 call_placed given words.MethodNative = refl
+call_placed given words.Qual = refl
+call_placed given words.QualRef = refl
 
 call_shows : (w : CallWord) (rest : List ℕ) → begins_no_part ((call_form w).spelling ++ rest) ≡ false
 call_shows words.Call rest = refl
@@ -36,6 +38,8 @@ call_shows words.Ref rest = refl
 call_shows words.RefNative rest = refl
 call_shows words.Method rest = refl
 call_shows words.MethodNative rest = refl
+call_shows words.Qual rest = refl
+call_shows words.QualRef rest = refl
 
 step_found : (w : CallWord) → keyword_in step all_calls (call_form w).spelling ≡ Some w
 unfolding keyword_in
@@ -45,6 +49,8 @@ step_found words.Ref = refl
 step_found words.RefNative = refl
 step_found words.Method = refl
 step_found words.MethodNative = refl
+step_found words.Qual = refl
+step_found words.QualRef = refl
 
 steps_sound : IsSound CallWord Part step_forms
 steps_sound = record { placed = λ w. call_placed true w; found = step_found; shows = call_shows }
@@ -80,6 +86,11 @@ line_placed HasNative = refl
 line_placed HasScript = refl
 line_placed Lib = refl
 line_placed PopLib = refl
+line_placed Index = refl
+line_placed Global = refl
+line_placed Static = refl
+line_placed Import = refl
+line_placed PopImport = refl
 line_placed (Call w) = call_placed false w
 
 line_found : (k : Keyword) → keyword_in form all_keywords (form k).spelling ≡ Some k
@@ -112,12 +123,19 @@ line_found HasNative = refl
 line_found HasScript = refl
 line_found Lib = refl
 line_found PopLib = refl
+line_found Index = refl
+line_found Global = refl
+line_found Static = refl
+line_found Import = refl
+line_found PopImport = refl
 line_found (Call words.Call) = refl
 line_found (Call words.CallNative) = refl
 line_found (Call words.Ref) = refl
 line_found (Call words.RefNative) = refl
 line_found (Call words.Method) = refl
 line_found (Call words.MethodNative) = refl
+line_found (Call words.Qual) = refl
+line_found (Call words.QualRef) = refl
 
 line_shows : (k : Keyword) (rest : List ℕ) → begins_no_part ((form k).spelling ++ rest) ≡ false
 line_shows Seeds rest = refl
@@ -148,6 +166,11 @@ line_shows HasNative rest = refl
 line_shows HasScript rest = refl
 line_shows Lib rest = refl
 line_shows PopLib rest = refl
+line_shows Index rest = refl
+line_shows Global rest = refl
+line_shows Static rest = refl
+line_shows Import rest = refl
+line_shows PopImport rest = refl
 line_shows (Call w) rest = call_shows w rest
 
 lines_sound : IsSound Keyword Part line_forms

@@ -1,6 +1,7 @@
 pub mod Bytes
 pub mod Arguments
 pub mod Operators
+pub mod Paths
 pub mod Rows
 pub mod Maps
 pub mod Spans

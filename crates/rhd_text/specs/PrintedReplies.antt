@@ -5,17 +5,17 @@ use Rattle.std.specs.Fmt.{decimal}
 use Rattle.rhd_value.specs.Tree.{Bytes, Tree}
 use Rattle.rhd_value.specs.declared.fault.EvalAltResult.{EvalAltResult}
 use Rattle.rhd_value.specs.declared.fault.EvalAltResult.TheVariants.{ErrorFunctionNotFound, ErrorDotExpr, ErrorIndexingType, ErrorParsing, ErrorNonPureMethodCallOnConstant, ErrorDataRace}
-use Rattle.rhd_value.specs.declared.fault.EvalAltResult.TheVariants.{ErrorMismatchOutputType, ErrorMismatchDataType, ErrorTooManyOperations, ErrorStackOverflow, ErrorDataTooLarge, ErrorRuntime}
+use Rattle.rhd_value.specs.declared.fault.EvalAltResult.TheVariants.{ErrorMismatchOutputType, ErrorMismatchDataType, ErrorTooManyOperations, ErrorStackOverflow, ErrorDataTooLarge, ErrorModuleNotFound, ErrorRuntime}
 use Rattle.rhd_value.specs.declared.fault.ParseErrorType.{ParseErrorType}
 use Rattle.rhd_value.specs.declared.fault.ParseErrorType.TheVariants.{Reserved, MalformedIndexExpr}
 use Rattle.rhd_func.specs.declared.func.RhaiFunc.{RhaiFunc}
 use Rattle.rhd_func.specs.declared.func.RhaiFunc.TheVariants as funcs
 use Rattle.rhd_func.specs.declared.request.CallRequest.{CallRequest}
-use Rattle.rhd_func.specs.declared.request.CallRequest.TheVariants.{Named}
+use Rattle.rhd_func.specs.declared.request.CallRequest.TheVariants.{Named, Qualified}
 use Rattle.rhd_decl.specs.declared.fault.DeclFault.{DeclFault}
 use Rattle.rhd_decl.specs.declared.fault.DeclFault.TheVariants.{HashCollision, IndexerNotAllowed, NotCallable, UnknownNumber, OutOfMemory}
 use Rattle.rhd_call.specs.declared.pick.Layer.{Layer}
-use Rattle.rhd_call.specs.declared.pick.Layer.TheVariants.{Library, Global, Builtin}
+use Rattle.rhd_call.specs.declared.pick.Layer.TheVariants.{Library, Global, Import, Static, Builtin}
 use Rattle.rhd_call.specs.declared.pick.Pick.{Pick}
 use Rattle.rhd_call.specs.declared.node.Whose.{Whose}
 use Rattle.rhd_call.specs.declared.node.Whose.TheVariants as whose
@@ -25,7 +25,7 @@ use Rattle.rhd_call.specs.declared.reply.Reply.{Reply}
 use Rattle.rhd_call.specs.declared.reply.Reply.TheVariants.{Done, Made, Refused, Count, Truth, Called}
 use Rattle.rhd_text.specs.PrintedTexts.{quoted}
 use Rattle.rhd_text.specs.PrintedValues.{spelled}
-use Rattle.rhd_text.specs.PrintedKeys.{key_text}
+use Rattle.rhd_text.specs.PrintedKeys.{path_name, key_text}
 
 -- what is wrong with a name or with the arguments of an indexer or a property
 unfoldable pub spelled_error : ParseErrorType → List ℕ
@@ -45,6 +45,7 @@ spelled_fault (ErrorMismatchDataType wanted got pos) = codes "8 " ++ quoted want
 spelled_fault (ErrorTooManyOperations pos) = codes "9"
 spelled_fault (ErrorStackOverflow pos) = codes "10"
 spelled_fault (ErrorDataTooLarge text pos) = codes "11 " ++ quoted text
+spelled_fault (ErrorModuleNotFound path pos) = codes "12 " ++ quoted path
 spelled_fault (ErrorRuntime text pos) = codes "15 " ++ quoted text
 
 -- the number of a refusal and its parts
@@ -55,14 +56,17 @@ spelled_refusal NotCallable = codes "3"
 spelled_refusal (UnknownNumber number length) = codes "4 " ++ decimal number ++ codes " " ++ decimal length
 spelled_refusal OutOfMemory = codes "5"
 
--- what a call is called
+-- what a call is called: its name, after the path to its module and `::`, if it has one
 abbrev pub label : CallRequest → List ℕ
 label (Named name token native_only shape want pos) = name
+label (Qualified path name shape pos) = flat_map path_name path ++ name
 
 -- where a function was found
 unfoldable pub layer_text : Layer → List ℕ
 layer_text (Library n) = codes "lib" ++ decimal n
 layer_text (Global n) = codes "global" ++ decimal n
+layer_text (Import n) = codes "import" ++ decimal n
+layer_text (Static n) = codes "static" ++ decimal n
 layer_text Builtin = codes "builtin"
 
 -- a native by its number, a script by that of its body; a function that iterates by its number, though it is never picked

@@ -12,7 +12,7 @@ use Rattle.rhd_text.specs.declared.part.Part.TheVariants as parts
 use Rattle.rhd_text.specs.declared.place.Place.{Place}
 use Rattle.rhd_text.specs.declared.keyword.CallWord.{CallWord}
 use Rattle.rhd_text.specs.Rows.{Operand, NAME, WORD, WORDS, NUM, LONG, ARG, ARGS, OPTIONAL, WANT, THIS, PURITY, VALUE, KIND, KINDS, PRINTER}
-use Rattle.rhd_text.specs.Rows.{Meaning, From, Form, Table, CallForm, definition, defined, by_name, call_form, planned, line_forms, step_forms}
+use Rattle.rhd_text.specs.Rows.{Meaning, From, Form, Table, CallForm, definition, defined, by_name, by_path, call_form, planned, line_forms, step_forms}
 use Rattle.rhd_text.specs.Reading.{◌>>=◌, skip_blanks, is_end, word_at, name_at, wording_at, texts_at, flag_at, num_at, want_at, this_at, purity_at, value_at, value_kind_at, kinds_at, printer_at, argument_at, arguments_at}
 
 -- how each kind of operand is read
@@ -77,6 +77,10 @@ plan_at given w pos bytes = plan_in (call_form w) given pos bytes
 -- what stands after the word of a call by name, however it is spelled
 unfoldable pub named_at : Bool → Bool → Handing → Position → List ℕ → Option CallPlan
 named_at given native_only handing pos bytes = plan_in (by_name [] native_only handing) given pos bytes
+
+-- the same of a call by a path and a name
+unfoldable pub qualified_at : Bool → Handing → Position → List ℕ → Option CallPlan
+qualified_at given handing pos bytes = plan_in (by_path [] handing) given pos bytes
 
 -- the end, or a comment
 abbrev pub begins_no_part : List ℕ → Bool

@@ -8,7 +8,7 @@ use Rattle.rhd_value.specs.declared.tag.TypeTag.{TypeTag}
 use Rattle.rhd_func.specs.declared.request.CallShape.{CallShape}
 use Rattle.rhd_func.specs.declared.request.CallShape.TheVariants.{Plain, ByRef, Method}
 use Rattle.rhd_func.specs.declared.request.CallRequest.{CallRequest}
-use Rattle.rhd_func.specs.declared.request.CallRequest.TheVariants.{Named}
+use Rattle.rhd_func.specs.declared.request.CallRequest.TheVariants.{Named, Qualified}
 use Rattle.rhd_func.specs.declared.access.FnAccess.{FnAccess}
 use Rattle.rhd_func.specs.declared.access.FnAccess.TheVariants.{Private, Public}
 use Rattle.rhd_func.specs.declared.access.FnNamespace.{FnNamespace}
@@ -39,6 +39,7 @@ use Rattle.rhd_text.specs.declared.requests.Handing.{Handing}
 use Rattle.rhd_text.specs.declared.requests.Handing.TheVariants as handings
 use Rattle.rhd_text.specs.Arguments.{no_arguments, with_argument, joined}
 use Rattle.rhd_text.specs.Operators.{operator_of}
+use Rattle.rhd_text.specs.Paths.{path_of}
 
 -- an operand of a line: the name of a call; a text, quoted or not; texts between brackets; a number of 32 or of 64 bits;
 -- one argument, or arguments up to the end of the line, which may be given ones or not; a word that may be left out; the
@@ -128,6 +129,10 @@ shape_of handings.AsObject args = first_apart (λ object more. Method object mor
 abbrev pub request_of : Bool → Handing → Option TypeTag → List ℕ → List Tree → Position → Option CallRequest
 request_of native_only handing want f args pos = option_map (λ shape. Named f (token_of f) native_only shape want pos) (shape_of handing args)
 
+-- a call of a function of a module, by the path to the module as it is written, where the arguments are enough
+abbrev pub qualified_of : Handing → List ℕ → List ℕ → List Tree → Position → Option CallRequest
+qualified_of handing path f args pos = option_map (λ shape. Qualified (path_of path) f shape pos) (shape_of handing args)
+
 -- THE FORM OF A CALL, which serves lines and steps of bodies alike. A word of a call costs here its row in `call_form` and its
 -- place in `all_calls` and `all_keywords`; in the program a variant with its spelling, and the function that reads its operands
 -- where no other word has the same; in the proofs `placed` and `shows` once, and `found` for lines and for steps. It says how
@@ -142,6 +147,10 @@ pub record CallForm : Type 0 where
 abbrev pub by_name : List ℕ → Bool → Handing → CallForm
 by_name w native_only handing = record { spelling = w; operands = λ given. WANT ∷ NAME ∷ ARGS given ∷ []; request = λ given want f args. request_of native_only handing want f args.values }
 
+-- a call of this word by a path and a name
+abbrev pub by_path : List ℕ → Handing → CallForm
+by_path w handing = record { spelling = w; operands = λ given. WORD ∷ WORD ∷ ARGS given ∷ []; request = λ given path f args. qualified_of handing path f args.values }
+
 -- THE CALLS
 abbrev pub call_form : CallWord → CallForm
 call_form words.Call = by_name (codes "call") false handings.ByValue
@@ -150,10 +159,12 @@ call_form words.Ref = by_name (codes "ref") false handings.ByRef
 call_form words.RefNative = by_name (codes "ref-native") true handings.ByRef
 call_form words.Method = by_name (codes "method") false handings.AsObject
 call_form words.MethodNative = by_name (codes "method-native") true handings.AsObject
+call_form words.Qual = by_path (codes "qual") handings.ByValue
+call_form words.QualRef = by_path (codes "qual-ref") handings.ByRef
 
 -- all of them
 abbrev pub all_calls : List CallWord
-all_calls = words.Call ∷ words.CallNative ∷ words.Ref ∷ words.RefNative ∷ words.Method ∷ words.MethodNative ∷ []
+all_calls = words.Call ∷ words.CallNative ∷ words.Ref ∷ words.RefNative ∷ words.Method ∷ words.MethodNative ∷ words.Qual ∷ words.QualRef ∷ []
 
 -- the arguments that an operand says
 abbrev pub arguments_of : (o : Operand) → Meaning o → Arguments
@@ -277,13 +288,19 @@ form keywords.HasNative = record { spelling = codes "has-native"; operands = NUM
 form keywords.HasScript = record { spelling = codes "has-script"; operands = NUM ∷ WORD ∷ LONG ∷ []; part = λ place m f n. Some (parts.Command (commands.Contains (record { 0 = m }) (keys.Script None f n))) }
 form keywords.Lib = record { spelling = codes "lib"; operands = NUM ∷ []; part = λ place m. Some (parts.Command (commands.PushLib (record { 0 = m }))) }
 form keywords.PopLib = record { spelling = codes "pop-lib"; operands = []; part = λ place. Some (parts.Command commands.PopLib) }
+form keywords.Index = record { spelling = codes "index"; operands = NUM ∷ []; part = λ place m. Some (parts.Command (commands.Index (record { 0 = m }))) }
+form keywords.Global = record { spelling = codes "global"; operands = NUM ∷ []; part = λ place m. Some (parts.Command (commands.GlobalModule (record { 0 = m }))) }
+form keywords.Static = record { spelling = codes "static"; operands = WORD ∷ NUM ∷ []; part = λ place f m. Some (parts.Command (commands.StaticModule f (record { 0 = m }))) }
+form keywords.Import = record { spelling = codes "import"; operands = WORD ∷ NUM ∷ []; part = λ place f m. Some (parts.Command (commands.PushImport f (record { 0 = m }))) }
+form keywords.PopImport = record { spelling = codes "pop-import"; operands = []; part = λ place. Some (parts.Command commands.PopImport) }
 form (keywords.Call w) = called w
 
 -- all keywords, the more frequent ones first
 abbrev pub all_keywords : List Keyword
 all_keywords =
-    keywords.Call words.Call ∷ keywords.Call words.Ref ∷ keywords.Call words.Method ∷ keywords.Call words.CallNative ∷ keywords.Call words.RefNative ∷ keywords.Call words.MethodNative
+    keywords.Call words.Call ∷ keywords.Call words.Ref ∷ keywords.Call words.Method ∷ keywords.Call words.CallNative ∷ keywords.Call words.RefNative ∷ keywords.Call words.MethodNative ∷ keywords.Call words.Qual ∷ keywords.Call words.QualRef
     ∷ keywords.Register ∷ keywords.RegisterRaw ∷ keywords.RegisterType ∷ keywords.Script ∷ keywords.Native ∷ keywords.Raw ∷ keywords.Module ∷ keywords.Lib ∷ keywords.PopLib
+    ∷ keywords.Import ∷ keywords.PopImport ∷ keywords.Global ∷ keywords.Static ∷ keywords.Index
     ∷ keywords.SetId ∷ keywords.SetDoc ∷ keywords.SetVar ∷ keywords.SetType ∷ keywords.Submodule ∷ keywords.Clear ∷ keywords.RawIter ∷ keywords.RawScript
     ∷ keywords.Count ∷ keywords.HasNative ∷ keywords.HasScript
     ∷ keywords.Body ∷ keywords.Ret ∷ keywords.Fail ∷ keywords.Host ∷ keywords.Builtin ∷ keywords.Seeds ∷ keywords.Limits ∷ keywords.Printer ∷ []

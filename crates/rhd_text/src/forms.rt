@@ -11,7 +11,7 @@ use crate::body::BodyEnd;
 use crate::fault::Stop;
 use crate::keyword::{CallWord, Keyword, call_of, keyword_of};
 use crate::module_forms::{
-    clear_at, count_at, doc_at, has_native_at, has_script_at, id_at, native_at, raw_at,
+    clear_at, count_at, doc_at, has_native_at, has_script_at, id_at, index_at, native_at, raw_at,
     raw_iter_at, raw_script_at, register_at, register_raw_at, register_type_at, script_at,
     submodule_at, type_line_at, var_at,
 };
@@ -208,6 +208,59 @@ fn pop_lib_at(bytes: &[u8], place: Place) -> Result<Part, Stop>
     Ok(Part::Command(Command::PopLib))
 }
 
+#[tactic(auto, unfolding(crate::specs::ReadRows::row_at))]
+fn global_at(bytes: &[u8], place: Place) -> Result<Part, Stop>
+    ensures { Gives (λ x. x) result (row_at place (form keywords.Global) bytes.now) }
+{
+    let (module, rest) = num_at(bytes)?;
+    if !is_end(rest) {
+        return Err(Stop::Bad);
+    }
+    Ok(Part::Command(Command::GlobalModule {
+        module: ModuleId(module),
+    }))
+}
+
+#[tactic(auto, unfolding(crate::specs::ReadRows::row_at))]
+fn static_at(alloc: Global, bytes: &[u8], place: Place) -> Result<Part, Stop>
+    ensures { Gives (λ x. x) result (row_at place (form keywords.Static) bytes.now) }
+{
+    let (name, rest) = wording_at(alloc, bytes)?;
+    let (module, rest) = num_at(rest)?;
+    if !is_end(rest) {
+        return Err(Stop::Bad);
+    }
+    Ok(Part::Command(Command::StaticModule {
+        name,
+        module: ModuleId(module),
+    }))
+}
+
+#[tactic(auto, unfolding(crate::specs::ReadRows::row_at))]
+fn import_at(alloc: Global, bytes: &[u8], place: Place) -> Result<Part, Stop>
+    ensures { Gives (λ x. x) result (row_at place (form keywords.Import) bytes.now) }
+{
+    let (name, rest) = wording_at(alloc, bytes)?;
+    let (module, rest) = num_at(rest)?;
+    if !is_end(rest) {
+        return Err(Stop::Bad);
+    }
+    Ok(Part::Command(Command::PushImport {
+        name,
+        module: ModuleId(module),
+    }))
+}
+
+#[tactic(auto, unfolding(crate::specs::ReadRows::row_at))]
+fn pop_import_at(bytes: &[u8], place: Place) -> Result<Part, Stop>
+    ensures { Gives (λ x. x) result (row_at place (form keywords.PopImport) bytes.now) }
+{
+    if !is_end(bytes) {
+        return Err(Stop::Bad);
+    }
+    Ok(Part::Command(Command::PopImport))
+}
+
 /// The part of a line form, by what stands after its keyword.
 fn row_at(alloc: Global, keyword: Keyword, bytes: &[u8], place: Place) -> Result<Part, Stop>
     ensures { Gives (λ x. x) result (row_at place (form keyword) bytes.now) }
@@ -241,6 +294,11 @@ fn row_at(alloc: Global, keyword: Keyword, bytes: &[u8], place: Place) -> Result
         Keyword::HasScript => has_script_at(alloc, bytes, place),
         Keyword::Lib => lib_at(bytes, place),
         Keyword::PopLib => pop_lib_at(bytes, place),
+        Keyword::Index => index_at(bytes, place),
+        Keyword::Global => global_at(bytes, place),
+        Keyword::Static => static_at(alloc, bytes, place),
+        Keyword::Import => import_at(alloc, bytes, place),
+        Keyword::PopImport => pop_import_at(bytes, place),
         Keyword::Call(call) => call_at(alloc, bytes, place, call),
     }
 }

@@ -13,6 +13,8 @@ pub enum CallWord {
     RefNative,
     Method,
     MethodNative,
+    Qual,
+    QualRef,
 }
 
 impl CallWord {
@@ -26,6 +28,8 @@ impl CallWord {
             CallWord::RefNative => b"ref-native",
             CallWord::Method => b"method",
             CallWord::MethodNative => b"method-native",
+            CallWord::Qual => b"qual",
+            CallWord::QualRef => b"qual-ref",
         }
     }
 }
@@ -61,6 +65,11 @@ pub enum Keyword {
     HasScript,
     Lib,
     PopLib,
+    Index,
+    Global,
+    Static,
+    Import,
+    PopImport,
     Call(CallWord),
 }
 
@@ -97,6 +106,11 @@ impl Keyword {
             Keyword::HasScript => b"has-script",
             Keyword::Lib => b"lib",
             Keyword::PopLib => b"pop-lib",
+            Keyword::Index => b"index",
+            Keyword::Global => b"global",
+            Keyword::Static => b"static",
+            Keyword::Import => b"import",
+            Keyword::PopImport => b"pop-import",
             Keyword::Call(call) => call.spelling(),
         }
     }
@@ -126,6 +140,8 @@ pub fn call_of(word: &[u8]) -> Option<CallWord>
             CallWord::RefNative,
             CallWord::Method,
             CallWord::MethodNative,
+            CallWord::Qual,
+            CallWord::QualRef,
         ],
         word,
     )
@@ -144,13 +160,15 @@ fn keyword_in(keywords: &[Keyword], word: &[u8]) -> Option<Keyword>
 }
 
 /// All keywords, the more frequent ones first.
-const ALL: [Keyword; 34] = [
+const ALL: [Keyword; 41] = [
     Keyword::Call(CallWord::Call),
     Keyword::Call(CallWord::Ref),
     Keyword::Call(CallWord::Method),
     Keyword::Call(CallWord::CallNative),
     Keyword::Call(CallWord::RefNative),
     Keyword::Call(CallWord::MethodNative),
+    Keyword::Call(CallWord::Qual),
+    Keyword::Call(CallWord::QualRef),
     Keyword::Register,
     Keyword::RegisterRaw,
     Keyword::RegisterType,
@@ -160,6 +178,11 @@ const ALL: [Keyword; 34] = [
     Keyword::Module,
     Keyword::Lib,
     Keyword::PopLib,
+    Keyword::Import,
+    Keyword::PopImport,
+    Keyword::Global,
+    Keyword::Static,
+    Keyword::Index,
     Keyword::SetId,
     Keyword::SetDoc,
     Keyword::SetVar,

@@ -1,6 +1,7 @@
 //! What is read is what is written.
 
-ghost use Rattle.std.specs.Prelude.{◌≡◌, ◌≤◌, ◌↔◌, ◌⊎◌, Option, List, ◌∷◌, ◌++◌, ℕ, Some, true};
+ghost use Rattle.std.specs.Prelude.{◌≡◌, ◌≤◌, ◌↔◌, ◌⊎◌, Option, List, ◌∷◌, ◌++◌, ℕ, Some, true, codes};
+ghost use Rattle.std.specs.List.{flat_map};
 ghost use Rattle.rhd_func.specs.Natives.{NativeInfo};
 ghost use Rattle.rhd_text.specs.declared.part.Part.{Part};
 ghost use Rattle.rhd_text.specs.declared.session.SessionText.{SessionText};
@@ -8,7 +9,9 @@ ghost use Rattle.std.specs.Str.{is_utf8};
 ghost use Rattle.rhd_text.specs.Bytes.{is_blank, is_bracket, may_end};
 ghost use Rattle.rhd_text.specs.Spans.{◌▸◌, byte, letters, letters_to, run, value, IsValue};
 ghost use Rattle.rhd_text.specs.Proper.{IsProper, depth};
+ghost use Rattle.rhd_text.specs.Paths.{path_of};
 ghost use Rattle.rhd_text.specs.PrintedValues.{spelled};
+ghost use Rattle.rhd_text.specs.PrintedKeys.{path_name};
 ghost use Rattle.rhd_value.specs.Tree.{Tree};
 ghost use Rattle.rhd_text.specs.Grammar.{IsLine};
 ghost use Rattle.rhd_text.specs.Session.{IsSession, IsFirstBad};
@@ -47,6 +50,11 @@ pub fn values_are_what_can_be_written()
 pub fn printed_values_are_read_again()
     ensures whole { (t : Tree) → IsProper t.kind → depth t ≤ 64 → IsValue t (spelled t) }
     ensures inside { (t : Tree) (rest : List ℕ) → IsProper t.kind → depth t ≤ 64 → may_end rest ≡ true → value t (spelled t ++ rest) rest }
+{}
+
+/// The names of a path are printed, each with `::` behind it, as the path is written.
+pub fn paths_are_printed_as_they_are_written()
+    ensures { (path : List ℕ) → flat_map path_name (path_of path) ≡ path ++ codes "::" }
 {}
 
 /// In a line in UTF-8 every text is UTF-8, between quotation marks or after a blank or a bracket,

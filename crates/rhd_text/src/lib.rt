@@ -19,6 +19,7 @@ mod operand;
 mod operands;
 mod operators;
 mod part;
+mod paths;
 mod place;
 mod printers;
 mod printing;
@@ -26,6 +27,8 @@ mod quoted;
 mod reading;
 mod requests;
 mod session;
+#[cfg(test)]
+mod tests;
 mod tree_law;
 mod values;
 mod wants;
@@ -36,8 +39,8 @@ pub use calls::read_call;
 pub use fault::TextFault;
 pub use laws::{
     every_text_is_read_or_has_a_first_bad_line, lines_are_read_as_they_are_written,
-    printed_values_are_read_again, texts_of_lines_are_utf8, texts_say_one_thing,
-    values_are_what_can_be_written, values_say_one_thing,
+    paths_are_printed_as_they_are_written, printed_values_are_read_again, texts_of_lines_are_utf8,
+    texts_say_one_thing, values_are_what_can_be_written, values_say_one_thing,
 };
 pub use operand::read_value;
 pub use printing::{print_replies, print_reply, print_value};

@@ -327,6 +327,19 @@ pub fn submodule_at(alloc: Global, bytes: &[u8], place: Place) -> Result<Part, S
 }
 
 #[tactic(auto, unfolding(crate::specs::ReadRows::row_at))]
+pub fn index_at(bytes: &[u8], place: Place) -> Result<Part, Stop>
+    ensures { Gives (λ x. x) result (row_at place (form keywords.Index) bytes.now) }
+{
+    let (module, rest) = num_at(bytes)?;
+    if !is_end(rest) {
+        return Err(Stop::Bad);
+    }
+    Ok(Part::Command(Command::Index {
+        module: ModuleId(module),
+    }))
+}
+
+#[tactic(auto, unfolding(crate::specs::ReadRows::row_at))]
 pub fn clear_at(bytes: &[u8], place: Place) -> Result<Part, Stop>
     ensures { Gives (λ x. x) result (row_at place (form keywords.Clear) bytes.now) }
 {

@@ -3,7 +3,7 @@
 ghost use Rattle.std.specs.Prelude.{◌≡◌};
 ghost use Rattle.rhd_func.specs.declared.request.CallShape.TheVariants as shapes;
 ghost use Rattle.rhd_text.specs.Rows.{first_apart, shape_of, request_of};
-ghost use Rattle.rhd_text.specs.ReadRows.{named_at, plan_at};
+ghost use Rattle.rhd_text.specs.ReadRows.{named_at, qualified_at, plan_at};
 ghost use Rattle.rhd_text.specs.Answers.{Gives};
 
 use crate::arguments::{Arguments, arguments_at};
@@ -11,6 +11,8 @@ use crate::body::CallPlan;
 use crate::fault::Stop;
 use crate::keyword::CallWord;
 use crate::operands::name_at;
+use crate::paths::path_of;
+use crate::quoted::wording_at;
 use crate::wants::want_at;
 use crate::words::is_end;
 use rhd_func::{CallRequest, CallShape};
@@ -105,6 +107,40 @@ fn named_at(
     }
 }
 
+/// What stands after the word of a call by a path and a name, to the end of the line. Values may
+/// be given ones where `given` says so.
+#[tactic(auto, unfolding(crate::specs::ReadRows::qualified_at))]
+fn qualified_at(
+    alloc: Global,
+    bytes: &[u8],
+    given: bool,
+    handing: Handing,
+    pos: Position,
+) -> Result<CallPlan, Stop>
+    ensures { Gives (λ x. x) result (qualified_at given handing pos bytes.now) }
+{
+    let (path, rest) = wording_at(alloc, bytes)?;
+    let (name, rest) = wording_at(alloc, rest)?;
+    let (args, rest) = arguments_at(alloc, rest, given)?;
+    if !is_end(rest) {
+        return Err(Stop::Bad);
+    }
+    let Arguments { values, places } = args;
+    let path = path_of(alloc, path.as_str())?;
+    match shape_of(handing, values) {
+        Some(shape) => Ok(CallPlan {
+            request: CallRequest::Qualified {
+                path,
+                name,
+                shape,
+                pos,
+            },
+            places,
+        }),
+        None => Err(Stop::Bad),
+    }
+}
+
 /// What stands after the word of a call, to the end of the line. Values may be given ones where
 /// `given` says so.
 pub fn plan_at(
@@ -123,5 +159,7 @@ pub fn plan_at(
         CallWord::RefNative => named_at(alloc, bytes, given, true, Handing::ByRef, pos),
         CallWord::Method => named_at(alloc, bytes, given, false, Handing::AsObject, pos),
         CallWord::MethodNative => named_at(alloc, bytes, given, true, Handing::AsObject, pos),
+        CallWord::Qual => qualified_at(alloc, bytes, given, Handing::ByValue, pos),
+        CallWord::QualRef => qualified_at(alloc, bytes, given, Handing::ByRef, pos),
     }
 }

@@ -8,7 +8,7 @@ use Rattle.rhd_func.specs.declared.request.Carry.{Carry}
 use Rattle.rhd_func.specs.declared.request.CallDone.{CallDone}
 use Rattle.rhd_func.specs.declared.request.NativeCallContext.{NativeCallContext}
 use Rattle.rhd_func.specs.declared.request.CallRequest.{CallRequest}
-use Rattle.rhd_func.specs.declared.request.CallRequest.TheVariants.{Named}
+use Rattle.rhd_func.specs.declared.request.CallRequest.TheVariants.{Named, Qualified}
 use Rattle.rhd_func.specs.declared.request.CallShape.{CallShape}
 use Rattle.rhd_func.specs.declared.request.CallShape.TheVariants.{Plain, ByRef, Method}
 use Rattle.rhd_func.specs.Shapes.{all_args}
@@ -56,6 +56,7 @@ with_args (Method _ _) values = Method (argument_at values 0) (drop 1 values)
 -- a call as it is asked; places count all arguments
 abbrev pub call_with : Scope → List GivenAt → CallRequest → CallRequest
 call_with scope places (Named name token native_only shape want position) = Named name token native_only (with_args shape (with_given scope places (all_args shape))) want position
+call_with scope places (Qualified path name shape position) = Qualified path name (with_args shape (with_given scope places (all_args shape))) position
 
 -- what a body keeps: the number of calls asked so far, and its arguments
 abbrev pub with_count : ℕ → List Tree → List Tree

@@ -116,23 +116,35 @@ fn call_with(
 ) -> Result<CallRequest, OutOfMemory>
     ensures { IfOk result (λ request. request ≡ call_with (record { object = option_copied object.entry; latest = option_copied latest.entry; args = args.now }) call.now.places call.now.request) }
 {
-    let CallRequest::Named {
-        name,
-        token,
-        native_only,
-        shape,
-        want,
-        pos,
-    } = call.request.dup(alloc)?;
     let places = call.places.as_slice();
-    Ok(CallRequest::Named {
-        name,
-        token,
-        native_only,
-        shape: shape_with(alloc, shape, places, object, latest, args)?,
-        want,
-        pos,
-    })
+    match call.request.dup(alloc)? {
+        CallRequest::Named {
+            name,
+            token,
+            native_only,
+            shape,
+            want,
+            pos,
+        } => Ok(CallRequest::Named {
+            name,
+            token,
+            native_only,
+            shape: shape_with(alloc, shape, places, object, latest, args)?,
+            want,
+            pos,
+        }),
+        CallRequest::Qualified {
+            path,
+            name,
+            shape,
+            pos,
+        } => Ok(CallRequest::Qualified {
+            path,
+            name,
+            shape: shape_with(alloc, shape, places, object, latest, args)?,
+            pos,
+        }),
+    }
 }
 
 /// The end of a body.

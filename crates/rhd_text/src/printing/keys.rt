@@ -56,7 +56,7 @@ fn push_path_name(name: &Text, out: &mut Vec<u8>) -> Result<(), OutOfMemory>
     Ok(out.extend_from_slice(b"::")?)
 }
 
-fn push_path_names(names: &[Text], out: &mut Vec<u8>) -> Result<(), OutOfMemory>
+pub fn push_path_names(names: &[Text], out: &mut Vec<u8>) -> Result<(), OutOfMemory>
     ensures { OnOk result (out.new.items ≡ out.old.items ++ flat_map path_name names.now) }
 {
     for name in names {

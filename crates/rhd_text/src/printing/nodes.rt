@@ -6,6 +6,7 @@ ghost use Rattle.std.specs.Fmt.{decimal};
 ghost use Rattle.rhd_text.specs.PrintedReplies.{spelled_error, spelled_fault, label, layer_text, func_text, pick_text, whose_text, result_text, after_text, shown_text, call_line, indent, tree_text, nodes_text};
 ghost use Rattle.rhd_call.specs.declared.node.CallNode.{out-CallNode};
 
+use super::keys::push_path_names;
 use super::quotes::{push_number, push_quoted};
 use super::values::push_value;
 use rhd_call::{CallNode, Layer, Nodes, Pick, Whose};
@@ -83,6 +84,7 @@ fn push_fault(fault: &EvalAltResult, out: &mut Vec<u8>) -> Result<(), OutOfMemor
         EvalAltResult::ErrorTooManyOperations(_) => Ok(out.extend_from_slice(b"9")?),
         EvalAltResult::ErrorStackOverflow(_) => Ok(out.extend_from_slice(b"10")?),
         EvalAltResult::ErrorDataTooLarge(text, _) => push_fault_of(b"11 ", text, out),
+        EvalAltResult::ErrorModuleNotFound(path, _) => push_fault_of(b"12 ", path, out),
         EvalAltResult::ErrorRuntime(text, _) => push_fault_of(b"15 ", text, out),
     }
 }
@@ -92,6 +94,10 @@ fn push_label(call: &CallRequest, out: &mut Vec<u8>) -> Result<(), OutOfMemory>
 {
     match call {
         CallRequest::Named { name, .. } => { Ok(out.extend_from_slice(name.as_str().as_bytes())?) }
+        CallRequest::Qualified { path, name, .. } => {
+            push_path_names(path.as_slice(), out)?;
+            Ok(out.extend_from_slice(name.as_str().as_bytes())?)
+        }
     }
 }
 
@@ -106,6 +112,14 @@ fn push_layer(layer: Layer, out: &mut Vec<u8>) -> Result<(), OutOfMemory>
         }
         Layer::Global(number) => {
             out.extend_from_slice(b"global")?;
+            push_number(number, out)
+        }
+        Layer::Import(number) => {
+            out.extend_from_slice(b"import")?;
+            push_number(number, out)
+        }
+        Layer::Static(number) => {
+            out.extend_from_slice(b"static")?;
             push_number(number, out)
         }
         Layer::Builtin => Ok(out.extend_from_slice(b"builtin")?),
