@@ -3,8 +3,10 @@
 # over few names; on one call whose native asks 10,000 and 100,000 others; on texts of wide and deep
 # values of 0.3 and 3 MB, which are read, passed to natives, and printed; on 10,000 and 100,000 calls
 # of a name with three overloads; on as many calls that find a native with parameters of any type;
-# and on 1,000 and 10,000 calls with seventeen arguments that aren't found. Prints the seconds of both
-# sizes and their ratio, which is near 10 where it is linear, and how many calls that is in a second.
+# on 1,000 and 10,000 calls with seventeen arguments that aren't found; on 10,000 and 100,000 imports
+# that are pushed and popped, and as many declarations that are indexed; and on 1,000 calls over 100
+# and 1,000 imports. Prints the seconds of both sizes and their ratio, which is near 10 where it is
+# linear, and how many of them that is in a second.
 #
 # tools/bench.sh [TWIN]: where another program of the same words is given, it is timed beside this one
 # on the texts that its words `gen-run KIND COUNT SEED` print, of the kinds whose lines stand.
@@ -82,6 +84,30 @@ not_found() {
     }'
 }
 
+imports() {
+    awk -v times="$1" 'BEGIN {
+        print "module\nnative 0 f 1"
+        for (i = 0; i < times; i++) print "import a 0"
+        for (i = 0; i < times; i++) print "pop-import"
+    }'
+}
+
+indexed() {
+    awk -v times="$1" 'BEGIN {
+        print "module\nmodule"
+        for (i = 0; i < times; i++) print "native 0 f" i " 1"
+        print "submodule 1 a 0\nindex 1\nimport b 1\nqual b::a f0 1"
+    }'
+}
+
+layers() {
+    awk -v times="$1" 'BEGIN {
+        print "module\nnative 0 f 1"
+        for (i = 0; i < times; i++) print "import a" i " 0"
+        for (i = 0; i < 1000; i++) print "call g 1"
+    }'
+}
+
 compare() {
     local small large
     small=$(best "$work/small")
@@ -110,11 +136,21 @@ not_found 1000 >"$work/small"
 not_found 10000 >"$work/large"
 compare 'calls of 17 arguments not found' 1,000 10,000
 
-# Times both programs on a kind of text, of two counts.
+imports 10000 >"$work/small"
+imports 100000 >"$work/large"
+compare 'imports pushed and popped' 10,000 100,000
+indexed 10000 >"$work/small"
+indexed 100000 >"$work/large"
+compare 'declarations indexed' 10,000 100,000
+layers 100 >"$work/small"
+layers 1000 >"$work/large"
+compare 'imports asked by 1,000 calls' 100 1,000
+
+# Times both programs on a kind of text, of two counts. Lines of forms that don't stand yet are left out.
 beside() {
     local kind=$1 small=$2 large=$3 ours_small ours_large twin_small twin_large
-    "$twin" gen-run "$kind" "$small" 1 >"$work/small"
-    "$twin" gen-run "$kind" "$large" 1 >"$work/large"
+    "$twin" gen-run "$kind" "$small" 1 | grep -v '^file \|^import-path ' >"$work/small"
+    "$twin" gen-run "$kind" "$large" 1 | grep -v '^file \|^import-path ' >"$work/large"
     ours_small=$(best "$work/small" "$program")
     twin_small=$(best "$work/small" "$twin")
     ours_large=$(best "$work/large" "$program")
@@ -129,4 +165,5 @@ if [ $# -gt 0 ]; then
     program=$top/crates/rhd/out/rhd
     beside calls 20000 200000
     beside values 3000 30000
+    beside modules 20000 200000
 fi
