@@ -5,8 +5,8 @@
 # of a name with three overloads; on as many calls that find a native with parameters of any type;
 # on 1,000 and 10,000 calls with seventeen arguments that aren't found; on 10,000 and 100,000 imports
 # that are pushed and popped, and as many declarations that are indexed; and on 1,000 calls over 100
-# and 1,000 imports. Prints the seconds of both sizes and their ratio, which is near 10 where it is
-# linear, and how many of them that is in a second.
+# and 1,000 libraries, imports and static modules. Prints the seconds of both sizes and their ratio,
+# which is near 10 where it is linear, and how many of them that is in a second.
 #
 # tools/bench.sh [TWIN]: where another program of the same words is given, it is timed beside this one
 # on the texts that its words `gen-run KIND COUNT SEED` print, of the kinds whose lines stand.
@@ -100,10 +100,11 @@ indexed() {
     }'
 }
 
+# Modules that are put in by lines of this form, and 1,000 calls that ask each of them.
 layers() {
-    awk -v times="$1" 'BEGIN {
+    awk -v line="$1\n" -v times="$2" 'BEGIN {
         print "module\nnative 0 f 1"
-        for (i = 0; i < times; i++) print "import a" i " 0"
+        for (i = 0; i < times; i++) printf line, i
         for (i = 0; i < 1000; i++) print "call g 1"
     }'
 }
@@ -117,34 +118,26 @@ compare() {
     awk -v n="${3//,/}" -v b="$large" 'BEGIN { printf "%-40s %8d\n", "in a second", n / b }'
 }
 
-text 20000 >"$work/small"
-text 200000 >"$work/large"
-compare lines 20,000 200,000
-asked 10000 >"$work/small"
-asked 100000 >"$work/large"
-compare 'calls asked by one native' 10,000 100,000
-values 100 >"$work/small"
-values 1000 >"$work/large"
-compare 'lines of values' 100 1,000
-overloads 10000 >"$work/small"
-overloads 100000 >"$work/large"
-compare 'calls of three overloads' 10,000 100,000
-any_type 10000 >"$work/small"
-any_type 100000 >"$work/large"
-compare 'calls of natives for any type' 10,000 100,000
-not_found 1000 >"$work/small"
-not_found 10000 >"$work/large"
-compare 'calls of 17 arguments not found' 1,000 10,000
+# Compares the texts of two counts that a command makes.
+measure() {
+    local label=$1 small=$2 large=$3
+    shift 3
+    "$@" "${small//,/}" >"$work/small"
+    "$@" "${large//,/}" >"$work/large"
+    compare "$label" "$small" "$large"
+}
 
-imports 10000 >"$work/small"
-imports 100000 >"$work/large"
-compare 'imports pushed and popped' 10,000 100,000
-indexed 10000 >"$work/small"
-indexed 100000 >"$work/large"
-compare 'declarations indexed' 10,000 100,000
-layers 100 >"$work/small"
-layers 1000 >"$work/large"
-compare 'imports asked by 1,000 calls' 100 1,000
+measure lines 20,000 200,000 text
+measure 'calls asked by one native' 10,000 100,000 asked
+measure 'lines of values' 100 1,000 values
+measure 'calls of three overloads' 10,000 100,000 overloads
+measure 'calls of natives for any type' 10,000 100,000 any_type
+measure 'calls of 17 arguments not found' 1,000 10,000 not_found
+measure 'imports pushed and popped' 10,000 100,000 imports
+measure 'declarations indexed' 10,000 100,000 indexed
+measure 'libraries asked by 1,000 calls' 100 1,000 layers 'lib 0'
+measure 'imports asked by 1,000 calls' 100 1,000 layers 'import a%d 0'
+measure 'static modules asked by 1,000 calls' 100 1,000 layers 'static a%d 0'
 
 # Times both programs on a kind of text, of two counts. Lines of forms that don't stand yet are left out.
 beside() {
