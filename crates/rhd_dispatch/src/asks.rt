@@ -18,7 +18,7 @@ use crate::search::{find, pick_found};
 use rhd_call::Pick;
 use rhd_engine::{Engine, GlobalRuntimeState};
 use rhd_func::CallShape;
-use rhd_hash::{Key, Steps};
+use rhd_hash::{HashedName, Key, Steps};
 use rhd_names::OpToken;
 use rhd_value::{OutOfMemory, Text, TypeTag, Values};
 use std::alloc::Global;
@@ -115,6 +115,7 @@ fn find_pattern(
         engine,
         state,
         name,
+        hashed: HashedName::new(name, kinds.len() as u64, engine.seeds()),
     };
     match find_others(alloc, &natives, &mut types, 0, steps)? {
         Some(pick) => Ok(Some(pick)),

@@ -5,7 +5,7 @@ ghost use Rattle.rhd_engine.specs.Lists.{all_indexed};
 ghost use Rattle.rhd_dispatch.specs.Walks.{may_have, any_may_have};
 
 use rhd_engine::ModuleMap;
-use rhd_hash::calc_untyped_fn_hash;
+use rhd_hash::{HashedName, calc_untyped_fn_hash};
 use rhd_module::{Module, SharedModule};
 use rhd_value::Text;
 
@@ -17,16 +17,19 @@ pub(crate) fn may_have(place: &Module, name: &Text, params: u64) -> bool
     place.may_contain_dynamic_fn(calc_untyped_fn_hash(place.seeds(), name, params))
 }
 
+/// The same, of a name and a number whose hash is at hand.
+fn tree_may_have(place: &Module, name: HashedName) -> bool
+    ensures { result ≡ may_have name.name.now name.params place.now }
+{
+    place.may_contain_dynamic_fn(name.hash_under(place.seeds()))
+}
+
 /// The same of some import.
-pub(crate) fn any_import_may_have(
-    imports: &[(Text, SharedModule)],
-    name: &Text,
-    params: u64,
-) -> bool
-    ensures { result ≡ any_may_have name.now params imports.now }
+pub(crate) fn any_import_may_have(imports: &[(Text, SharedModule)], name: HashedName) -> bool
+    ensures { result ≡ any_may_have name.name.now name.params imports.now }
 {
     for (_name, shared) in imports {
-        if may_have(shared.module(), name, params) {
+        if tree_may_have(shared.module(), name) {
             return true;
         }
     }
@@ -34,12 +37,12 @@ pub(crate) fn any_import_may_have(
 }
 
 /// The same of some static module. Each of them is indexed.
-pub(crate) fn any_static_may_have(statics: &ModuleMap, name: &Text, params: u64) -> bool
-    ensures found { result ≡ any_may_have name.now params statics.now }
+pub(crate) fn any_static_may_have(statics: &ModuleMap, name: HashedName) -> bool
+    ensures found { result ≡ any_may_have name.name.now name.params statics.now }
     ensures indexed { all_indexed statics.now ≡ true }
 {
     for (_name, shared) in statics.iter() {
-        if may_have(shared.module(), name, params) {
+        if tree_may_have(shared.module(), name) {
             return true;
         }
     }

@@ -13,7 +13,7 @@ use crate::keys::native_key_of;
 use crate::search::{find, pick_found};
 use rhd_call::Pick;
 use rhd_engine::{Engine, GlobalRuntimeState};
-use rhd_hash::Steps;
+use rhd_hash::{HashedName, Steps};
 use rhd_module::SharedModule;
 use rhd_value::{OutOfMemory, Text, TypeTag, Types};
 use std::alloc::Global;
@@ -48,6 +48,9 @@ pub(crate) struct NativesOf<'a> {
     pub engine: &'a Engine,
     pub state: &'a GlobalRuntimeState,
     pub name: &'a Text,
+    /// The name with a number of parameters, hashed for the filters.
+    pub hashed: HashedName<'a>,
+    ghost is_name: { hashed.name.now ≡ name.now },
 }
 
 /// Whether some module may have a native of this name for these kinds, where the types before a place
@@ -79,16 +82,18 @@ impl Look for NativesOf<'_> {
     }
 
     fn may_match(&self, place: usize, kinds: &[TypeTag]) -> bool {
-        let params = kinds.len() as u64;
+        if kinds.len() as u64 != self.hashed.params() {
+            return true;
+        }
         if any_may_match(self.engine.global_modules(), place, self.name, kinds) {
             return true;
         }
         if any_may_match(self.state.lib.as_slice(), place, self.name, kinds) {
             return true;
         }
-        if any_import_may_have(self.state.imports.as_slice(), self.name, params) {
+        if any_import_may_have(self.state.imports.as_slice(), self.hashed) {
             return true;
         }
-        any_static_may_have(self.engine.static_modules(), self.name, params)
+        any_static_may_have(self.engine.static_modules(), self.hashed)
     }
 }

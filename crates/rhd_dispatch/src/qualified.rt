@@ -4,7 +4,7 @@ ghost use Rattle.std.specs.Prelude.{◌≡◌, ◌≤◌, ◌+◌, ◌++◌, ◌
 ghost use Rattle.rhd_value.specs.Kinds.{tag_of};
 ghost use Rattle.rhd_func.specs.Shapes.{all_args};
 ghost use Rattle.rhd_hash.specs.declared.key.Key.TheVariants as keys;
-ghost use Rattle.rhd_engine.specs.Held.{func_held, all_held, named_held};
+ghost use Rattle.rhd_engine.specs.Held.{func_held, named_held};
 ghost use Rattle.rhd_engine.specs.Of.{lists_of};
 ghost use Rattle.rhd_dispatch.specs.Patterns.{patterns};
 ghost use Rattle.rhd_dispatch.specs.Picks.{root_of, after_root, pick_in, pick_qualified};
@@ -20,7 +20,7 @@ use crate::search::{look_tree, pick_found};
 use rhd_call::Pick;
 use rhd_engine::{Engine, GlobalRuntimeState};
 use rhd_func::CallShape;
-use rhd_hash::{Key, Steps};
+use rhd_hash::{HashedKey, Key, Steps};
 use rhd_value::{OutOfMemory, Text, Texts, TypeTag, Types};
 use std::alloc::Global;
 
@@ -49,6 +49,7 @@ impl Look for NativesAt<'_> {
             name: self.name.dup(alloc)?,
             types: Types::from_slice(alloc, types)?,
         };
+        let key = HashedKey::new(&key, self.root.place.seeds());
         pick_found(
             alloc,
             look_tree(self.root.place, self.root.layer, &key, steps),
@@ -93,6 +94,7 @@ fn find_script(
         name: name.dup(alloc)?,
         params,
     };
+    let key = HashedKey::new(&key, root.place.seeds());
     pick_found(alloc, look_tree(root.place, root.layer, &key, steps))
 }
 
@@ -158,8 +160,7 @@ pub fn resolve_qualified(
     shape: &CallShape,
     steps: &mut Steps,
 ) -> Result<Option<Pick>, OutOfMemory>
-    requires libs { all_held (length engine.now.natives.items.items) state.now.lib ≡ true }
-    requires imports { named_held (length engine.now.natives.items.items) state.now.imports ≡ true }
+    requires { named_held (length engine.now.natives.items.items) state.now.imports ≡ true }
     ensures pick { IfOk result (λ pick. pick ≡ pick_qualified (lists_of info engine.now) state.now.imports path.now name.now shape.now) }
     ensures held { IfOk result (λ pick. IfSome pick (λ p. func_held (length engine.now.natives.items.items) p.func ≡ true)) }
     ensures steps { steps.new ≤ steps.old + (1 + length (patterns (map tag_of (all_args shape.now)))) }

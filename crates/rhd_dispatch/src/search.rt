@@ -12,7 +12,7 @@ ghost use Rattle.rhd_dispatch.specs.Walks.{numbered, latest, alone, rooted, in_o
 use rhd_call::{Layer, Pick};
 use rhd_engine::{Engine, GlobalRuntimeState, ModuleMap};
 use rhd_func::RhaiFunc;
-use rhd_hash::{Key, Steps};
+use rhd_hash::{HashedKey, Key, Steps};
 use rhd_module::{Module, SharedModule};
 use rhd_value::{OutOfMemory, Text};
 use std::alloc::Global;
@@ -50,11 +50,11 @@ pub(crate) fn pick_found(alloc: Global, found: Option<Found>) -> Result<Option<P
 
 /// What a module itself declares under a key.
 #[tactic(auto, using(crate::proofs::Looks::raised_once))]
-fn look_own<'a>(place: &'a Module, layer: Layer, key: &Key, steps: &mut Steps) -> Option<Found<'a>>
+fn look_own<'a>(place: &'a Module, layer: Layer, key: &HashedKey, steps: &mut Steps) -> Option<Found<'a>>
     ensures found { option_map (λ f. picked f.layer f.func.now f.place.now) result ≡ pick_at key.now (alone layer place.now) }
     ensures steps { steps.new ≤ steps.old + 1 }
 {
-    match place.get_fn(key, steps) {
+    match place.get_hashed_fn(key, steps) {
         Some(func) => Some(Found { layer, func, place }),
         None => None,
     }
@@ -65,21 +65,21 @@ fn look_own<'a>(place: &'a Module, layer: Layer, key: &Key, steps: &mut Steps) -
 pub(crate) fn look_tree<'a>(
     place: &'a Module,
     layer: Layer,
-    key: &Key,
+    key: &HashedKey,
     steps: &mut Steps,
 ) -> Option<Found<'a>>
     requires { place.now.own.indexed ≡ true }
     ensures found { option_map (λ f. picked f.layer f.func.now f.place.now) result ≡ pick_at key.now (rooted layer place.now) }
     ensures steps { steps.new ≤ steps.old + 1 }
 {
-    match place.get_qualified_fn(key, steps) {
+    match place.get_qualified_hashed_fn(key, steps) {
         Some(func) => Some(Found { layer, func, place }),
         None => None,
     }
 }
 
 /// What the latest library has that has the key.
-fn find_library<'a>(libs: &'a [SharedModule], key: &Key, steps: &mut Steps) -> Option<Found<'a>>
+fn find_library<'a>(libs: &'a [SharedModule], key: &HashedKey, steps: &mut Steps) -> Option<Found<'a>>
     ensures found { option_map (λ f. picked f.layer f.func.now f.place.now) result ≡ first_of (in_own layers.Library key.now) (latest libs.now) }
     ensures steps { steps.new ≤ steps.old + length libs.now }
 {
@@ -94,7 +94,7 @@ fn find_library<'a>(libs: &'a [SharedModule], key: &Key, steps: &mut Steps) -> O
 }
 
 /// What the first global module has that has the key.
-fn find_global<'a>(globals: &'a [SharedModule], key: &Key, steps: &mut Steps) -> Option<Found<'a>>
+fn find_global<'a>(globals: &'a [SharedModule], key: &HashedKey, steps: &mut Steps) -> Option<Found<'a>>
     ensures found { option_map (λ f. picked f.layer f.func.now f.place.now) result ≡ first_of (in_own layers.Global key.now) (numbered globals.now) }
     ensures steps { steps.new ≤ steps.old + length globals.now }
 {
@@ -111,7 +111,7 @@ fn find_global<'a>(globals: &'a [SharedModule], key: &Key, steps: &mut Steps) ->
 /// What the tree of the latest import has that has the key.
 fn find_import<'a>(
     imports: &'a [(Text, SharedModule)],
-    key: &Key,
+    key: &HashedKey,
     steps: &mut Steps,
 ) -> Option<Found<'a>>
     requires { all_indexed imports.now ≡ true }
@@ -129,7 +129,7 @@ fn find_import<'a>(
 }
 
 /// What the tree of the first static module has that has the key.
-fn find_static<'a>(statics: &'a ModuleMap, key: &Key, steps: &mut Steps) -> Option<Found<'a>>
+fn find_static<'a>(statics: &'a ModuleMap, key: &HashedKey, steps: &mut Steps) -> Option<Found<'a>>
     ensures found { option_map (λ f. picked f.layer f.func.now f.place.now) result ≡ first_of (in_tree layers.Static key.now) (numbered statics.now) }
     ensures steps { steps.new ≤ steps.old + length statics.now }
 {
@@ -148,10 +148,10 @@ fn find_static<'a>(statics: &'a ModuleMap, key: &Key, steps: &mut Steps) -> Opti
 
 /// What is found under a key: of the libraries, latest first, of the global modules in order, of the
 /// imports, latest first, and of the static modules in ascending order of name. Each is asked once at most.
-pub(crate) fn find<'a>(
+fn find_hashed<'a>(
     engine: &'a Engine,
     state: &'a GlobalRuntimeState,
-    key: &Key,
+    key: &HashedKey,
     steps: &mut Steps,
 ) -> Option<Found<'a>>
     ensures found { option_map (λ f. picked f.layer f.func.now f.place.now) result ≡ found (lists_of info engine.now) state.now.lib state.now.imports key.now }
@@ -170,4 +170,17 @@ pub(crate) fn find<'a>(
         return in_import;
     }
     find_static(engine.static_modules(), key, steps)
+}
+
+/// The same for a key that isn't hashed yet. It is hashed once, under the seeds of the engine.
+pub(crate) fn find<'a>(
+    engine: &'a Engine,
+    state: &'a GlobalRuntimeState,
+    key: &Key,
+    steps: &mut Steps,
+) -> Option<Found<'a>>
+    ensures found { option_map (λ f. picked f.layer f.func.now f.place.now) result ≡ found (lists_of info engine.now) state.now.lib state.now.imports key.now }
+    ensures steps { steps.new ≤ steps.old + length (searched (lists_of info engine.now) state.now.lib state.now.imports) }
+{
+    find_hashed(engine, state, &HashedKey::new(key, engine.seeds()), steps)
 }

@@ -25,9 +25,9 @@ use Rattle.rhd_decl.specs.declared.fault.DeclFault.TheVariants.{HashCollision, I
 use Rattle.rhd_module.specs.declared.registration.FuncRegistration.{FuncRegistration}
 use Rattle.rhd_module.specs.Contents.{with_type}
 use Rattle.rhd_module.specs.Tree.{ModuleTree, Pairs}
-use Rattle.rhd_module.specs.Registered.{put, with_decl, unheld, registered_func, pure_by_name, banned, registration_cause, raw_cause, native_at, script_key, script_decl, Puts, Registers, RegistersRaw}
+use Rattle.rhd_module.specs.Registered.{put, with_decl, unheld, registered_func, pure_by_name, banned, registration_cause, raw_cause, native_at, script_key, script_decl, Puts, PutsBoth, Registers, RegistersBoth, RegistersRaw}
 use Rattle.rhd_engine.specs.Held.{func_held, own_held, below_held, names_held, all_held}
-use Rattle.rhd_engine.specs.Registered.{in_first, InFirst, RegistersFirst, RegistersRawFirst}
+use Rattle.rhd_engine.specs.Registered.{in_first, InFirst, RegistersFirst, RegistersBothFirst, RegistersRawFirst}
 
 abbrev pub is_held : ℕ → Declaration → Bool
 is_held n d = func_held n d.func
@@ -113,6 +113,16 @@ puts_held n cause k d old new (Err (IndexerNotAllowed key)) is h all = ap (names
 puts_held n cause k d old new (Err NotCallable) is h all = ap (names_held n) is.1 ∙ all
 puts_held n cause k d old new (Err (UnknownNumber number count)) is h all = ap (names_held n) is.1 ∙ all
 
+-- and so do two declarations of held natives
+pub puts_both_held : {A : Type 0} (n : ℕ) (cause : Option DeclFault) (k : Key) (d : Declaration) (l : Key) (e : Declaration) (old new : ModuleTree) (r : Result A DeclFault) → PutsBoth cause k d l e old r new → (cause ≡ None → (func_held n d.func ≡ true) × (func_held n e.func ≡ true))
+    → names_held n old ≡ true → names_held n new ≡ true
+puts_both_held n cause k d l e old new (Ok answer) is h all = ap (names_held n) is.2 ∙ stays_held n l e (with_decl k d old) (h is.0).1 (stays_held n k d old (h is.0).0 all)
+puts_both_held n cause k d l e old new (Err OutOfMemory) is h all = ap (names_held n) is ∙ all
+puts_both_held n cause k d l e old new (Err (HashCollision held other)) is h all = ap (names_held n) is.2 ∙ all
+puts_both_held n cause k d l e old new (Err (IndexerNotAllowed key)) is h all = ap (names_held n) is.1 ∙ all
+puts_both_held n cause k d l e old new (Err NotCallable) is h all = ap (names_held n) is.1 ∙ all
+puts_both_held n cause k d l e old new (Err (UnknownNumber number count)) is h all = ap (names_held n) is.1 ∙ all
+
 -- where no cause is known beforehand, the number is held
 refused_by : (natives : List NativeInfo) (id : FnId) (below : Bool) (more : List (Option DeclFault)) → first_some (where_holds (not below) (UnknownNumber id.0 (length natives)) ∷ more) ≡ None → below ≡ true
 refused_by natives id true more none = refl
@@ -140,6 +150,25 @@ pub registers_held : {A : Type 0} (natives : List NativeInfo) (reg : FuncRegistr
 registers_held natives reg id old new r is all =
     puts_held (length natives) _ _ _ old new r is (λ none. number_held (length natives) _ id (registered_number reg (native_at natives id) id) (allowed_held natives (Some id) (banned (native_at natives id).is_method reg.name (native_at natives id).types ∷ []) none)) all
 
+-- where none of several causes holds, none of the later ones does
+later_none : (cause : Option DeclFault) (more : List (Option DeclFault)) → first_some (cause ∷ more) ≡ None → first_some more ≡ None
+later_none None more none = none
+later_none (Some fault) more none = absurd cc
+
+-- one in which two natives are registered, or refused
+pub registers_both_held : {A : Type 0} (natives : List NativeInfo) (get_reg : FuncRegistration) (get : FnId) (set_reg : FuncRegistration) (set : FnId) (old new : ModuleTree) (r : Result A DeclFault) → RegistersBoth natives get_reg get set_reg set old r new
+    → names_held (length natives) old ≡ true → names_held (length natives) new ≡ true
+registers_both_held natives get_reg get set_reg set old new r is all =
+    let getter = native_at natives get in
+    let setter = native_at natives set in
+    let bans = banned getter.is_method get_reg.name getter.types ∷ banned setter.is_method set_reg.name setter.types ∷ [] in
+    puts_both_held (length natives) _ _ _ _ _ old new r is
+    (λ none. (
+      number_held (length natives) _ get (registered_number get_reg getter get) (allowed_held natives (Some get) (unheld natives (Some set) ∷ bans) none),
+      number_held (length natives) _ set (registered_number set_reg setter set) (allowed_held natives (Some set) bans (later_none (unheld natives (Some get)) (unheld natives (Some set) ∷ bans) none)),
+    ))
+    all
+
 -- one in which a function is registered raw
 pub registers_raw_held : {A : Type 0} (natives : List NativeInfo) (reg : FuncRegistration) (types : List TypeTag) (func : RhaiFunc) (old new : ModuleTree) (r : Result A DeclFault) → RegistersRaw natives reg types func old r new → names_held (length natives) old ≡ true → names_held (length natives) new ≡ true
 registers_raw_held natives reg types func old new r is all = puts_held (length natives) _ _ _ old new r is (λ none. can_be_called (length natives) func (allowed_held natives (native_of func) (where_holds (is_iter func || is_script func) NotCallable ∷ banned (is_method natives func) reg.name types ∷ []) none) (callable_by (unheld natives (native_of func)) (is_iter func || is_script func) (banned (is_method natives func) reg.name types ∷ []) none)) all
@@ -164,11 +193,19 @@ in_first_count goes (m ∷ ms) new is = ap length is.2
 pub registers_first_held : {A : Type 0} (natives : List NativeInfo) (reg : FuncRegistration) (id : FnId) (old new : List ModuleTree) (r : Result A DeclFault) → RegistersFirst natives reg id old r new → all_held (length natives) old ≡ true → all_held (length natives) new ≡ true
 registers_first_held natives reg id old new r is all = in_first_held (length natives) _ old new is (λ m changed goes held. registers_held natives reg id m changed r goes held) all
 
+pub registers_both_first_held : {A : Type 0} (natives : List NativeInfo) (get_reg : FuncRegistration) (get : FnId) (set_reg : FuncRegistration) (set : FnId) (old new : List ModuleTree) (r : Result A DeclFault) → RegistersBothFirst natives get_reg get set_reg set old r new
+    → all_held (length natives) old ≡ true → all_held (length natives) new ≡ true
+registers_both_first_held natives get_reg get set_reg set old new r is all = in_first_held (length natives) _ old new is (λ m changed goes held. registers_both_held natives get_reg get set_reg set m changed r goes held) all
+
 pub registers_raw_first_held : {A : Type 0} (natives : List NativeInfo) (reg : FuncRegistration) (types : List TypeTag) (func : RhaiFunc) (old new : List ModuleTree) (r : Result A DeclFault) → RegistersRawFirst natives reg types func old r new → all_held (length natives) old ≡ true → all_held (length natives) new ≡ true
 registers_raw_first_held natives reg types func old new r is all = in_first_held (length natives) _ old new is (λ m changed goes held. registers_raw_held natives reg types func m changed r goes held) all
 
 pub registers_first_count : {A : Type 0} (natives : List NativeInfo) (reg : FuncRegistration) (id : FnId) (old new : List ModuleTree) (r : Result A DeclFault) → RegistersFirst natives reg id old r new → length new ≡ length old
 registers_first_count natives reg id old new r is = in_first_count _ old new is
+
+pub registers_both_first_count : {A : Type 0} (natives : List NativeInfo) (get_reg : FuncRegistration) (get : FnId) (set_reg : FuncRegistration) (set : FnId) (old new : List ModuleTree) (r : Result A DeclFault) → RegistersBothFirst natives get_reg get set_reg set old r new
+    → length new ≡ length old
+registers_both_first_count natives get_reg get set_reg set old new r is = in_first_count _ old new is
 
 pub registers_raw_first_count : {A : Type 0} (natives : List NativeInfo) (reg : FuncRegistration) (types : List TypeTag) (func : RhaiFunc) (old new : List ModuleTree) (r : Result A DeclFault) → RegistersRawFirst natives reg types func old r new → length new ≡ length old
 registers_raw_first_count natives reg types func old new r is = in_first_count _ old new is
@@ -207,6 +244,11 @@ pub registers_by_table : {X A : Type 0} {F : X → Type 0} (info : (x : X) × F 
     → all_held (length natives.items.items) old ≡ true → all_held (length natives.items.items) new ≡ true
 registers_by_table info natives reg id old new r is =
     subst (λ (n : ℕ). all_held n old ≡ true → all_held n new ≡ true) (infos_count info natives) (registers_first_held (infos_of info natives) reg id old new r is)
+
+pub registers_both_by_table : {X A : Type 0} {F : X → Type 0} (info : (x : X) × F x → NativeInfo) (natives : Natives X F) (get_reg : FuncRegistration) (get : FnId) (set_reg : FuncRegistration) (set : FnId) (old new : List ModuleTree) (r : Result A DeclFault)
+    → RegistersBothFirst (infos_of info natives) get_reg get set_reg set old r new → all_held (length natives.items.items) old ≡ true → all_held (length natives.items.items) new ≡ true
+registers_both_by_table info natives get_reg get set_reg set old new r is =
+    subst (λ (n : ℕ). all_held n old ≡ true → all_held n new ≡ true) (infos_count info natives) (registers_both_first_held (infos_of info natives) get_reg get set_reg set old new r is)
 
 pub registers_raw_by_table : {X A : Type 0} {F : X → Type 0} (info : (x : X) × F x → NativeInfo) (natives : Natives X F) (reg : FuncRegistration) (types : List TypeTag) (func : RhaiFunc) (old new : List ModuleTree) (r : Result A DeclFault) → RegistersRawFirst (infos_of info natives) reg types func old r new
     → all_held (length natives.items.items) old ≡ true → all_held (length natives.items.items) new ≡ true

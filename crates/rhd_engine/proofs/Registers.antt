@@ -10,8 +10,8 @@ use Rattle.rhd_decl.specs.declared.fault.DeclFault.{DeclFault}
 use Rattle.rhd_module.specs.declared.registration.FuncRegistration.{FuncRegistration}
 use Rattle.rhd_module.specs.Tree.{ModuleTree}
 use Rattle.rhd_decl.specs.declared.metadata.FuncMetadata.{FuncMetadata}
-use Rattle.rhd_module.specs.Registered.{Registers, RegistersRaw, native_at, registered_decl}
-use Rattle.rhd_engine.specs.Registered.{InFirst, RegistersFirst, RegistersRawFirst, FirstTells}
+use Rattle.rhd_module.specs.Registered.{Registers, RegistersBoth, RegistersRaw, native_at, registered_decl}
+use Rattle.rhd_engine.specs.Registered.{InFirst, RegistersFirst, RegistersBothFirst, RegistersRawFirst, FirstTells}
 
 -- the first of some modules, set anew, goes as it is told
 goes_first : (goes : ModuleTree → ModuleTree → Type 0) (ms : List ModuleTree) (m new : ModuleTree) → 0 < length ms → m ≡ get_or ms 0 m → goes m new → InFirst goes ms (slice_set ms 0 new)
@@ -30,6 +30,10 @@ registers_first natives reg id r ms all m new = goes_first_in (λ m changed. Reg
 pub registers_raw_first : {A : Type 0} (natives : List NativeInfo) (reg : FuncRegistration) (types : List TypeTag) (func : RhaiFunc) (r : Result A DeclFault) (ms all : List ModuleTree) (m new : ModuleTree) → ms ≡ all → 0 < length all → m ≡ get_or ms 0 m → RegistersRaw natives reg types func m r new
     → RegistersRawFirst natives reg types func all r (slice_set ms 0 new)
 registers_raw_first natives reg types func r ms all m new = goes_first_in (λ m changed. RegistersRaw natives reg types func m r changed) ms all m new
+
+pub registers_both_first : {A : Type 0} (natives : List NativeInfo) (get_reg : FuncRegistration) (get : FnId) (set_reg : FuncRegistration) (set : FnId) (r : Result A DeclFault) (ms all : List ModuleTree) (m new : ModuleTree) → ms ≡ all → 0 < length all → m ≡ get_or ms 0 m
+    → RegistersBoth natives get_reg get set_reg set m r new → RegistersBothFirst natives get_reg get set_reg set all r (slice_set ms 0 new)
+registers_both_first natives get_reg get set_reg set r ms all m new = goes_first_in (λ m changed. RegistersBoth natives get_reg get set_reg set m r changed) ms all m new
 
 -- what is told of it
 tells_at : (natives : List NativeInfo) (reg : FuncRegistration) (id : FnId) (ms : List ModuleTree) (m : ModuleTree) (metadata : FuncMetadata) → 0 < length ms → m ≡ get_or ms 0 m → metadata ≡ (registered_decl m.own.seeds reg (native_at natives id) id).metadata → FirstTells natives reg id ms metadata

@@ -13,7 +13,7 @@ use Rattle.rhd_decl.specs.declared.fault.DeclFault.{DeclFault}
 use Rattle.rhd_decl.specs.declared.metadata.FuncMetadata.{FuncMetadata}
 use Rattle.rhd_module.specs.declared.registration.FuncRegistration.{FuncRegistration}
 use Rattle.rhd_module.specs.Tree.{ModuleTree}
-use Rattle.rhd_module.specs.Registered.{Registers, RegistersRaw, native_at, registered_decl, global_registration, params_by_type, pure_by_name}
+use Rattle.rhd_module.specs.Registered.{Registers, RegistersBoth, RegistersRaw, native_at, registered_decl, global_registration, params_by_type, pure_by_name}
 
 -- the first of some modules changed
 abbrev pub in_first : (ModuleTree → ModuleTree) → List ModuleTree → List ModuleTree
@@ -33,6 +33,10 @@ RegistersFirst natives reg id old result new = InFirst (λ m changed. Registers 
 abbrev pub RegistersRawFirst : {A : Type 0} → List NativeInfo → FuncRegistration → List TypeTag → RhaiFunc → List ModuleTree → Result A DeclFault → List ModuleTree → Type 0
 RegistersRawFirst natives reg types func old result new = InFirst (λ m changed. RegistersRaw natives reg types func m result changed) old new
 
+-- and of two natives, both or none
+abbrev pub RegistersBothFirst : {A : Type 0} → List NativeInfo → FuncRegistration → FnId → FuncRegistration → FnId → List ModuleTree → Result A DeclFault → List ModuleTree → Type 0
+RegistersBothFirst natives get_reg get set_reg set old result new = InFirst (λ m changed. RegistersBoth natives get_reg get set_reg set m result changed) old new
+
 -- what is told of a registration in the first of some modules
 abbrev pub FirstTells : List NativeInfo → FuncRegistration → FnId → List ModuleTree → FuncMetadata → Type 0
 FirstTells natives reg id [] metadata = ⊥
@@ -41,6 +45,10 @@ FirstTells natives reg id (m ∷ ms) metadata = metadata ≡ (registered_decl m.
 -- a native under a name for all calls: its parameters are told by their types
 abbrev pub fn_registration : List NativeInfo → Bytes → FnId → FuncRegistration
 fn_registration natives name id = record (global_registration name) { params_info = params_by_type (native_at natives id).types }
+
+-- two natives under two names for all calls, both or none
+abbrev pub RegistersPair : {A : Type 0} → List NativeInfo → Bytes → FnId → Bytes → FnId → List ModuleTree → Result A DeclFault → List ModuleTree → Type 0
+RegistersPair natives get_name get set_name set old result new = RegistersBothFirst natives (fn_registration natives get_name get) get (fn_registration natives set_name set) set old result new
 
 -- a registration for all calls: where no parameter is told, each is by its type
 abbrev pub told_params : List Bytes → List Bytes → List Bytes

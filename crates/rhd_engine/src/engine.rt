@@ -39,8 +39,8 @@ impl Engine {
     ghost use Rattle.rhd_engine.specs.Of.{lists_of};
     ghost use Rattle.rhd_engine.specs.Start.{start_lists};
 
-    /// An engine with an empty global namespace and no static module. Its built-ins are held by the natives, and its modules hash
-    /// their keys under these seeds.
+    /// An engine with an empty global namespace and no static module. Its built-ins are held by the
+    /// natives, and its modules hash their keys under these seeds.
     pub fn new(
         alloc: Global,
         natives: Natives,

@@ -5,7 +5,7 @@ ghost use Rattle.std.specs.List.{insert};
 ghost use Rattle.std.specs.Option.{option_copied};
 ghost use Rattle.rhd_func.specs.Infos.{infos_of};
 ghost use Rattle.rhd_module.specs.Contents.{with_type};
-ghost use Rattle.rhd_engine.specs.Registered.{in_first, RegistersFirst, RegistersRawFirst, FirstTells};
+ghost use Rattle.rhd_engine.specs.Registered.{in_first, RegistersFirst, RegistersBothFirst, RegistersRawFirst, FirstTells};
 ghost use Rattle.rhd_engine.specs.Lists.{Popped, all_indexed, latest_of, second};
 
 use rhd_func::{Natives, RhaiFunc};
@@ -117,6 +117,23 @@ impl ModuleList {
         ensures metadata { IfOk result (FirstTells (infos_of info natives.now) reg id self.old) }
     {
         self.items[0].register_told(alloc, reg, natives, id)
+    }
+
+    /// Registers the natives of two numbers in the first module, both or none. The module is copied first
+    /// where it has other owners.
+    pub fn register_both_in_first(
+        &mut self,
+        alloc: Global,
+        natives: &Natives,
+        get_reg: FuncRegistration,
+        get: FnId,
+        set_reg: FuncRegistration,
+        set: FnId,
+    ) -> Result<(), DeclFault>
+        requires { 0 < length self.old }
+        ensures { RegistersBothFirst (infos_of info natives.now) get_reg get set_reg set self.old result self.new }
+    {
+        self.items[0].register_both(alloc, natives, get_reg, get, set_reg, set)
     }
 
     /// Registers a function in the first module, as `FuncRegistration::set_into_module_raw` does. The

@@ -11,7 +11,7 @@ ghost use Rattle.rhd_engine.specs.Held.{names_held};
 ghost use Rattle.rhd_engine.specs.Lists.{second};
 ghost use Rattle.rhd_engine.specs.Of.{lists_of};
 ghost use Rattle.rhd_engine.specs.Statics.{Places};
-ghost use Rattle.rhd_engine.specs.Registered.{fn_registration, for_all_calls, raw_func, custom_name, in_first, RegistersFirst, RegistersRawFirst, FirstTells};
+ghost use Rattle.rhd_engine.specs.Registered.{fn_registration, for_all_calls, raw_func, custom_name, in_first, RegistersFirst, RegistersPair, RegistersRawFirst, FirstTells};
 
 use crate::engine::Engine;
 use rhd_func::{Natives, PluginFunc, RhaiFunc};
@@ -149,6 +149,26 @@ impl Engine {
             .register_in_first_told(alloc, reg, &self.natives, id)
     }
 
+    /// Registers the natives of two numbers under two names for all calls, both or none, each as
+    /// `register_fn` does.
+    fn register_both(
+        &mut self,
+        alloc: Global,
+        get_name: Text,
+        get: FnId,
+        set_name: Text,
+        set: FnId,
+    ) -> Result<(), DeclFault>
+        ensures registers { RegistersPair (infos_of info self.old.natives) get_name get set_name set self.old.globals result self.new.globals }
+        ensures natives { self.new.natives ≡ self.old.natives }
+        ensures kept { GlobalsAlone (lists_of info self.old) (lists_of info self.new) }
+    {
+        let get_reg = fn_registration(alloc, &self.natives, get_name, get)?;
+        let set_reg = fn_registration(alloc, &self.natives, set_name, set)?;
+        self.globals
+            .register_both_in_first(alloc, &self.natives, get_reg, get, set_reg, set)
+    }
+
     /// Registers the native of a number under a name for all calls. Its parameters are told by their types.
     pub fn register_fn(&mut self, alloc: Global, name: Text, id: FnId) -> Result<(), DeclFault>
         ensures registers { RegistersFirst (infos_of info self.old.natives) (fn_registration (infos_of info self.old.natives) name id) id self.old.globals result self.new.globals }
@@ -179,6 +199,24 @@ impl Engine {
         self.register_fn(alloc, name, id)
     }
 
+    /// Registers the natives of two numbers as the getter and the setter of a property, each as
+    /// `register_fn` does, both or none.
+    pub fn register_get_set(
+        &mut self,
+        alloc: Global,
+        prop: &Text,
+        get: FnId,
+        set: FnId,
+    ) -> Result<(), DeclFault>
+        ensures registers { RegistersPair (infos_of info self.old.natives) (getter_name prop.now) get (setter_name prop.now) set self.old.globals result self.new.globals }
+        ensures natives { self.new.natives ≡ self.old.natives }
+        ensures kept { GlobalsAlone (lists_of info self.old) (lists_of info self.new) }
+    {
+        let get_name = name_behind(alloc, "get$", prop.as_str())?;
+        let set_name = name_behind(alloc, "set$", prop.as_str())?;
+        self.register_both(alloc, get_name, get, set_name, set)
+    }
+
     /// Registers the native of a number as the indexer that reads, as `register_fn` does.
     pub fn register_indexer_get(&mut self, alloc: Global, id: FnId) -> Result<(), DeclFault>
         ensures registers { RegistersFirst (infos_of info self.old.natives) (fn_registration (infos_of info self.old.natives) (codes "index$get$") id) id self.old.globals result self.new.globals }
@@ -197,6 +235,23 @@ impl Engine {
     {
         let name = name_behind(alloc, "index$set$", "")?;
         self.register_fn(alloc, name, id)
+    }
+
+    /// Registers the natives of two numbers as the indexers that read and write, each as `register_fn`
+    /// does, both or none.
+    pub fn register_indexer_get_set(
+        &mut self,
+        alloc: Global,
+        get: FnId,
+        set: FnId,
+    ) -> Result<(), DeclFault>
+        ensures registers { RegistersPair (infos_of info self.old.natives) (codes "index$get$") get (codes "index$set$") set self.old.globals result self.new.globals }
+        ensures natives { self.new.natives ≡ self.old.natives }
+        ensures kept { GlobalsAlone (lists_of info self.old) (lists_of info self.new) }
+    {
+        let get_name = name_behind(alloc, "index$get$", "")?;
+        let set_name = name_behind(alloc, "index$set$", "")?;
+        self.register_both(alloc, get_name, get, set_name, set)
     }
 
     /// Registers the native of a number with these types under a name for all calls: a volatile method

@@ -4,6 +4,7 @@
 mod call_hashes;
 mod fault;
 mod filter;
+mod hashed;
 mod hashing;
 mod key;
 mod law;
@@ -17,6 +18,7 @@ mod tests;
 pub use call_hashes::FnCallHashes;
 pub use fault::TableFault;
 pub use filter::BloomFilterU64;
+pub use hashed::{HashedKey, HashedName};
 pub use hashing::{
     calc_fn_hash, calc_fn_hash_full, calc_native_fn_hash, calc_typed_method_hash,
     calc_untyped_fn_hash, calc_var_hash,

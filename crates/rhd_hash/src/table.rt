@@ -13,6 +13,7 @@ ghost use Rattle.rhd_hash.specs.Slots.{IsFree};
 ghost use Rattle.rhd_hash.specs.Table.{first_hashed, HasOwnHashes, Clashes};
 
 use crate::fault::TableFault;
+use crate::hashed::HashedKey;
 use crate::key::Key;
 use crate::mixer::Seeds;
 use crate::straight::StraightHasherBuilder;
@@ -110,8 +111,15 @@ impl<V> KeyTable<V> {
     pub fn get(&self, key: &Key) -> Option<&V>
         ensures { option_copied result ≡ lookup (key_eq key.now) self.now.pairs }
     {
-        match self.get_by_hash(key.mixed(self.seeds)) {
-            Some((held, value)) => { if *held == *key { Some(value) } else { None } }
+        self.get_hashed(&HashedKey::new(key, self.seeds))
+    }
+
+    /// The value under a key whose hash is at hand.
+    pub fn get_hashed(&self, key: &HashedKey) -> Option<&V>
+        ensures { option_copied result ≡ lookup (key_eq key.now) self.now.pairs }
+    {
+        match self.get_by_hash(key.hash_under(self.seeds)) {
+            Some((held, value)) => { if *held == *key.key() { Some(value) } else { None } }
             None => None,
         }
     }

@@ -14,7 +14,7 @@ use Rattle.rhd_func.specs.Access.{is_private, is_global_namespace}
 use Rattle.rhd_decl.specs.declared.declaration.Declaration.{Declaration}
 use Rattle.rhd_module.specs.Tree.{ModuleTree, Lists, Subs, no_subs, sub, Pairs}
 use Rattle.rhd_module.specs.Walk.{unpathed, pathed, pairs_at, below, tree}
-use Rattle.rhd_module.specs.Below.{some_below, some_in, declares_dynamic, may_contain}
+use Rattle.rhd_module.specs.Below.{some_below, some_in, may_be_dynamic, declares_dynamic, may_contain}
 
 -- neither of two that aren't both
 left_false : (a b : Bool) → (a || b) ≡ false → a ≡ false
@@ -42,9 +42,8 @@ none_one test true p e = refl
 none_one test false p e = ap (λ (c : Bool). cond c (Some p.1) None) e
 
 module _ (seeds : Seeds) (hash : ℕ) (key : Key) (dynamic : has_dynamic key ≡ true) (is : untyped_key seeds key ≡ hash) where
-  -- whether the filter would tell of a key
   abbrev told : Key → Bool
-  told k = has_dynamic k && (slot 8 hash == slot 8 (untyped_key seeds k))
+  told k = may_be_dynamic seeds hash k
 
   itself : told key ≡ true
   itself = ap (λ (b : Bool). b && (slot 8 hash == slot 8 (untyped_key seeds key))) dynamic ∙ eq-eqb (slot 8 hash) (slot 8 (untyped_key seeds key)) (ap (slot 8) (sym is))

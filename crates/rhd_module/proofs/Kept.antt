@@ -16,7 +16,7 @@ use Rattle.rhd_module.specs.Tree.{ModuleTree, Lists, Pairs}
 use Rattle.rhd_module.specs.Contents.{commented, comment_on}
 use Rattle.rhd_module.specs.Registered.{put}
 use Rattle.rhd_module.specs.Walk.{unpathed, pathed, pairs_at, below, tree}
-use Rattle.rhd_module.specs.Below.{dynamic_hash, has_slot, some_below, some_in, declares_global, declares_dynamic}
+use Rattle.rhd_module.specs.Below.{dynamic_hash, has_slot, some_below, some_in, declares_global, may_be_dynamic, declares_dynamic}
 use Rattle.rhd_module.specs.Index.{Indexed, IsFilter, IsIndexOf, IsKept, NoneClash}
 
 or_false : (b : Bool) → (b || false) ≡ b
@@ -53,28 +53,24 @@ module _ (test : Key → Bool) (k : Key) (d : Declaration) where
   any_put_there [] there = absurd (true≢false there)
   any_put_there (p ∷ ps) there = there_step p ps (key_eq k p.0) refl (any_put_there ps) there
 
--- whether a key has a parameter of any type, and a hash that is this one modulo 64
-abbrev pub may_be : Seeds → ℕ → Key → Bool
-may_be seeds v k = has_dynamic k && (slot 8 v == slot 8 (untyped_key seeds k))
-
 slot_step : (seeds : Seeds) (v : ℕ) (k : Key) (b : Bool) → has_slot (cond b (Some (untyped_key seeds k)) None) v ≡ (b && (slot 8 v == slot 8 (untyped_key seeds k)))
 slot_step seeds v k true = refl
 slot_step seeds v k false = refl
 
 -- the filter, where a key was put in the place of an equal one
-pub filter_there : (marks : List ℕ) (s t : Seeds) (k : Key) (d : Declaration) (old new : Pairs) → ((v : ℕ) → is_marked 8 marks v ≡ list_any (λ p. may_be s v p.0) old) → is_none (lookup (key_eq k) old) ≡ false
-    → t ≡ s → new ≡ put k d old → (v : ℕ) → is_marked 8 marks v ≡ list_any (λ p. may_be t v p.0) new
-filter_there marks s t k d old new right there same is v = right v ∙ sym (any_put_there (may_be s v) k d old there) ∙ (λ i. list_any (λ p. may_be (sym same i) v p.0) (sym is i))
+pub filter_there : (marks : List ℕ) (s t : Seeds) (k : Key) (d : Declaration) (old new : Pairs) → ((v : ℕ) → is_marked 8 marks v ≡ list_any (λ p. may_be_dynamic s v p.0) old) → is_none (lookup (key_eq k) old) ≡ false
+    → t ≡ s → new ≡ put k d old → (v : ℕ) → is_marked 8 marks v ≡ list_any (λ p. may_be_dynamic t v p.0) new
+filter_there marks s t k d old new right there same is v = right v ∙ sym (any_put_there (may_be_dynamic s v) k d old there) ∙ (λ i. list_any (λ p. may_be_dynamic (sym same i) v p.0) (sym is i))
 
 -- and where it was put last, and its hash was marked
-pub filter_last : (marks marks2 : List ℕ) (s t : Seeds) (k : Key) (d : Declaration) (old new : Pairs) (dynamic : Option ℕ) → ((v : ℕ) → is_marked 8 marks v ≡ list_any (λ p. may_be s v p.0) old)
+pub filter_last : (marks marks2 : List ℕ) (s t : Seeds) (k : Key) (d : Declaration) (old new : Pairs) (dynamic : Option ℕ) → ((v : ℕ) → is_marked 8 marks v ≡ list_any (λ p. may_be_dynamic s v p.0) old)
     → dynamic ≡ dynamic_hash s k → ((v : ℕ) → is_marked 8 marks2 v ≡ (is_marked 8 marks v || has_slot dynamic v)) → t ≡ s → new ≡ put k d old
-    → (v : ℕ) → is_marked 8 marks2 v ≡ list_any (λ p. may_be t v p.0) new
+    → (v : ℕ) → is_marked 8 marks2 v ≡ list_any (λ p. may_be_dynamic t v p.0) new
 filter_last marks marks2 s t k d old new dynamic right hash more same is v =
     more v
     ∙ (λ i. right v i || (ap (λ (o : Option ℕ). has_slot o v) hash ∙ slot_step s v k (has_dynamic k)) i)
-    ∙ sym (any_put (may_be s v) k d old)
-    ∙ (λ i. list_any (λ p. may_be (sym same i) v p.0) (sym is i))
+    ∙ sym (any_put (may_be_dynamic s v) k d old)
+    ∙ (λ i. list_any (λ p. may_be_dynamic (sym same i) v p.0) (sym is i))
 
 -- a module that isn't indexed keeps nothing
 pub not_kept : (index : Indexed) (m : ModuleTree) → m.own.indexed ≡ false → IsKept index m
@@ -143,7 +139,7 @@ module _ (k : Key) (comments : List Bytes) where
 
   dynamic_commented : (v : ℕ) (old new : Lists) → new.eager ≡ comment_on k comments old.eager → new.seeds ≡ old.seeds → declares_dynamic new.seeds v new ≡ declares_dynamic old.seeds v old
   dynamic_commented v old new is same =
-      (λ i. list_any (λ p. may_be (same i) v p.0) (is i)) ∙ any_commented (λ p. may_be old.seeds v p.0) (λ p. refl) old.eager
+      (λ i. list_any (λ p. may_be_dynamic (same i) v p.0) (is i)) ∙ any_commented (λ p. may_be_dynamic old.seeds v p.0) (λ p. refl) old.eager
 
   global_commented : (old new : Lists) → new.eager ≡ comment_on k comments old.eager → declares_global new ≡ declares_global old
   global_commented old new is =

@@ -36,9 +36,13 @@ abbrev pub has_slot : Option ℕ → ℕ → Bool
 has_slot None v = false
 has_slot (Some hash) v = slot 8 v == slot 8 hash
 
--- some declaration has a parameter of any type, and a hash under these seeds of its name and number of parameters that is this one modulo 64
+-- a key has a parameter of any type, and a hash under these seeds of its name and number of parameters that is this one modulo 64
+abbrev pub may_be_dynamic : Seeds → ℕ → Key → Bool
+may_be_dynamic seeds hash key = has_dynamic key && (slot 8 hash == slot 8 (untyped_key seeds key))
+
+-- the key of some declaration is such a one
 abbrev pub declares_dynamic : Seeds → ℕ → Lists → Bool
-declares_dynamic seeds hash own = list_any (λ p. has_dynamic p.0 && (slot 8 hash == slot 8 (untyped_key seeds p.0))) (shown own)
+declares_dynamic seeds hash own = list_any (λ p. may_be_dynamic seeds hash p.0) (shown own)
 
 -- the same of the tree, or, while it isn't indexed, of the module alone
 abbrev pub may_contain : ModuleTree → ℕ → Bool

@@ -1,19 +1,18 @@
 //! What a module keeps of its tree while it is indexed.
 
-ghost use Rattle.std.specs.Prelude.{ℕ, ◌&&◌, ◌==◌, ◌≡◌, ◌++◌, ◌∷◌, [], false, is_some, OnOk, IfOk, IfErr};
+ghost use Rattle.std.specs.Prelude.{ℕ, ◌≡◌, ◌++◌, ◌∷◌, [], false, is_some, OnOk, IfOk, IfErr};
 ghost use Rattle.std.specs.Option.{option_copied};
 ghost use Rattle.std.specs.List.{list_any};
 ghost use Rattle.std.specs.Map.{lookup, keys_of};
-ghost use Rattle.rhd_hash.specs.Filter.{is_marked, slot};
-ghost use Rattle.rhd_hash.specs.Keys.{key_eq, has_dynamic};
-ghost use Rattle.rhd_hash.specs.Parts.{untyped_key};
+ghost use Rattle.rhd_hash.specs.Filter.{is_marked};
+ghost use Rattle.rhd_hash.specs.Keys.{key_eq};
 ghost use Rattle.rhd_hash.specs.PutIn.{put_in};
 ghost use Rattle.rhd_hash.specs.Refusal.{IsRefusal};
 ghost use Rattle.rhd_hash.specs.Table.{HasOwnHashes};
 ghost use Rattle.rhd_hash.specs.declared.fault.TableFault.{TableFault};
 ghost use Rattle.rhd_decl.specs.Collisions.{collision};
 ghost use Rattle.rhd_func.specs.Access.{is_global_namespace};
-ghost use Rattle.rhd_module.specs.Below.{some_in, declares_global, declares_dynamic};
+ghost use Rattle.rhd_module.specs.Below.{some_in, declares_global, may_be_dynamic, declares_dynamic};
 ghost use Rattle.rhd_module.specs.Index.{Fills, IsClash, IsIndexOf};
 ghost use Rattle.rhd_module.specs.Shown.{shown};
 ghost use Rattle.rhd_module.specs.Walk.{unpathed, pathed, pairs_at, walk, tree};
@@ -21,7 +20,7 @@ ghost use Rattle.rhd_module.specs.Walk.{unpathed, pathed, pairs_at, walk, tree};
 use crate::module::Module;
 use rhd_decl::{DeclFault, Declaration};
 use rhd_func::RhaiFunc;
-use rhd_hash::{BloomFilterU64, Key, KeyTable, Seeds};
+use rhd_hash::{BloomFilterU64, HashedKey, Key, KeyTable, Seeds};
 use rhd_value::Texts;
 use std::alloc::Global;
 use std::marker::Model;
@@ -74,10 +73,10 @@ impl TreeIndex {
     }
 
     /// The function under a key.
-    pub(crate) fn get(&self, key: &Key) -> Option<&RhaiFunc>
+    pub(crate) fn get_hashed(&self, key: &HashedKey) -> Option<&RhaiFunc>
         ensures { option_copied result ≡ lookup (key_eq key.now) self.now.pairs }
     {
-        self.table.get(key)
+        self.table.get_hashed(key)
     }
 
     /// Whether a hash is marked.
@@ -96,7 +95,7 @@ impl TreeIndex {
 
     /// Marks the hash of a key that has a parameter of any type.
     fn mark(&mut self, key: &Key)
-        ensures { Fills self.old self.new [] (λ hash. has_dynamic key.now && (slot 8 hash == slot 8 (untyped_key self.old.seeds key.now))) false }
+        ensures { Fills self.old self.new [] (λ hash. may_be_dynamic self.old.seeds hash key.now) false }
     {
         if key.has_dynamic() {
             let hash = key.untyped(self.table.seeds());
@@ -106,7 +105,7 @@ impl TreeIndex {
 
     /// Marks the hashes of the keys of declarations that have a parameter of any type.
     fn mark_all(&mut self, declarations: &KeyTable<Declaration>)
-        ensures { Fills self.old self.new [] (λ hash. list_any (λ p. has_dynamic p.0 && (slot 8 hash == slot 8 (untyped_key self.old.seeds p.0))) declarations.now.pairs) false }
+        ensures { Fills self.old self.new [] (λ hash. list_any (λ p. may_be_dynamic self.old.seeds hash p.0) declarations.now.pairs) false }
     {
         for (key, _declaration) in declarations.iter() {
             self.mark(key);
@@ -115,8 +114,8 @@ impl TreeIndex {
 
     /// The same, by a filter of these declarations, which is of use where it is of the same seeds.
     fn mark_by(&mut self, declarations: &KeyTable<Declaration>, filter: &BloomFilterU64<8>)
-        requires { (hash : ℕ) → is_marked 8 filter.now hash ≡ list_any (λ p. has_dynamic p.0 && (slot 8 hash == slot 8 (untyped_key declarations.now.seeds p.0))) declarations.now.pairs }
-        ensures { Fills self.old self.new [] (λ hash. list_any (λ p. has_dynamic p.0 && (slot 8 hash == slot 8 (untyped_key self.old.seeds p.0))) declarations.now.pairs) false }
+        requires { (hash : ℕ) → is_marked 8 filter.now hash ≡ list_any (λ p. may_be_dynamic declarations.now.seeds hash p.0) declarations.now.pairs }
+        ensures { Fills self.old self.new [] (λ hash. list_any (λ p. may_be_dynamic self.old.seeds hash p.0) declarations.now.pairs) false }
     {
         if declarations.seeds() == self.table.seeds() {
             self.join(filter);

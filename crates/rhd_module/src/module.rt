@@ -25,7 +25,7 @@ use crate::native_index::NativeIndex;
 use indexmap::map::Values;
 use rhd_decl::{CustomTypesCollection, DeclFault, Declaration, Switches};
 use rhd_func::{RhaiFunc, SharedText};
-use rhd_hash::{BloomFilterU64, Key, KeyTable, Seeds, Steps};
+use rhd_hash::{BloomFilterU64, HashedKey, Key, KeyTable, Seeds, Steps};
 use rhd_value::{Entries, OutOfMemory, Text, Texts, TypeTag};
 use std::alloc::{AllocError, Global};
 use std::collections::BTreeMap;
@@ -273,16 +273,24 @@ impl Module {
     }
 
     /// The function that is declared under a key. It is one look-up more.
-    #[tactic(auto, unfolding(crate::specs::Shown::own_decl))]
     pub fn get_fn(&self, key: &Key, steps: &mut Steps) -> Option<&RhaiFunc>
         ensures found { option_copied result ≡ option_map (λ d. d.func) (own_decl self.now key.now) }
         ensures steps { steps.new ≡ raised steps.old 1 }
     {
+        self.get_hashed_fn(&HashedKey::new(key, self.seeds()), steps)
+    }
+
+    /// The function that is declared under a key whose hash is at hand. It is one look-up more.
+    #[tactic(auto, unfolding(crate::specs::Shown::own_decl))]
+    pub fn get_hashed_fn(&self, key: &HashedKey, steps: &mut Steps) -> Option<&RhaiFunc>
+        ensures found { option_copied result ≡ option_map (λ d. d.func) (own_decl self.now key.now) }
+        ensures steps { steps.new ≡ raised steps.old 1 }
+    {
         steps.raise();
-        if !self.scripts && key.is_script() {
+        if !self.scripts && key.key().is_script() {
             return None;
         }
-        match self.eager.get(key) {
+        match self.eager.get_hashed(key) {
             Some(declaration) => Some(&declaration.func),
             None => None,
         }

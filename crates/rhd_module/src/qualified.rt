@@ -11,7 +11,7 @@ ghost use Rattle.rhd_module.specs.Walk.{tree, qualified};
 use crate::module::Module;
 use rhd_decl::DeclFault;
 use rhd_func::RhaiFunc;
-use rhd_hash::{Key, Steps};
+use rhd_hash::{HashedKey, Key, Steps};
 use rhd_value::{Dynamic, OutOfMemory, Text};
 use std::alloc::Global;
 
@@ -39,14 +39,24 @@ impl Module {
     }
 
     /// The function that is found first under a key in the module and below it. It is one look-up more.
-    #[tactic(auto, unfolding(crate::specs::Walk::qualified))]
     pub fn get_qualified_fn(&self, key: &Key, steps: &mut Steps) -> Option<&RhaiFunc>
         requires { self.now.own.indexed ≡ true }
         ensures found { option_copied result ≡ option_map (λ d. d.func) (qualified self.now key.now) }
         ensures steps { steps.new ≡ raised steps.old 1 }
     {
+        self.get_qualified_hashed_fn(&HashedKey::new(key, self.seeds()), steps)
+    }
+
+    /// The function that is found first under a key whose hash is at hand, in the module and below it. It
+    /// is one look-up more.
+    #[tactic(auto, unfolding(crate::specs::Walk::qualified))]
+    pub fn get_qualified_hashed_fn(&self, key: &HashedKey, steps: &mut Steps) -> Option<&RhaiFunc>
+        requires { self.now.own.indexed ≡ true }
+        ensures found { option_copied result ≡ option_map (λ d. d.func) (qualified self.now key.now) }
+        ensures steps { steps.new ≡ raised steps.old 1 }
+    {
         steps.raise();
-        self.index.get(key)
+        self.index.get_hashed(key)
     }
 
     /// Whether a function is found under a key in the module or below it. It is no look-up of a call.
@@ -55,7 +65,7 @@ impl Module {
         requires { self.now.own.indexed ≡ true }
         ensures { result ≡ is_some (qualified self.now key.now) }
     {
-        self.index.get(key).is_some()
+        self.index.get_hashed(&HashedKey::new(key, self.seeds())).is_some()
     }
 
     /// Whether a function of the module or of one below it is found without the module's name.

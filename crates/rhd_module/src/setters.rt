@@ -286,7 +286,7 @@ impl Module {
     }
 
     /// Registers the natives of two numbers, both or none. Answers the hashes of their keys.
-    fn put_both(
+    pub(crate) fn put_both(
         &mut self,
         alloc: Global,
         natives: &Natives,

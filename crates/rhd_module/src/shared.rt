@@ -4,7 +4,7 @@ ghost use Rattle.std.specs.Prelude.{◌≡◌, None, [], OnOk, OnErr, IfOk};
 ghost use Rattle.rhd_func.specs.Infos.{infos_of};
 ghost use Rattle.rhd_module.specs.Contents.{with_id, named, with_doc, with_var, with_type, cleared, with_sub};
 ghost use Rattle.rhd_module.specs.Index.{Indexes};
-ghost use Rattle.rhd_module.specs.Registered.{Puts, Registers, RegistersRaw, native_at, registered_decl, script_key, script_decl};
+ghost use Rattle.rhd_module.specs.Registered.{Puts, Registers, RegistersBoth, RegistersRaw, native_at, registered_decl, script_key, script_decl};
 
 use crate::module::Module;
 use crate::registration::FuncRegistration;
@@ -182,6 +182,24 @@ impl SharedModule {
     {
         let module = Rc::make_mut(&mut self.module)?;
         reg.set_into_module(alloc, module, natives, id)
+    }
+
+    /// Registers the natives of two numbers in this owner's module, both or none. The module is copied
+    /// first where it has other owners.
+    pub fn register_both(
+        &mut self,
+        alloc: Global,
+        natives: &Natives,
+        get_reg: FuncRegistration,
+        get: FnId,
+        set_reg: FuncRegistration,
+        set: FnId,
+    ) -> Result<(), DeclFault>
+        ensures { RegistersBoth (infos_of info natives.now) get_reg get set_reg set self.old result self.new }
+    {
+        let module = Rc::make_mut(&mut self.module)?;
+        module.put_both(alloc, natives, get_reg, get, set_reg, set)?;
+        Ok(())
     }
 
     /// Registers a function in this owner's module, as `FuncRegistration::set_into_module_raw` does. The

@@ -3,4 +3,4 @@ use Rattle.rhd_dispatch.specs.Walks.{any_may_have}
 use Rattle.rhd_dispatch.proofs.filters.any_import_may_have.Given as goal
 
 abbrev pub invariant-loop-name : goal.invariant-loop-name
-invariant-loop-name l = any_may_have l.name l.params (drop l._name-index l.imports) ≡ any_may_have l.name l.params l.imports
+invariant-loop-name l = any_may_have l.name.name.now l.name.params (drop l._name-index l.imports) ≡ any_may_have l.name.name.now l.name.params l.imports

@@ -3,4 +3,4 @@ use Rattle.rhd_dispatch.specs.Walks.{any_may_have}
 use Rattle.rhd_dispatch.proofs.filters.any_static_may_have.Given as goal
 
 abbrev pub invariant-loop-name : goal.invariant-loop-name
-invariant-loop-name l = any_may_have l.name l.params l._name-iterator ≡ any_may_have l.name l.params l.statics
+invariant-loop-name l = any_may_have l.name.name.now l.name.params l._name-iterator ≡ any_may_have l.name.name.now l.name.params l.statics

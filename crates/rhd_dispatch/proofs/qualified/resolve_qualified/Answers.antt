@@ -16,7 +16,7 @@ returns-in-Some-clause-held g c =
     let e = lists_of (λ z. (goal.PluginFunc-dyn g z).info z.1) c.args.engine.now in
     let place = rooted c.in-Some.root.layer c.in-Some.root.place.now in
     IfOk-weaker c.find_in.result _ _
-    (λ pick is. qualified_is_held (length c.args.engine.now.natives.items.items) e c.args.state.now.imports c.args.path.now c.args.name.now c.args.shape.now pick c.args.engine.now.statics_held c.requires.imports
+    (λ pick is. qualified_is_held (length c.args.engine.now.natives.items.items) e c.args.state.now.imports c.args.path.now c.args.name.now c.args.shape.now pick c.args.engine.now.statics_held c.requires
     (root_picks e c.args.state.now.imports c.args.path.now c.as_slice.result.now c.args.name.now c.args.shape.now (option_map {U = Place} (λ r. rooted r.layer r.place.now) c.find_root.result) place pick c.as_slice.ensures c.find_root.ensures (ap (option_map {U = Place} (λ r. rooted r.layer r.place.now)) c.in-Some.is)
     (is ∙ ap (λ (names : List Bytes). pick_in names c.args.name.now c.args.shape.now place) (c.as_slice-in-Some.ensures ∙ sym c.as_slice.ensures))))
     c.find_in.ensures.pick

@@ -1,4 +1,4 @@
-use Rattle.std.proofs.Common.{◌≡◌, List, map, take, sym, ap, ◌∙◌}
+use Rattle.std.proofs.Common.{◌≡◌, List, map, take, ap, ◌∙◌}
 use Rattle.rhd_hash.specs.declared.key.Key.{Key}
 use Rattle.rhd_hash.specs.Parts.{mixed}
 use Rattle.rhd_hash.specs.Table.{Table, HasOwnHashes}

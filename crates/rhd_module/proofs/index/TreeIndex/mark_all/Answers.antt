@@ -1,7 +1,5 @@
-use Rattle.std.proofs.Common.{◌≡◌, ◌==◌, ◌&&◌, ◌∷◌, [], ◌++◌, sym, ap, ◌∙◌, append_assoc}
-use Rattle.rhd_hash.specs.Filter.{slot}
-use Rattle.rhd_hash.specs.Keys.{has_dynamic}
-use Rattle.rhd_hash.specs.Parts.{untyped_key}
+use Rattle.std.proofs.Common.{◌≡◌, ◌∷◌, [], ◌++◌, sym, ap, ◌∙◌, append_assoc}
+use Rattle.rhd_module.specs.Below.{may_be_dynamic}
 use Rattle.rhd_module.specs.Tree.{Pairs}
 use Rattle.rhd_module.proofs.Fills.{marks_more}
 use Rattle.rhd_module.proofs.index.TreeIndex.mark_all.Goals as goal
@@ -12,5 +10,5 @@ loop-key-preserved c =
     let front = c.loop-key.invariant.0 in (
       front ++ x ∷ [],
       c.loop-key.invariant.1 ∙ ap (λ (t : Pairs). front ++ t) c.in-Some.ensures.steps ∙ sym (append_assoc front (x ∷ []) c.next.new.self),
-      marks_more c.args.self.now c.loop-key.self c.mark.new.self (λ seeds v p. has_dynamic p.0 && (slot 8 v == slot 8 (untyped_key seeds p.0))) x front c.loop-key.invariant.2 c.mark.ensures,
+      marks_more c.args.self.now c.loop-key.self c.mark.new.self (λ seeds v p. may_be_dynamic seeds v p.0) x front c.loop-key.invariant.2 c.mark.ensures,
     )

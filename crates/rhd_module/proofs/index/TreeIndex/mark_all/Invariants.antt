@@ -1,8 +1,6 @@
-use Rattle.std.proofs.Common.{◌≡◌, ℕ, ◌&&◌, ◌==◌, List, ◌++◌, [], false, take}
+use Rattle.std.proofs.Common.{◌≡◌, ℕ, List, ◌++◌, [], false, take}
 use Rattle.std.specs.List.{list_any}
-use Rattle.rhd_hash.specs.Filter.{slot}
-use Rattle.rhd_hash.specs.Keys.{has_dynamic}
-use Rattle.rhd_hash.specs.Parts.{untyped_key}
+use Rattle.rhd_module.specs.Below.{may_be_dynamic}
 use Rattle.rhd_module.specs.Tree.{Pairs}
 use Rattle.rhd_module.specs.Index.{Fills}
 use Rattle.rhd_module.proofs.index.TreeIndex.mark_all.Given as goal
@@ -10,4 +8,4 @@ use Rattle.rhd_module.proofs.index.TreeIndex.mark_all.Given as goal
 abbrev pub invariant-loop-key : goal.invariant-loop-key
 invariant-loop-key l =
     (front : Pairs) × (l.initial.key-iterator ≡ front ++ l.key-iterator)
-    × Fills l.initial.self l.self [] (λ v. list_any (λ p. has_dynamic p.0 && (slot 8 v == slot 8 (untyped_key l.initial.self.seeds p.0))) front) false
+    × Fills l.initial.self l.self [] (λ v. list_any (λ p. may_be_dynamic l.initial.self.seeds v p.0) front) false

@@ -5,13 +5,13 @@ use Rattle.rhd_decl.specs.Flags.{Flagged}
 use Rattle.rhd_decl.specs.declared.declaration.Declaration.{Declaration}
 use Rattle.rhd_module.specs.NativeIndex.{places_from}
 use Rattle.rhd_module.specs.Scripts.{has_script}
-use Rattle.rhd_module.proofs.Kept.{may_be}
+use Rattle.rhd_module.specs.Below.{may_be_dynamic}
 use Rattle.rhd_module.proofs.module.Module.clear_fns.Goals as goal
 
 pub invariant_of-self : goal.invariant_of-self
 invariant_of-self c = (
   λ name. c.new-2.ensures name ∙ ap (λ (t : Table Declaration). places_from 0 name t.pairs) (sym c.new.ensures),
   λ _. ap (λ (t : Table Declaration). has_script t.pairs) c.new.ensures,
-  λ v. c.new-self-inside.ensures v ∙ ap (λ (t : Table Declaration). list_any (λ p. may_be t.seeds v p.0) t.pairs) (sym c.new.ensures),
+  λ v. c.new-self-inside.ensures v ∙ ap (λ (t : Table Declaration). list_any (λ p. may_be_dynamic t.seeds v p.0) t.pairs) (sym c.new.ensures),
   λ is. absurd (true≢false (sym is ∙ ap (λ (f : Flagged). f.indexed) c.set_indexed.ensures)),
 )

@@ -9,7 +9,7 @@ use Rattle.rhd_module.specs.Index.{Indexed, IsIndexOf}
 use Rattle.rhd_module.specs.NativeIndex.{places_from}
 use Rattle.rhd_module.specs.Scripts.{has_script}
 use Rattle.rhd_module.specs.contracts.module.Module.{the_view}
-use Rattle.rhd_module.proofs.Kept.{may_be}
+use Rattle.rhd_module.specs.Below.{may_be_dynamic}
 use Rattle.rhd_module.proofs.SubModules.{subs_clone}
 use Rattle.rhd_module.proofs.module.Module.dup.Goals as goal
 
@@ -47,6 +47,6 @@ invariant_of-result c =
     λ p. IsIndexOf p.0 (record { own = record (the_view inside).own { eager = p.1.0.pairs; seeds = p.1.0.seeds }; subs = p.1.1 }) in (
       λ name. c.in_ok-dup-4.ensures name ∙ c.self.invariant.0 name ∙ ap (λ (t : Table Declaration). places_from 0 name t.pairs) (sym eager),
       λ none. ap (λ (t : Table Declaration). has_script t.pairs) eager ∙ c.self.invariant.1 none,
-      λ v. ap (λ (f : List ℕ). is_marked 8 f v) c.in_ok-clone-2.ensures.cases ∙ c.self.invariant.2 v ∙ ap (λ (t : Table Declaration). list_any (λ p. may_be t.seeds v p.0) t.pairs) (sym eager),
+      λ v. ap (λ (f : List ℕ). is_marked 8 f v) c.in_ok-clone-2.ensures.cases ∙ c.self.invariant.2 v ∙ ap (λ (t : Table Declaration). list_any (λ p. may_be_dynamic t.seeds v p.0) t.pairs) (sym eager),
       λ is. subst P (λ i. (sym c.in_ok-clone-3.ensures.cases i, (sym eager i, sym subs i))) (c.self.invariant.3 (sym (ap (λ (f : Flagged). f.indexed) c.dup-4.ensures) ∙ is)),
     )

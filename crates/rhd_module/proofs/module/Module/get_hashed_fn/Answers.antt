@@ -7,7 +7,7 @@ use Rattle.rhd_module.specs.Tree.{ModuleTree}
 use Rattle.rhd_module.specs.Shown.{own_decl}
 use Rattle.rhd_hash.specs.Keys.{is_script_key}
 use Rattle.rhd_module.proofs.Scripts.{none_found}
-use Rattle.rhd_module.proofs.module.Module.get_fn.Goals as goal
+use Rattle.rhd_module.proofs.module.Module.get_hashed_fn.Goals as goal
 
 -- a script's key finds nothing where none was declared
 pub returns-then-is_script-clause-found : goal.returns-then-is_script-clause-found

@@ -2,7 +2,7 @@ use Rattle.rhd_engine.specs.Of.{lists_of}
 use Rattle.rhd_dispatch.specs.Walks.{picked}
 use Rattle.rhd_dispatch.proofs.Passes.{map_some, map_none}
 use Rattle.rhd_dispatch.proofs.Layers.{libraries_passed, library_found, library_steps, globals_passed, global_found, global_steps, imports_passed, import_found, import_steps, static_found, static_steps}
-use Rattle.rhd_dispatch.proofs.search.find.Goals as goal
+use Rattle.rhd_dispatch.proofs.search.find_hashed.Goals as goal
 
 pub returns-then-is_some-clause-found : goal.returns-then-is_some-clause-found
 unfolding lists_of
