@@ -1,7 +1,7 @@
 pub mod HeldLaws
 pub mod HeldTrees
 pub mod Indexed
-pub mod Pieces
+pub mod PathLaws
 pub mod Placed
 pub mod Tables
 pub mod Registers

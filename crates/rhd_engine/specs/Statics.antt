@@ -1,6 +1,6 @@
 -- Static modules: how a name with `::` in it is cut, where its module is put, and what is refused.
-use Rattle.std.specs.Prelude.{◌≡◌, Bool, true, false, List, [], ◌∷◌, ◌++◌, map, nat_eq, codes, if◌then◌else◌, Option, Some, None, unwrap_or, Result, Ok, Err}
-use Rattle.std.specs.List.{starts_with, AllByRecursion, Contains}
+use Rattle.std.specs.Prelude.{◌≡◌, List, [], ◌∷◌, map, Option, Some, None, unwrap_or, Result, Ok, Err}
+use Rattle.std.specs.List.{AllByRecursion, Contains}
 use Rattle.std.specs.Map.{keys_of}
 use Rattle.std.specs.Str.{trim}
 use Rattle.rhd_value.specs.Tree.{Bytes}
@@ -14,20 +14,15 @@ use Rattle.rhd_module.specs.Contents.{named, with_sub, find_sub}
 use Rattle.rhd_module.specs.Walk.{tree}
 use Rattle.rhd_module.specs.Index.{NoneClash, indexed}
 use Rattle.rhd_engine.specs.Lists.{Imports, module_of, put_module}
+use Rattle.rhd_engine.specs.Paths.{path_of}
 
--- a name cut at each `::`; the second colon of a pair is skipped
-abbrev pub pieces : Bool → Bytes → Bytes → List Bytes
-pieces skip part [] = part ∷ []
-pieces true part (b ∷ bs) = pieces false part bs
-pieces false part (b ∷ bs) = if starts_with nat_eq (b ∷ bs) (codes "::") then part ∷ pieces true [] bs else pieces false (part ++ b ∷ []) bs
-
--- where there are several parts, each is trimmed
+-- a name is a path; where it has several parts, each is trimmed
 abbrev pub trimmed : List Bytes → List Bytes
 trimmed (one ∷ []) = one ∷ []
 trimmed parts = map trim parts
 
 abbrev pub parts_of : Bytes → List Bytes
-parts_of name = trimmed (pieces false [] name)
+parts_of name = trimmed (path_of name)
 
 -- The module of a part of a name: where it is the last, the added one; else the held one or a new one, with the module of the next part below it. It is indexed, and gets the part as id where it has none.
 abbrev pub placed : Seeds → ModuleTree → Bytes → List Bytes → Option ModuleTree → ModuleTree

@@ -10,6 +10,7 @@ mod limits;
 mod lists;
 mod missing;
 mod parts;
+mod paths;
 mod placing;
 mod registering;
 mod state;
@@ -23,6 +24,7 @@ pub use law::a_builtin_leaves_the_others;
 pub use limits::{Limits, Printers};
 pub use lists::{ImportList, ModuleList};
 pub use missing::path_text;
+pub use paths::path_of;
 pub use registering::{
     RegisterIntoEngine, fn_registration, for_all_calls, raw_func, raw_registration,
 };

@@ -1,9 +1,10 @@
 //! The parts of a name.
 
-ghost use Rattle.std.specs.Prelude.{◌≡◌, false, [], map, IfOk};
+ghost use Rattle.std.specs.Prelude.{◌≡◌, map, IfOk};
 ghost use Rattle.std.specs.Str.{trim};
-ghost use Rattle.rhd_engine.specs.Statics.{pieces, parts_of};
+ghost use Rattle.rhd_engine.specs.Statics.{parts_of};
 
+use crate::paths::path_of;
 use rhd_value::{OutOfMemory, Text, Texts};
 use std::alloc::Global;
 
@@ -16,17 +17,14 @@ fn trimmed(alloc: Global, text: &str) -> Result<Text, OutOfMemory>
     Ok(trimmed)
 }
 
-/// A name cut at each `::`, with each part trimmed.
-fn trimmed_pieces(alloc: Global, name: &str) -> Result<Texts, OutOfMemory>
-    ensures { IfOk result (λ parts. parts ≡ map trim (pieces false [] name.now)) }
+/// Texts, each without the white space at its ends.
+fn all_trimmed(alloc: Global, names: &[Text]) -> Result<Texts, OutOfMemory>
+    ensures { IfOk result (λ parts. parts ≡ map trim names.now) }
 {
     let mut parts = Texts::new(alloc);
-    let mut rest = name;
-    while let Some((part, more)) = rest.split_once("::") {
-        parts.push(trimmed(alloc, part)?)?;
-        rest = more;
+    for name in names {
+        parts.push(trimmed(alloc, name.as_str())?)?;
     }
-    parts.push(trimmed(alloc, rest)?)?;
     Ok(parts)
 }
 
@@ -34,11 +32,9 @@ fn trimmed_pieces(alloc: Global, name: &str) -> Result<Texts, OutOfMemory>
 pub(crate) fn parts_of(alloc: Global, name: &Text) -> Result<Texts, OutOfMemory>
     ensures { IfOk result (λ parts. parts ≡ parts_of name.now) }
 {
-    let text = name.as_str();
-    if text.contains("::") {
-        return trimmed_pieces(alloc, text);
+    let names = path_of(alloc, name.as_str())?;
+    if names.len() == 1 {
+        return Ok(names);
     }
-    let mut parts = Texts::new(alloc);
-    parts.push(name.dup(alloc)?)?;
-    Ok(parts)
+    all_trimmed(alloc, names.as_slice())
 }
