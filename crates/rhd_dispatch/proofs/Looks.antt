@@ -159,8 +159,3 @@ exact_looks kinds s m new h =
 
 pub few_looks : (kinds : List TypeTag) (s new : ℕ) → new ≤ s + 1 → new ≤ s + length (patterns kinds)
 few_looks kinds s new h = omega (arith, h, some_pattern 16 kinds)
-
-pub other_looks : (types kinds : List TypeTag) (s first new : ℕ) → types ≡ kinds → first ≤ s + 1 → new + 1 ≤ first + length (patterns types) * 1 → new ≤ s + length (patterns kinds)
-other_looks types kinds s first new is one others =
-    let l : length (patterns types) ≡ length (patterns kinds) = ap (λ (ts : List TypeTag). length (patterns ts)) is in
-    omega (arith, l, one, others)

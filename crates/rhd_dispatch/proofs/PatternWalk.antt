@@ -231,13 +231,3 @@ dynamic_more (k ∷ kinds) zero h = absurd cc
 dynamic_more (k ∷ kinds) (suc place) h =
     let s : suc place + 1 ≡ suc (place + 1) = omega arith in
     ap (λ (m : ℕ). any_dynamic (take m (k ∷ kinds))) s ∙ or_kept (tag_eq k Dynamic) (any_dynamic (take place kinds)) (tag_eq k Dynamic) (any_dynamic (take (place + 1) kinds)) h (λ e. e) (λ e. dynamic_more kinds place e)
-
-pub dynamic_set : (kinds same : List TypeTag) (place : ℕ) → place < length kinds → same ≡ kinds → any_dynamic (take (place + 1) (set same place Dynamic)) ≡ true
-dynamic_set kinds same place h is = ap (λ (ks : List TypeTag). any_dynamic (take (place + 1) (set ks place Dynamic))) is ∙ by kinds place h
-  where
-    by : (ks : List TypeTag) (n : ℕ) → n < length ks → any_dynamic (take (n + 1) (set ks n Dynamic)) ≡ true
-    by [] n h = absurd (omega arith)
-    by (k ∷ ks) zero h = refl
-    by (k ∷ ks) (suc n) h =
-        let s : suc n + 1 ≡ suc (n + 1) = omega arith in
-        ap (λ (m : ℕ). any_dynamic (take m (k ∷ set ks n Dynamic))) s ∙ ap (λ (b : Bool). tag_eq k Dynamic || b) (by ks n (omega arith)) ∙ or_true (tag_eq k Dynamic)

@@ -73,13 +73,6 @@ script_first path names name shape kinds params place o pick n k p is some =
     let at : o ≡ pick_at (Script (Some (after_root path)) name (length (all_args shape))) place = is ∙ (λ i. pick_at (Script (Some (n i)) name (params_are shape kinds params k p i)) place) in
     sym (ap (λ (x : Option Pick). option_or x (first_of (λ types. pick_at (Native (Some (after_root path)) name types) place) (patterns (map tag_of (all_args shape))))) (sym at ∙ some))
 
-pub native_second : (path names : List Bytes) (name : Bytes) (shape : CallShape) (kinds : List TypeTag) (params : ℕ) (place : Place) (o last : Option Pick) → names ≡ after_root path → kinds ≡ map tag_of (all_args shape) → params ≡ length kinds
-    → o ≡ pick_at (Script (Some names) name params) place → o ≡ None → last ≡ first_match (native_at place names name) [] 16 kinds → last ≡ pick_in path name shape place
-native_second path names name shape kinds params place o last n k p is none h =
-    let at : o ≡ pick_at (Script (Some (after_root path)) name (length (all_args shape))) place = is ∙ (λ i. pick_at (Script (Some (n i)) name (params_are shape kinds params k p i)) place) in
-    h ∙ (λ i. first_of (λ types. pick_at (Native (Some (n i)) name types) place) (patterns (k i)))
-    ∙ sym (ap (λ (x : Option Pick). option_or x (first_of (λ types. pick_at (Native (Some (after_root path)) name types) place) (patterns (map tag_of (all_args shape))))) (sym at ∙ none))
-
 -- what the module has is the first question that is answered
 or_none : {A : Type 0} (o : Option A) → option_or o None ≡ o
 or_none None = refl
@@ -95,7 +88,3 @@ pub root_picks : (e : EngineLists) (imports : Imports) (path same : List Bytes) 
     → o ≡ pick_in same name shape place → o ≡ pick_qualified e imports path name shape
 root_picks e imports path same name shape root place o p is some h =
     h ∙ ap (λ (r : Option Place). option_and_then (pick_in same name shape) r) (sym some ∙ is) ∙ by_asks same name shape (root_of e imports same) ∙ ap (λ (names : List Bytes). pick_qualified e imports names name shape) p
-
-pub no_root_picks : (e : EngineLists) (imports : Imports) (path same : List Bytes) (name : Bytes) (shape : CallShape) (root : Option Place) → same ≡ path → root ≡ root_of e imports same → root ≡ None → ◌≡◌ {A = Option Pick} None (pick_qualified e imports path name shape)
-no_root_picks e imports path same name shape root p is none =
-    ap (λ (r : Option Place). option_and_then (pick_in same name shape) r) (sym none ∙ is) ∙ by_asks same name shape (root_of e imports same) ∙ ap (λ (names : List Bytes). pick_qualified e imports names name shape) p

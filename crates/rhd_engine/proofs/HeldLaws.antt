@@ -173,10 +173,6 @@ registers_both_held natives get_reg get set_reg set old new r is all =
 pub registers_raw_held : {A : Type 0} (natives : List NativeInfo) (reg : FuncRegistration) (types : List TypeTag) (func : RhaiFunc) (old new : ModuleTree) (r : Result A DeclFault) → RegistersRaw natives reg types func old r new → names_held (length natives) old ≡ true → names_held (length natives) new ≡ true
 registers_raw_held natives reg types func old new r is all = puts_held (length natives) _ _ _ old new r is (λ none. can_be_called (length natives) func (allowed_held natives (native_of func) (where_holds (is_iter func || is_script func) NotCallable ∷ banned (is_method natives func) reg.name types ∷ []) none) (callable_by (unheld natives (native_of func)) (is_iter func || is_script func) (banned (is_method natives func) reg.name types ∷ []) none)) all
 
--- and one in which a script is declared
-pub script_held : {A : Type 0} (n : ℕ) (seeds : Seeds) (def : ScriptFuncDef) (env : Option EnvId) (old new : ModuleTree) (r : Result A DeclFault) → Puts None (script_key def) (script_decl seeds def env) old r new → names_held n old ≡ true → names_held n new ≡ true
-script_held n seeds def env old new r is all = puts_held n None (script_key def) (script_decl seeds def env) old new r is (λ none. refl) all
-
 -- The first of some modules.
 
 -- where the first of some modules stays held, all do
@@ -209,10 +205,6 @@ registers_both_first_count natives get_reg get set_reg set old new r is = in_fir
 
 pub registers_raw_first_count : {A : Type 0} (natives : List NativeInfo) (reg : FuncRegistration) (types : List TypeTag) (func : RhaiFunc) (old new : List ModuleTree) (r : Result A DeclFault) → RegistersRawFirst natives reg types func old r new → length new ≡ length old
 registers_raw_first_count natives reg types func old new r is = in_first_count _ old new is
-
--- how a type is shown changes no declaration
-pub type_held : (n : ℕ) (type_name display : Bytes) (comments : List Bytes) (m : ModuleTree) → names_held n (with_type type_name display comments m) ≡ names_held n m
-type_held n type_name display comments m = refl
 
 pub type_first_held : (n : ℕ) (type_name display : Bytes) (comments : List Bytes) (ms : List ModuleTree) → all_held n (in_first (with_type type_name display comments) ms) ≡ all_held n ms
 type_first_held n type_name display comments [] = refl

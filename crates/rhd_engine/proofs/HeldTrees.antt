@@ -29,24 +29,6 @@ three a b c p q r = both a (b && c) p (both b c q r)
 
 -- Modules.
 
-pub empty_held : (n : ℕ) (seeds : Seeds) → names_held n (empty_module seeds) ≡ true
-empty_held n seeds = refl
-
-pub id_held : (n : ℕ) (id : Bytes) (m : ModuleTree) → names_held n (with_id id m) ≡ names_held n m
-id_held n id m = refl
-
-pub doc_held : (n : ℕ) (doc : Bytes) (m : ModuleTree) → names_held n (with_doc doc m) ≡ names_held n m
-doc_held n doc m = refl
-
-pub var_held : (n : ℕ) (name : Bytes) (value : Tree) (m : ModuleTree) → names_held n (with_var name value m) ≡ names_held n m
-var_held n name value m = refl
-
-pub indexed_held : (n : ℕ) (m : ModuleTree) → names_held n (indexed m) ≡ names_held n m
-indexed_held n m = refl
-
-pub cleared_held : (n : ℕ) (m : ModuleTree) → names_held n (cleared m) ≡ true
-cleared_held n m = refl
-
 put_sub_held : (n : ℕ) (name : Bytes) (child : ModuleTree) (s : Subs) → names_held n child ≡ true → below_held n s ≡ true → below_held n (put_sub name child s) ≡ true
 put_sub_held n name child no_subs h all =
     let c = parts (own_held n child.own) (below_held n child.subs) h in
@@ -131,10 +113,6 @@ tree_held n m all =
 pub looked_up_held : (n : ℕ) (m : ModuleTree) (key : Key) (d : Declaration) → names_held n m ≡ true → lookup (key_eq key) (tree m) ≡ Some d → func_held n d.func ≡ true
 looked_up_held n m key d all is = found_held n key (tree m) d (tree_held n m all) is
 
-pub qualified_held : (n : ℕ) (m : ModuleTree) (key : Key) (d : Declaration) → names_held n m ≡ true → qualified m key ≡ Some d → func_held n d.func ≡ true
-unfolding qualified
-qualified_held n m key d all is = looked_up_held n m key d all is
-
 -- Modules behind the first.
 
 pub second_held : (n : ℕ) (added : ModuleTree) (ms : List ModuleTree) → names_held n added ≡ true → all_held n ms ≡ true → all_held n (second added ms) ≡ true
@@ -154,17 +132,8 @@ second_or_not P added old new (Err fault) ok err put kept = subst P (sym err) ke
 
 -- Modules with their names.
 
-pub pushed_held : (n : ℕ) (es : Imports) (name : Bytes) (m : ModuleTree) → names_held n m ≡ true → named_held n es ≡ true → named_held n (es ++ (name, m) ∷ []) ≡ true
-pushed_held n es name m h all = all_pushed (names_held n) es name m h all
-
-pub popped_held : (n : ℕ) (es : Imports) (name : Bytes) (m : ModuleTree) → named_held n (es ++ (name, m) ∷ []) ≡ true → named_held n es ≡ true
-popped_held n es name m all = all_popped (names_held n) es name m all
-
 pub put_held_module : (n : ℕ) (es : Imports) (name : Bytes) (m : ModuleTree) → names_held n m ≡ true → named_held n es ≡ true → named_held n (put_module name m es) ≡ true
 put_held_module n es name m h all = all_put (names_held n) es name m h all
 
 pub module_held : (n : ℕ) (es : Imports) (name : Bytes) (m : ModuleTree) → named_held n es ≡ true → module_of name es ≡ Some m → names_held n m ≡ true
 module_held n es name m all is = all_found (names_held n) es name m all is
-
-pub latest_held : (n : ℕ) (es : Imports) (name : Bytes) (m : ModuleTree) → named_held n es ≡ true → latest_of name es ≡ Some m → names_held n m ≡ true
-latest_held n es name m all is = all_latest (names_held n) es name m all is

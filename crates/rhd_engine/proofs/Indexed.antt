@@ -59,9 +59,6 @@ all_latest test es name m all is = all_found test (reverse es) name m (all_rever
 pub pushed : (es : Imports) (name : Bytes) (m : ModuleTree) → m.own.indexed ≡ true → all_indexed es ≡ true → all_indexed (es ++ (name, m) ∷ []) ≡ true
 pushed es name m h all = all_pushed (λ m. m.own.indexed) es name m h all
 
-pub popped : (es : Imports) (name : Bytes) (m : ModuleTree) → all_indexed (es ++ (name, m) ∷ []) ≡ true → all_indexed es ≡ true
-popped es name m all = all_popped (λ m. m.own.indexed) es name m all
-
 pub put_indexed : (es : Imports) (name : Bytes) (m : ModuleTree) → m.own.indexed ≡ true → all_indexed es ≡ true → all_indexed (put_module name m es) ≡ true
 put_indexed es name m h all = all_put (λ m. m.own.indexed) es name m h all
 

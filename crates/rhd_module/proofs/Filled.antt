@@ -96,9 +96,6 @@ clash_among s t ks ls NotCallable same more c = c
 clash_among s t ks ls (UnknownNumber n m) same more c = c
 clash_among s t ks ls OutOfMemory same more c = tt
 
-or_left : (a b : Bool) → a ≡ true → (a || b) ≡ true
-or_left a b e = ap (λ (c : Bool). c || b) e
-
 or_right : (a b : Bool) → b ≡ true → (a || b) ≡ true
 or_right true b e = refl
 or_right false b e = e

@@ -45,9 +45,6 @@ or_turned true false = refl
 or_turned false true = refl
 or_turned false false = refl
 
-pub fills_none : (o : Indexed) → Fills o o [] (λ _. false) false
-fills_none o = record { same_seeds = refl; puts = refl; marks = λ v. sym (or_false (is_marked 8 o.marks v)); tells = sym (or_false o.has_global); apart = λ h. h }
-
 pub fills_then : (o m n : Indexed) (xs ys : Pairs) (d e : ℕ → Bool) (g h : Bool) → Fills o m xs d g → Fills m n ys e h → Fills o n (ys ++ xs) (λ v. d v || e v) (g || h)
 fills_then o m n xs ys d e g h a b = record {
   same_seeds = b.same_seeds ∙ a.same_seeds;
@@ -198,10 +195,6 @@ marks_more o m n test p front a b =
     (λ v. (λ i. list_any (test o.seeds v) front || (ap (λ (s : Seeds). test s v p) a.same_seeds ∙ sym (or_false (test o.seeds v p))) i) ∙ sym (list_any-append (test o.seeds v) front (p ∷ []))) refl
     (fills_then o m n [] [] _ _ _ _ a b)
 
-pub marks_by : (o n : Indexed) (test : Seeds → ℕ → Key × Declaration → Bool) (seeds : Seeds) (marks : List ℕ) (ps : Pairs) → seeds ≡ o.seeds → ((v : ℕ) → is_marked 8 marks v ≡ list_any (test seeds v) ps)
-    → Fills o n [] (λ v. is_marked 8 marks v) false → Fills o n [] (λ v. list_any (test o.seeds v) ps) false
-marks_by o n test seeds marks ps same right a = fills_as o n [] [] _ _ _ _ refl (λ v. right v ∙ (λ i. list_any (test (same i) v) ps)) refl a
-
 -- an empty index that was filled with a tree
 pub is_index : (o n : Indexed) (path : List Bytes) (m : ModuleTree) → o.seeds ≡ m.own.seeds → o.pairs ≡ [] → ((v : ℕ) → is_marked 8 o.marks v ≡ false) → o.has_global ≡ false → path ≡ []
     → Fills o n (walk path m) (λ v. some_in (declares_dynamic o.seeds v) m) (some_in declares_global m) → IsIndexOf n m
@@ -217,13 +210,6 @@ is_index o n path m seeds none marks tells root f =
       λ v. f.marks v ∙ (λ i. marks v i || some_in (declares_dynamic (seeds i) v) m),
       f.tells ∙ ap (λ (b : Bool). b || some_in declares_global m) tells,
     )
-
-pub clash_tree : (o : Indexed) (path : List Bytes) (m : ModuleTree) (fault : DeclFault) → o.seeds ≡ m.own.seeds → o.pairs ≡ [] → path ≡ [] → IsClash o.seeds (keys_of (walk path m) ++ keys_of o.pairs) fault → IsClash m.own.seeds (keys_of (tree m)) fault
-clash_tree o path m fault seeds none root c =
-    subst (λ (ks : List Key). IsClash m.own.seeds ks fault) (append-nil (keys_of (tree m))) (subst (λ (s : Seeds). IsClash s (keys_of (tree m) ++ []) fault) seeds (transp c))
-  where
-    transp : IsClash o.seeds (keys_of (walk path m) ++ keys_of o.pairs) fault → IsClash o.seeds (keys_of (tree m) ++ []) fault
-    transp h = subst (λ (ks : List Key). IsClash o.seeds ks fault) (λ i. keys_of (walk (root i) m) ++ keys_of (none i)) h
 
 -- a refused index leaves the module as it was
 refused_with : (A : Type 0) (old new : ModuleTree) (fault : DeclFault) → IsClash old.own.seeds (keys_of (tree old)) fault → new ≡ old → Indexes {A = A} old (Err fault) new

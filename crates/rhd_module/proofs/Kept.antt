@@ -72,10 +72,6 @@ filter_last marks marks2 s t k d old new dynamic right hash more same is v =
     ∙ sym (any_put (may_be_dynamic s v) k d old)
     ∙ (λ i. list_any (λ p. may_be_dynamic (sym same i) v p.0) (sym is i))
 
--- a module that isn't indexed keeps nothing
-pub not_kept : (index : Indexed) (m : ModuleTree) → m.own.indexed ≡ false → IsKept index m
-not_kept index m none = λ is. absurd (true≢false (sym is ∙ none))
-
 -- the functions of declarations
 abbrev funcs : Pairs → List (Key × RhaiFunc)
 funcs [] = []

@@ -80,10 +80,6 @@ pub there : (k : Key) (d : Declaration) (ps : Pairs) → Contains (keys_of (put 
 there k d [] = (0, omega arith, refl)
 there k d (p ∷ ps) = there_step k d p ps (key_eq k p.0) refl (there k d ps)
 
-front_stays : (k : Key) (d : Declaration) (p : Key × Declaration) (ps : Pairs) (same : Bool) → key_eq k p.0 ≡ same → keys_of (cond same ((p.0, d) ∷ ps) (p ∷ put k d ps)) ≡ p.0 ∷ cond same (keys_of ps) (keys_of (put k d ps))
-front_stays k d p ps true s = refl
-front_stays k d p ps false s = refl
-
 kept_step : (k q : Key) (d : Declaration) (p : Key × Declaration) (ps : Pairs) (same : Bool) → key_eq k p.0 ≡ same → (Contains (keys_of ps) q → Contains (keys_of (put k d ps)) q)
     → Contains (p.0 ∷ keys_of ps) q → Contains (keys_of (cond same ((p.0, d) ∷ ps) (p ∷ put k d ps))) q
 kept_step k q d p ps true s ih held = held
