@@ -1,6 +1,6 @@
 -- The natives that modules name stay held, and what a module has is held.
-use Rattle.std.proofs.Common.{◌≡◌, ℕ, Bool, true, false, not, cond, ◌&&◌, List, [], ◌∷◌, length, map, refl, sym, ap, subst, ◌∙◌}
-use Rattle.std.specs.Prelude.{zero, suc, ◌||◌, Option, Some, None, unwrap_or, Result, Ok, Err, OnOk, OnErr, nat_lt, slice_get, slice_set, if◌then◌else◌}
+use Rattle.std.proofs.Common.{◌≡◌, ℕ, Bool, true, false, not, cond, ◌&&◌, List, [], ◌∷◌, length, refl, sym, ap, subst, ◌∙◌}
+use Rattle.std.specs.Prelude.{zero, suc, ◌||◌, Option, Some, None, unwrap_or, Result, Ok, Err, OnErr, nat_lt, slice_get, slice_set, if◌then◌else◌}
 use Rattle.std.specs.List.{list_all}
 use Rattle.std.specs.Map.{lookup}
 use Rattle.std.proofs.lemmas.List.{length-map}
@@ -9,12 +9,9 @@ use Rattle.rhd_value.specs.Firsts.{first_some, where_holds}
 use Rattle.rhd_value.specs.declared.tag.FnId.{FnId}
 use Rattle.rhd_value.specs.declared.tag.TypeTag.{TypeTag}
 use Rattle.rhd_hash.specs.declared.key.Key.{Key}
-use Rattle.rhd_hash.specs.declared.mixer.Seeds.{Seeds}
 use Rattle.rhd_hash.specs.Keys.{key_eq}
-use Rattle.rhd_func.specs.declared.access.EnvId.{EnvId}
 use Rattle.rhd_func.specs.declared.func.RhaiFunc.{RhaiFunc}
 use Rattle.rhd_func.specs.declared.func.RhaiFunc.TheVariants as funcs
-use Rattle.rhd_func.specs.declared.func.ScriptFuncDef.{ScriptFuncDef}
 use Rattle.rhd_func.specs.declared.natives.Natives.{Natives}
 use Rattle.rhd_func.specs.Funcs.{native_of, is_method, is_iter, is_script}
 use Rattle.rhd_func.specs.Infos.{infos_of}
@@ -25,7 +22,7 @@ use Rattle.rhd_decl.specs.declared.fault.DeclFault.TheVariants.{HashCollision, I
 use Rattle.rhd_module.specs.declared.registration.FuncRegistration.{FuncRegistration}
 use Rattle.rhd_module.specs.Contents.{with_type}
 use Rattle.rhd_module.specs.Tree.{ModuleTree, Pairs}
-use Rattle.rhd_module.specs.Registered.{put, with_decl, unheld, registered_func, pure_by_name, banned, registration_cause, raw_cause, native_at, script_key, script_decl, Puts, PutsBoth, Registers, RegistersBoth, RegistersRaw}
+use Rattle.rhd_module.specs.Registered.{put, with_decl, unheld, registered_func, pure_by_name, banned, native_at, Puts, PutsBoth, Registers, RegistersBoth, RegistersRaw}
 use Rattle.rhd_engine.specs.Held.{func_held, own_held, below_held, names_held, all_held}
 use Rattle.rhd_engine.specs.Registered.{in_first, InFirst, RegistersFirst, RegistersBothFirst, RegistersRawFirst}
 

@@ -1,28 +1,25 @@
 -- What a module and all below it name stays held, and what a tree has for a key is held.
-use Rattle.std.proofs.Common.{arith, length, ◌<◌, ◌≡◌, ℕ, Bool, true, false, cond, ◌&&◌, List, [], ◌∷◌, ◌++◌, Option, None, Some, refl, sym, ap, subst, ◌∙◌}
-use Rattle.std.specs.Prelude.{not, ◌||◌, if◌then◌else◌, Result, Ok, Err, OnOk, OnErr}
-use Rattle.std.specs.List.{list_all, flat_map}
+use Rattle.std.proofs.Common.{arith, length, ◌<◌, ◌≡◌, ℕ, Bool, true, false, cond, ◌&&◌, List, [], ◌∷◌, ◌++◌, Some, refl, sym, ap, subst, ◌∙◌}
+use Rattle.std.specs.Prelude.{not, ◌||◌, Result, Ok, Err, OnOk, OnErr}
 use Rattle.std.specs.Map.{lookup}
 use Rattle.std.specs.Ordering.{match_ordering, nat_cmp}
 use Rattle.std.specs.declared.cmp.Ordering.{Ordering}
 use Rattle.std.specs.declared.cmp.Ordering.TheVariants.{Less, Equal, Greater}
 use Rattle.std.specs.Cmp.Lexicographic.{slice_cmp}
 use Rattle.std.proofs.lemmas.List.Folds.{list_all-append}
-use Rattle.rhd_value.specs.Tree.{Bytes, Tree}
+use Rattle.rhd_value.specs.Tree.{Bytes}
 use Rattle.rhd_value.specs.Same.{text_eq}
 use Rattle.rhd_hash.specs.declared.key.Key.{Key}
-use Rattle.rhd_hash.specs.declared.mixer.Seeds.{Seeds}
 use Rattle.rhd_hash.specs.Keys.{key_eq, with_path, is_typed_key}
 use Rattle.rhd_func.specs.Access.{is_private, is_global_namespace}
 use Rattle.rhd_decl.specs.declared.declaration.Declaration.{Declaration}
-use Rattle.rhd_module.specs.Tree.{ModuleTree, Lists, Subs, no_subs, sub, Pairs, empty_module}
-use Rattle.rhd_module.specs.Contents.{with_id, with_doc, with_var, with_sub, put_sub, find_sub, cleared}
-use Rattle.rhd_module.specs.Index.{indexed}
-use Rattle.rhd_module.specs.Walk.{unpathed, pathed, pairs_at, below as pairs_below, tree, qualified}
+use Rattle.rhd_module.specs.Tree.{ModuleTree, Lists, Subs, no_subs, sub, Pairs}
+use Rattle.rhd_module.specs.Contents.{with_sub, put_sub, find_sub}
+use Rattle.rhd_module.specs.Walk.{unpathed, pathed, pairs_at, below as pairs_below, tree}
 use Rattle.rhd_engine.specs.Held.{func_held, own_held, below_held, names_held, all_held, named_held}
-use Rattle.rhd_engine.specs.Lists.{Imports, latest_of, module_of, put_module, second}
+use Rattle.rhd_engine.specs.Lists.{Imports, module_of, put_module, second}
 use Rattle.rhd_engine.proofs.HeldLaws.{is_held, pairs_held, both, parts, found_held}
-use Rattle.rhd_engine.proofs.Indexed.{all_pushed, all_popped, all_put, all_found, all_latest}
+use Rattle.rhd_engine.proofs.Indexed.{all_put, all_found}
 
 three : (a b c : Bool) → a ≡ true → b ≡ true → c ≡ true → (a && (b && c)) ≡ true
 three a b c p q r = both a (b && c) p (both b c q r)

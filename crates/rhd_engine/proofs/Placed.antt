@@ -1,6 +1,6 @@
 -- The modules that are made for a name: they are indexed, held where the added one is, and refused where their trees clash.
-use Rattle.std.proofs.Common.{◌≡◌, ℕ, zero, suc, ◌<◌, ◌≤◌, ◌-◌, get_or, take, drop, arith, Bool, true, false, cond, List, [], ◌∷◌, ◌++◌, length, Option, Some, None, refl, sym, ap, subst, ◌∙◌}
-use Rattle.std.specs.Prelude.{unwrap_or, is_none, if◌then◌else◌, Result, Ok, Err, OnOk, OnErr, IfErr, IsErr, IsErrAnd}
+use Rattle.std.proofs.Common.{◌≡◌, ℕ, zero, suc, ◌≤◌, ◌-◌, get_or, take, drop, arith, Bool, true, false, cond, List, [], ◌∷◌, length, Option, Some, None, refl, sym, ap, subst, ◌∙◌}
+use Rattle.std.specs.Prelude.{unwrap_or, is_none, Result, Ok, Err, OnOk, OnErr, IfErr, IsErr, IsErrAnd}
 use Rattle.std.specs.List.{AllByRecursion, Contains}
 use Rattle.std.specs.Option.{option_and_then}
 use Rattle.std.specs.Map.{keys_of}
@@ -16,8 +16,8 @@ use Rattle.rhd_module.specs.Contents.{named, with_id, with_sub, find_sub}
 use Rattle.rhd_module.specs.Walk.{tree}
 use Rattle.rhd_module.specs.Index.{NoneClash, Indexes, indexed}
 use Rattle.rhd_engine.specs.Held.{names_held, named_held}
-use Rattle.rhd_engine.specs.Lists.{Imports, module_of, put_module}
-use Rattle.rhd_engine.specs.Statics.{parts_of, placed, made, put_static, with_static, made_by, made_static, TreeClear, TreeClash, IsTreeRefusal, Places}
+use Rattle.rhd_engine.specs.Lists.{Imports, module_of}
+use Rattle.rhd_engine.specs.Statics.{parts_of, placed, made, put_static, with_static, made_by, TreeClear, TreeClash, IsTreeRefusal, Places}
 use Rattle.rhd_engine.proofs.HeldTrees.{sub_held, found_sub_held, put_held_module, module_held}
 
 -- What an id leaves.

@@ -1,7 +1,7 @@
 -- A key that a filter doesn't tell of is found nowhere in a tree.
 use Rattle.std.proofs.Common.{◌≡◌, ℕ, Bool, true, false, ◌&&◌, ◌||◌, ◌==◌, cond, List, [], ◌∷◌, ◌++◌, Option, None, Some, refl, sym, ap, ◌∙◌, eq-eqb, true≢false}
 use Rattle.std.specs.Prelude.{not, if◌then◌else◌}
-use Rattle.std.specs.List.{list_any, flat_map}
+use Rattle.std.specs.List.{list_any}
 use Rattle.std.specs.Map.{lookup}
 use Rattle.rhd_value.specs.Tree.{Bytes}
 use Rattle.rhd_hash.specs.declared.key.Key.{Key}
@@ -12,7 +12,7 @@ use Rattle.rhd_hash.specs.Parts.{untyped_key}
 use Rattle.rhd_hash.specs.Filter.{slot}
 use Rattle.rhd_func.specs.Access.{is_private, is_global_namespace}
 use Rattle.rhd_decl.specs.declared.declaration.Declaration.{Declaration}
-use Rattle.rhd_module.specs.Tree.{ModuleTree, Lists, Subs, no_subs, sub, Pairs}
+use Rattle.rhd_module.specs.Tree.{ModuleTree, Subs, no_subs, sub, Pairs}
 use Rattle.rhd_module.specs.Walk.{unpathed, pathed, pairs_at, below, tree}
 use Rattle.rhd_module.specs.Below.{some_below, some_in, may_be_dynamic, declares_dynamic, may_contain}
 

@@ -28,7 +28,7 @@ use Rattle.rhd_module.specs.Tree.{ModuleTree, Lists, Pairs, subs_of}
 use Rattle.rhd_module.specs.Shown.{shown}
 use Rattle.rhd_module.specs.Walk.{unpathed, pathed, pairs_at, below, walk, tree}
 use Rattle.rhd_module.specs.Below.{some_below, some_in, declares_global, declares_dynamic}
-use Rattle.rhd_module.specs.Index.{Indexed, Fills, IsClash, IsFilter, IsIndexOf, NoneClash, Indexes, filled}
+use Rattle.rhd_module.specs.Index.{Indexed, Fills, IsClash, IsIndexOf, NoneClash, Indexes, filled}
 use Rattle.rhd_module.proofs.Filled.{Funcs, has_key, has_filled, filled_append, first_filled_empty, clash_among, clash_before, clash_filled}
 
 pub or_false : (b : Bool) → (b || false) ≡ b

@@ -1,5 +1,5 @@
 -- What a module keeps of its own declarations and of its tree, after a declaration is put or its comments are set.
-use Rattle.std.proofs.Common.{◌≡◌, ℕ, ◌==◌, ◌&&◌, ◌||◌, not, Bool, true, false, cond, List, [], ◌∷◌, ◌++◌, map, Option, None, Some, is_none, refl, sym, ap, subst, ◌∙◌, true≢false}
+use Rattle.std.proofs.Common.{◌≡◌, ℕ, ◌==◌, ◌&&◌, ◌||◌, not, Bool, true, false, cond, List, [], ◌∷◌, ◌++◌, Option, None, Some, is_none, refl, sym, ap, subst, ◌∙◌, true≢false}
 use Rattle.std.specs.Option.{option_map}
 use Rattle.std.specs.List.{list_any}
 use Rattle.std.specs.Map.{lookup, keys_of}
@@ -16,8 +16,8 @@ use Rattle.rhd_module.specs.Tree.{ModuleTree, Lists, Pairs}
 use Rattle.rhd_module.specs.Contents.{commented, comment_on}
 use Rattle.rhd_module.specs.Registered.{put}
 use Rattle.rhd_module.specs.Walk.{unpathed, pathed, pairs_at, below, tree}
-use Rattle.rhd_module.specs.Below.{dynamic_hash, has_slot, some_below, some_in, declares_global, may_be_dynamic, declares_dynamic}
-use Rattle.rhd_module.specs.Index.{Indexed, IsFilter, IsIndexOf, IsKept, NoneClash}
+use Rattle.rhd_module.specs.Below.{dynamic_hash, has_slot, some_below, declares_global, may_be_dynamic, declares_dynamic}
+use Rattle.rhd_module.specs.Index.{Indexed, IsFilter, IsIndexOf, NoneClash}
 
 or_false : (b : Bool) → (b || false) ≡ b
 or_false true = refl

@@ -1,5 +1,5 @@
 -- The pairs of a module and of all below it, under which its functions are found by a qualified name.
-use Rattle.std.specs.Prelude.{Bool, true, false, not, ◌&&◌, ◌||◌, List, [], ◌∷◌, ◌++◌, if◌then◌else◌, Option}
+use Rattle.std.specs.Prelude.{not, ◌&&◌, ◌||◌, List, [], ◌∷◌, ◌++◌, if◌then◌else◌, Option}
 use Rattle.std.specs.List.{flat_map}
 use Rattle.std.specs.Map.{lookup}
 use Rattle.rhd_value.specs.Tree.{Bytes}
@@ -7,7 +7,7 @@ use Rattle.rhd_hash.specs.declared.key.Key.{Key}
 use Rattle.rhd_hash.specs.Keys.{key_eq, with_path, is_typed_key}
 use Rattle.rhd_func.specs.Access.{is_private, is_global_namespace}
 use Rattle.rhd_decl.specs.declared.declaration.Declaration.{Declaration}
-use Rattle.rhd_module.specs.Tree.{ModuleTree, Lists, Subs, no_subs, sub, Pairs}
+use Rattle.rhd_module.specs.Tree.{ModuleTree, Subs, no_subs, sub, Pairs}
 use Rattle.rhd_module.specs.Shown.{shown}
 
 -- where it is global and isn't private: under its key without a path; a private typed script method too

@@ -1,4 +1,4 @@
-use Rattle.std.proofs.Common.{◌≡◌, ◌∷◌, [], ◌++◌, sym, ap, ◌∙◌, append_assoc}
+use Rattle.std.proofs.Common.{◌∷◌, [], ◌++◌, sym, ap, ◌∙◌, append_assoc}
 use Rattle.rhd_module.specs.Below.{may_be_dynamic}
 use Rattle.rhd_module.specs.Tree.{Pairs}
 use Rattle.rhd_module.proofs.Fills.{marks_more}

@@ -1,4 +1,4 @@
-use Rattle.std.proofs.Common.{◌≡◌, ℕ, List, ◌++◌, [], false, take}
+use Rattle.std.proofs.Common.{◌≡◌, ◌++◌, [], false}
 use Rattle.std.specs.List.{list_any}
 use Rattle.rhd_module.specs.Below.{may_be_dynamic}
 use Rattle.rhd_module.specs.Tree.{Pairs}

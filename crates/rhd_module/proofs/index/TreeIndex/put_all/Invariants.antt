@@ -1,4 +1,4 @@
-use Rattle.std.proofs.Common.{◌≡◌, List, ◌++◌, false}
+use Rattle.std.proofs.Common.{◌≡◌, ◌++◌, false}
 use Rattle.std.specs.List.{list_any}
 use Rattle.rhd_func.specs.Access.{is_global_namespace}
 use Rattle.rhd_module.specs.Tree.{Pairs}

@@ -1,11 +1,11 @@
-use Rattle.std.proofs.Common.{◌≡◌, ◌∷◌, [], ◌++◌, List, Bool, sym, ap, subst, ◌∙◌, append_assoc, append-nil, Global, ℕ}
+use Rattle.std.proofs.Common.{◌≡◌, ◌∷◌, [], ◌++◌, List, sym, ap, subst, ◌∙◌, append_assoc, append-nil, Global}
 use Rattle.std.specs.declared.rc.Rc.{Rc}
 use Rattle.std.specs.Map.{keys_of}
 use Rattle.std.specs.Result.{OnOk, IfErr}
 use Rattle.rhd_value.specs.Tree.{Bytes}
 use Rattle.rhd_module.specs.Tree.{ModuleTree, Pairs, subs_of}
 use Rattle.rhd_module.specs.Shown.{shown}
-use Rattle.rhd_module.specs.Walk.{walk, below, pairs_at}
+use Rattle.rhd_module.specs.Walk.{walk, below}
 use Rattle.rhd_module.specs.Below.{some_below, some_in, declares_global, declares_dynamic}
 use Rattle.rhd_module.specs.Index.{Fills, IsClash}
 use Rattle.rhd_module.specs.contracts.module.Module.{the_view}

@@ -1,9 +1,6 @@
-use Rattle.std.proofs.Common.{◌≡◌, true, refl, sym, ap, subst, ◌∙◌}
-use Rattle.rhd_decl.specs.Flags.{Flagged}
+use Rattle.std.proofs.Common.{◌≡◌, true, sym, subst, ◌∙◌}
 use Rattle.rhd_module.specs.Tree.{ModuleTree}
-use Rattle.rhd_module.specs.Index.{IsIndexOf, indexed}
-use Rattle.rhd_module.specs.contracts.module.Module.{the_view}
-use Rattle.rhd_module.proofs.Fills.{index_refused}
+use Rattle.rhd_module.specs.Index.{IsIndexOf}
 use Rattle.rhd_module.proofs.module.Module.build_index.Goals as goal
 
 pub returns-then-has_index : goal.returns-then-has_index
