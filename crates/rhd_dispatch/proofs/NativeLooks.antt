@@ -1,6 +1,6 @@
 -- Where no module may have a native, none is found.
 use Rattle.std.proofs.Common.{◌≡◌, ℕ, ◌+◌, Bool, true, false, cond, ◌&&◌, ◌||◌, List, [], ◌∷◌, ◌++◌, length, refl, sym, ap, ◌∙◌}
-use Rattle.std.specs.Prelude.{suc, not, ◌-◌, Option, Some, None, reverse, option_map}
+use Rattle.std.specs.Prelude.{suc, ◌-◌, Option, Some, None, reverse, option_map}
 use Rattle.std.specs.List.{list_any, enumerate_from}
 use Rattle.std.specs.Map.{lookup}
 use Rattle.std.proofs.lemmas.Slice.Eq.{bytes_eq-Decides}

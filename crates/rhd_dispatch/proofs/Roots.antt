@@ -20,7 +20,7 @@ use Rattle.rhd_engine.specs.Engine.{EngineLists, Imports}
 use Rattle.rhd_dispatch.specs.Patterns.{patterns}
 use Rattle.rhd_dispatch.specs.Picks.{named_places, root_of, after_root, pick_in, qualified_asks, looked_in, pick_qualified}
 use Rattle.rhd_dispatch.specs.Searched.{Place, pick_at}
-use Rattle.rhd_dispatch.specs.Walks.{numbered, latest, place_of_tree, named_at, native_at, first_match}
+use Rattle.rhd_dispatch.specs.Walks.{numbered, latest, place_of_tree, named_at}
 
 -- of named things, the first of a name
 named_first : (layer : ℕ → Layer) (name : Bytes) (xs : List (ℕ × (Bytes × ModuleTree))) → lookup (text_eq name) (map (λ p. (p.1.0, place_of_tree layer p)) xs) ≡ first_of (named_at layer name) xs

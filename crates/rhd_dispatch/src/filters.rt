@@ -19,14 +19,14 @@ pub(crate) fn may_have(place: &Module, name: &Text, params: u64) -> bool
 
 /// The same, of a name and a number whose hash is at hand.
 fn tree_may_have(place: &Module, name: HashedName) -> bool
-    ensures { result ≡ may_have name.name.now name.params place.now }
+    ensures { result ≡ may_have name.entry.name.now name.entry.params place.now }
 {
     place.may_contain_dynamic_fn(name.hash_under(place.seeds()))
 }
 
 /// The same of some import.
 pub(crate) fn any_import_may_have(imports: &[(Text, SharedModule)], name: HashedName) -> bool
-    ensures { result ≡ any_may_have name.name.now name.params imports.now }
+    ensures { result ≡ any_may_have name.entry.name.now name.entry.params imports.now }
 {
     for (_name, shared) in imports {
         if tree_may_have(shared.module(), name) {
@@ -38,7 +38,7 @@ pub(crate) fn any_import_may_have(imports: &[(Text, SharedModule)], name: Hashed
 
 /// The same of some static module. Each of them is indexed.
 pub(crate) fn any_static_may_have(statics: &ModuleMap, name: HashedName) -> bool
-    ensures found { result ≡ any_may_have name.name.now name.params statics.now }
+    ensures found { result ≡ any_may_have name.entry.name.now name.entry.params statics.now }
     ensures indexed { all_indexed statics.now ≡ true }
 {
     for (_name, shared) in statics.iter() {

@@ -1,4 +1,4 @@
-use Rattle.std.proofs.Common.{Bool, List, length, ap, sym, ◌∙◌}
+use Rattle.std.proofs.Common.{◌≡◌, Bool, List, length, ap, sym, ◌∙◌}
 use Rattle.std.specs.List.{list_any}
 use Rattle.rhd_engine.specs.Engine.{Imports}
 use Rattle.rhd_engine.specs.Lists.{all_indexed}
@@ -11,11 +11,13 @@ use Rattle.rhd_dispatch.proofs.look.NativesOfLook.may_match.Goals as goal
 pub returns : goal.returns
 returns g c none types matches dynamic =
     let any : List ModuleTree → Bool = λ ms. list_any (λ m. may_match m c.args.place c.args.self.now.name.now c.args.kinds.now) ms in
-    let have : Imports → Bool = λ es. any_may_have c.args.self.now.name.now (length c.args.kinds.now) es in
+    let count : length c.args.kinds.now ≡ c.args.self.now.hashed.params = c.if-kinds-params.false ∙ c.params.ensures in
+    let have : (es same : Imports) → es ≡ same → any_may_have c.args.self.now.name.now (length c.args.kinds.now) same ≡ any_may_have c.args.self.now.hashed.name.now c.args.self.now.hashed.params es =
+        λ es same is. (λ i. any_may_have (sym c.args.self.now.is_name i) (count i) (sym is i)) in
     let indexed : Imports → Bool = λ es. all_indexed es in
     not_found c.args.self.now.state.now.lib c.args.self.now.engine.now.globals c.args.self.now.state.now.imports c.args.self.now.engine.now.statics c.args.place c.args.self.now.name.now c.args.kinds.now types
     c.as_slice-2.ensures.indexed (ap indexed (sym c.static_modules.ensures) ∙ c.any_static_may_have.ensures.indexed) matches dynamic
     (ap any (sym c.global_modules.ensures) ∙ sym c.any_may_match.ensures ∙ c.if-any_may_match.false)
     (ap any (sym c.as_slice.ensures) ∙ sym c.any_may_match-2.ensures ∙ c.if-any_may_match-2.false)
-    (ap have (sym c.as_slice-2.ensures.items) ∙ sym c.any_import_may_have.ensures ∙ c.if-any_import_may_have.false)
-    (ap have (sym c.static_modules.ensures) ∙ sym c.any_static_may_have.ensures.found ∙ none)
+    (have c.as_slice-2.result.now c.args.self.now.state.now.imports c.as_slice-2.ensures.items ∙ sym c.any_import_may_have.ensures ∙ c.if-any_import_may_have.false)
+    (have c.static_modules.result.now c.args.self.now.engine.now.statics c.static_modules.ensures ∙ sym c.any_static_may_have.ensures.found ∙ none)
