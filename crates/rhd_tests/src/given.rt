@@ -1,0 +1,104 @@
+//! What tests are made of: small values, keys and scripts.
+
+ghost use Rattle.std.specs.Prelude.{◌≡◌};
+
+use rhd_func::{BodyId, CallShape, FnAccess, ScriptFuncDef};
+use rhd_hash::{Key, Seeds};
+use rhd_value::{Dynamic, Text, Texts, TypeTag, Types, Value, Values};
+use std::alloc::Global;
+use std::process::Abort;
+
+/// Seeds under which no two keys of a test clash.
+pub const SEEDS: Seeds = Seeds {
+    seed0: 0,
+    seed1: 0,
+    mask: u64::MAX,
+};
+
+/// Seeds under which all keys have one hash.
+pub const CLASHING: Seeds = Seeds {
+    seed0: 0,
+    seed1: 0,
+    mask: 0,
+};
+
+/// Stops the test where something doesn't hold.
+pub fn holds(rt: &impl Abort, fact: bool, what: &str) {
+    assert!(rt; fact, "{what}");
+}
+
+/// What a call made. Stops the test where it made nothing.
+pub fn must<T, E: Drop>(rt: &impl Abort, made: Result<T, E>, what: &str) -> T
+    ensures { made ≡ Ok result }
+{
+    match made {
+        Ok(made) => made,
+        Err(_) => panic!(rt; "{what}"),
+    }
+}
+
+/// A text; empty where memory ran out.
+pub fn text(alloc: Global, word: &str) -> Text {
+    let mut text = Text::new(alloc);
+    let _ = text.push(word);
+    text
+}
+
+/// One text; none where memory ran out.
+pub fn texts(alloc: Global, word: &str) -> Texts {
+    let mut texts = Texts::new(alloc);
+    let _ = texts.push(text(alloc, word));
+    texts
+}
+
+/// One type; none where memory ran out.
+pub fn types(alloc: Global, tag: TypeTag) -> Types {
+    let mut types = Types::new(alloc);
+    let _ = types.push(tag);
+    types
+}
+
+pub fn int(number: i64) -> Dynamic {
+    Dynamic::from(Value::Int(number))
+}
+
+/// One value; none where memory ran out.
+pub fn one(alloc: Global, value: Dynamic) -> Values {
+    let mut values = Values::new(alloc);
+    let _ = values.push(value);
+    values
+}
+
+/// One argument by value.
+pub fn plain(alloc: Global, number: i64) -> CallShape {
+    CallShape::Plain(one(alloc, int(number)))
+}
+
+/// The key of a script without parameters.
+pub fn script_key(alloc: Global, word: &str) -> Key {
+    Key::Script {
+        path: None,
+        name: text(alloc, word),
+        params: 0,
+    }
+}
+
+/// The key of a native of one type.
+pub fn native_key(alloc: Global, word: &str, tag: TypeTag) -> Key {
+    Key::Native {
+        path: None,
+        name: text(alloc, word),
+        types: types(alloc, tag),
+    }
+}
+
+/// A script that takes nothing.
+pub fn script(alloc: Global, word: &str) -> ScriptFuncDef {
+    ScriptFuncDef {
+        name: text(alloc, word),
+        params: Texts::new(alloc),
+        this_type: None,
+        access: FnAccess::Public,
+        body: BodyId(0),
+    }
+}

@@ -1,0 +1,10 @@
+//! Tests of all crates: each public call once on the smallest arguments, and natives, bodies and hosts that
+//! are handed in. They stand in one crate, since a crate with tests is proved twice.
+#![tactic(auto)]
+
+#[cfg(test)]
+mod given;
+#[cfg(test)]
+mod names;
+#[cfg(test)]
+mod value;
