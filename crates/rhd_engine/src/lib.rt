@@ -14,8 +14,6 @@ mod placing;
 mod registering;
 mod state;
 mod statics;
-#[cfg(test)]
-mod tests;
 
 pub use builtins::{Builtins, Operator};
 pub use engine::Engine;

@@ -1,10 +1,15 @@
 //! What tests are made of: small values, keys and scripts.
 
-ghost use Rattle.std.specs.Prelude.{◌≡◌};
+ghost use Rattle.std.specs.Prelude.{◌≡◌, None, Ok};
+ghost use Rattle.rhd_module.specs.Tree.{empty_module};
 
-use rhd_func::{BodyId, CallShape, FnAccess, ScriptFuncDef};
+use rhd_func::{
+    BodyId, CallDone, CallShape, Carry, FnAccess, NativeCallContext, NativeStep, ScriptFuncDef,
+    SharedDef,
+};
 use rhd_hash::{Key, Seeds};
-use rhd_value::{Dynamic, Text, Texts, TypeTag, Types, Value, Values};
+use rhd_module::{FuncRegistration, Module, SharedModule};
+use rhd_value::{Dynamic, Position, Text, Texts, TypeTag, Types, Value, Values};
 use std::alloc::Global;
 use std::process::Abort;
 
@@ -100,5 +105,80 @@ pub fn script(alloc: Global, word: &str) -> ScriptFuncDef {
         this_type: None,
         access: FnAccess::Public,
         body: BodyId(0),
+    }
+}
+
+/// The same with several owners.
+pub fn shared_script(rt: &impl Abort, alloc: Global, word: &str) -> SharedDef {
+    must(rt, SharedDef::new(alloc, script(alloc, word)), "a script")
+}
+
+/// A module in which nothing is.
+pub fn empty(rt: &impl Abort, alloc: Global, seeds: Seeds) -> Module
+    ensures { result ≡ empty_module seeds }
+{
+    must(rt, Module::new(alloc, seeds), "a module")
+}
+
+/// The same with several owners.
+pub fn shared(rt: &impl Abort, alloc: Global, seeds: Seeds) -> SharedModule
+    ensures { result ≡ empty_module seeds }
+{
+    let module = empty(rt, alloc, seeds);
+    must(rt, SharedModule::new(alloc, module), "a shared module")
+}
+
+/// A registration under a name for all calls.
+pub fn for_all(rt: &impl Abort, alloc: Global, name: &str) -> FuncRegistration
+    ensures purity { result.purity ≡ None }
+    ensures volatility { result.volatility ≡ None }
+{
+    let made = FuncRegistration::new(alloc, text(alloc, name));
+    must(rt, made, "a registration").in_global_namespace()
+}
+
+/// What a function is told.
+pub fn context(alloc: Global) -> NativeCallContext {
+    NativeCallContext {
+        name: text(alloc, "f"),
+        source: None,
+        call_source: None,
+        pos: Position::NONE,
+        level: 1,
+        tag: int(0),
+    }
+}
+
+/// The answer of a call that a function asked for.
+pub fn answered(number: i64) -> CallDone {
+    CallDone {
+        answer: Ok(int(number)),
+        first: None,
+    }
+}
+
+/// Whether a step is the end with this number.
+pub fn is_done(step: &NativeStep, number: i64) -> bool {
+    match step {
+        NativeStep::Done { answer, .. } => answer.as_int() == Some(number),
+        _ => false,
+    }
+}
+
+/// What a function keeps that asks for a call.
+pub fn carry_of(step: NativeStep) -> Option<Carry> {
+    match step {
+        NativeStep::Ask {
+            request: _request,
+            carry,
+        } => Some(carry),
+        NativeStep::Done {
+            answer: _answer,
+            first: _first,
+        } => None,
+        NativeStep::Failed {
+            fault: _fault,
+            first: _first,
+        } => None,
     }
 }

@@ -3,8 +3,28 @@
 #![tactic(auto)]
 
 #[cfg(test)]
+mod decl;
+#[cfg(test)]
+mod dispatch;
+#[cfg(test)]
+mod engine;
+#[cfg(test)]
+mod foreign;
+#[cfg(test)]
+mod func;
+#[cfg(test)]
 mod given;
 #[cfg(test)]
+mod hash;
+#[cfg(test)]
+mod module;
+#[cfg(test)]
 mod names;
+#[cfg(test)]
+mod session;
+#[cfg(test)]
+mod text;
+#[cfg(test)]
+mod tool;
 #[cfg(test)]
 mod value;

@@ -122,6 +122,7 @@ fn check_tokens(rt: &impl Abort, texts: &str, tokens: &[OpToken], assigns: bool)
             "{text}"
         );
         assert!(rt; lookup_symbol_from_syntax(text) == token, "{text}");
+        assert!(rt; token.is_some_and(|t| t.text() == text), "{text}");
         check_text(rt, text, false, false);
     }
     assert!(rt; tokens.next().is_none());

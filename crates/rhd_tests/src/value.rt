@@ -5,7 +5,7 @@ use rhd_value::{
     Dynamic, Entries, EvalAltResult, FnId, FnPtr, FnPtrType, OutOfMemory, ParseErrorType, Position,
     Sizes, Text, Texts, TypeTag, Types, Value, Values, Variant, a_value_comes_back, map_type,
 };
-use std::alloc::{AllocError, Global};
+use std::alloc::{AllocError, AllocFailed, Global};
 use std::cmp::Ordering;
 use std::process::Abort;
 use std::test::Fail;
@@ -78,6 +78,8 @@ fn types_are_named(rt: HostRuntime) -> Result<(), Fail> {
     holds(&rt, kept == TypeTag::Str, "without a map");
     let fault = OutOfMemory::from(AllocError);
     holds(&rt, fault == OutOfMemory, "want of memory");
+    let fault = OutOfMemory::from(AllocFailed { value: 1u8 });
+    holds(&rt, fault == OutOfMemory, "with a value");
     Ok(())
 }
 
@@ -240,6 +242,14 @@ fn values_are_told_apart(rt: HostRuntime) {
     holds(&rt, held && word.as_bool().is_none(), "a text");
 }
 
+/// Whether a fault tells that `x` is reserved.
+fn is_reserved(fault: &EvalAltResult) -> bool {
+    match fault {
+        EvalAltResult::ErrorParsing(ParseErrorType::Reserved(name), _pos) => name.as_str() == "x",
+        _ => false,
+    }
+}
+
 #[test]
 fn faults_are_copied(rt: HostRuntime) {
     let alloc = rt.alloc();
@@ -247,13 +257,7 @@ fn faults_are_copied(rt: HostRuntime) {
     let dup = must(&rt, error.dup(alloc), "an error is copied");
     let fault = EvalAltResult::ErrorParsing(dup, Position::NONE);
     let dup = must(&rt, fault.dup(alloc), "a fault is copied");
-    let same = match dup {
-        EvalAltResult::ErrorParsing(ParseErrorType::Reserved(name), Position::NONE) => {
-            name.as_str() == "x"
-        }
-        _ => false,
-    };
-    holds(&rt, same, "the same fault");
+    holds(&rt, is_reserved(&dup), "the same fault");
 }
 
 /// Rust values that become values and come back.
