@@ -272,7 +272,10 @@ fn answers_are_copied(rt: HostRuntime) {
     let dup = must(&rt, carry.dup(alloc), "a carry is copied");
     holds(&rt, dup.kept.as_int() == Some(1), "what is kept");
     let dup = must(&rt, answered(2).dup(alloc), "an answer is copied");
-    let answer = dup.answer.is_ok_and(|v| v.as_int() == Some(2));
+    let answer = match &dup.answer {
+        Ok(value) => value.as_int() == Some(2),
+        Err(_) => false,
+    };
     holds(&rt, answer, "what is answered");
     let told = HostAnswer::Value(int(3));
     let dup = must(&rt, told.dup(alloc), "a host's answer is copied");

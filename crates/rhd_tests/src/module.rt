@@ -220,7 +220,7 @@ fn scripts_are_described(rt: HostRuntime) {
     let shared = must(&rt, SharedDef::new(alloc, def), "shared");
     let made = script_declaration(alloc, SEEDS, shared, None);
     let declaration = must(&rt, made, "a declaration");
-    let metadata = declaration.metadata;
+    let metadata = &declaration.metadata;
     holds(&rt, metadata.hash == key.mixed(SEEDS), "its hash");
     let internal = metadata.namespace == FnNamespace::Internal;
     holds(

@@ -73,7 +73,10 @@ fn picks_are_copied(rt: HostRuntime) {
         source: Some(must(&rt, source, "an id")),
     };
     let dup = must(&rt, pick.dup(alloc), "a pick is copied");
-    let source = dup.source.is_some_and(|id| id.text().as_str() == "m");
+    let source = match &dup.source {
+        Some(id) => id.text().as_str() == "m",
+        None => false,
+    };
     holds(&rt, source && dup.layer == Layer::Builtin, "equal");
 }
 
