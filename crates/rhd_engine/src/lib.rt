@@ -15,8 +15,6 @@ mod placing;
 mod registering;
 mod state;
 mod statics;
-#[cfg(test)]
-mod tests;
 
 pub use builtins::{Builtins, Operator};
 pub use engine::Engine;

@@ -11,8 +11,6 @@ mod native;
 mod natives;
 mod request;
 mod shared_text;
-#[cfg(test)]
-mod tests;
 
 pub use access::{EnvId, FnAccess, FnNamespace, IterId, ManifestId};
 pub use bodies::Bodies;

@@ -12,8 +12,6 @@ mod mixer;
 mod steps;
 mod straight;
 mod table;
-#[cfg(test)]
-mod tests;
 
 pub use call_hashes::FnCallHashes;
 pub use fault::TableFault;

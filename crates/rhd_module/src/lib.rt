@@ -11,8 +11,6 @@ mod registration;
 mod script_search;
 mod setters;
 mod shared;
-#[cfg(test)]
-mod tests;
 
 pub use law::{a_declaration_leaves_the_others, a_key_finds_its_first_declaration};
 pub use module::Module;

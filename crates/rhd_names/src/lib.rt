@@ -3,8 +3,6 @@
 
 mod law;
 mod names;
-#[cfg(test)]
-mod tests;
 mod token;
 
 pub use law::{

@@ -27,8 +27,6 @@ mod quoted;
 mod reading;
 mod requests;
 mod session;
-#[cfg(test)]
-mod tests;
 mod tree_law;
 mod values;
 mod wants;

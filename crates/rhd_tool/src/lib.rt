@@ -9,8 +9,6 @@ mod reading;
 mod sink;
 mod source;
 mod table_host;
-#[cfg(test)]
-mod tests;
 mod tool;
 mod values;
 mod writing;

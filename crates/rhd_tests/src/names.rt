@@ -1,6 +1,6 @@
 //! Tests against tables that stand here once more, and that calls succeed.
 
-use crate::{
+use rhd_names::{
     OpToken, is_anonymous_fn, is_reserved_keyword_or_symbol, is_valid_function_name,
     is_valid_identifier, lookup_symbol_from_syntax, make_getter, make_setter,
 };
@@ -122,6 +122,7 @@ fn check_tokens(rt: &impl Abort, texts: &str, tokens: &[OpToken], assigns: bool)
             "{text}"
         );
         assert!(rt; lookup_symbol_from_syntax(text) == token, "{text}");
+        assert!(rt; token.is_some_and(|t| t.text() == text), "{text}");
         check_text(rt, text, false, false);
     }
     assert!(rt; tokens.next().is_none());

@@ -1,15 +1,14 @@
-//! A native, bodies and a host other than those of this crate.
+//! A native, bodies and a host other than those of the tool.
 
-use crate::tests::{SEEDS, holds, int, text_of};
-use rhd_call::{Command, Commands};
+use crate::given::{SEEDS, holds, int, text};
 use rhd_engine::{Builtins, Limits, Printers};
 use rhd_func::{
     Bodies, CallDone, CallRequest, CallShape, Carry, Host, HostAnswer, NativeCallContext,
     NativeStep, Natives, PluginFunc, ScriptFuncDef,
 };
-use rhd_session::Session;
+use rhd_session::{Command, Commands, Session};
 use rhd_text::{print_replies, read_call};
-use rhd_value::{Dynamic, EvalAltResult, OutOfMemory, Position, Text, TypeTag, Values};
+use rhd_value::{Dynamic, EvalAltResult, FnId, OutOfMemory, Position, Text, TypeTag, Values};
 use std::alloc::Global;
 use std::process::Abort;
 
@@ -151,8 +150,8 @@ impl Host for Counts {
 fn commands(alloc: Global) -> Commands {
     let mut commands = Commands::new(alloc);
     let _ = commands.push(Command::RegisterFn {
-        name: text_of(alloc, "f"),
-        id: rhd_value::FnId(0),
+        name: text(alloc, "f"),
+        id: FnId(0),
     });
     for line in [b"call f".as_slice(), b"ref g 1".as_slice()] {
         if let Ok(Some(call)) = read_call(alloc, line, 1) {

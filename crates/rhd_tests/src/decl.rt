@@ -1,0 +1,184 @@
+//! Custom types, flags, declarations and their faults.
+
+use crate::given::{holds, must, script_key, text, texts};
+use bitflags::Flags;
+use rhd_decl::{
+    CustomTypeInfo, CustomTypesCollection, DeclFault, Declaration, FuncMetadata, ModuleFlags,
+    Switches,
+};
+use rhd_func::{FnAccess, FnNamespace, RhaiFunc};
+use rhd_hash::TableFault;
+use rhd_value::{FnId, OutOfMemory, Text, Texts, Types};
+use std::alloc::{AllocError, AllocFailed, Global};
+use std::process::Abort;
+use std::test::Fail;
+
+/// How a type is shown: as `N`, with a comment.
+fn shown(alloc: Global) -> CustomTypeInfo {
+    CustomTypeInfo {
+        type_name: text(alloc, "t"),
+        display_name: text(alloc, "N"),
+        comments: texts(alloc, "c"),
+    }
+}
+
+#[test]
+fn types_are_copied(rt: HostRuntime) -> Result<(), Fail> {
+    let alloc = rt.alloc();
+    let info = shown(alloc);
+    let dup = info.dup(alloc)?;
+    holds(&rt, dup.display_name == info.display_name, "dup");
+    let clone = info.clone()?;
+    holds(&rt, clone.comments == info.comments, "clone");
+    Ok(())
+}
+
+/// Whether a type of this type name is shown as `N`.
+fn has(types: &CustomTypesCollection, name: &Text) -> bool {
+    types
+        .get(name)
+        .is_some_and(|info| info.display_name.as_str() == "N")
+}
+
+/// Calls that put a type in.
+fn check_types(rt: &impl Abort, alloc: Global, types: &mut CustomTypesCollection) {
+    let name = text(alloc, "N");
+    holds(rt, types.add(alloc, text(alloc, "a"), name).is_ok(), "add");
+    let name = text(alloc, "N");
+    let comments = texts(alloc, "c");
+    let added = types.add_with_comments(alloc, text(alloc, "b"), name, comments);
+    holds(rt, added.is_ok(), "add_with_comments");
+    let added = types.add_raw(alloc, text(alloc, "c"), shown(alloc));
+    holds(rt, added.is_ok(), "add_raw");
+}
+
+/// Calls that put a custom type in.
+fn check_kinds(rt: &impl Abort, alloc: Global, types: &mut CustomTypesCollection) {
+    let name = text(alloc, "N");
+    holds(rt, types.add_type(alloc, 1, name).is_ok(), "add_type");
+    let name = text(alloc, "N");
+    let comments = texts(alloc, "c");
+    let added = types.add_type_with_comments(alloc, 2, name, comments);
+    holds(rt, added.is_ok(), "add_type_with_comments");
+}
+
+#[test]
+fn types_are_collected(rt: HostRuntime) {
+    let alloc = rt.alloc();
+    let mut types = CustomTypesCollection::new(alloc);
+    check_types(&rt, alloc, &mut types);
+    check_kinds(&rt, alloc, &mut types);
+    let copy = must(&rt, types.dup(alloc), "types are copied");
+    for name in ["a", "b", "c", "custom1", "custom2"] {
+        holds(&rt, has(&copy, &text(alloc, name)), name);
+    }
+    let mut count = 0u8;
+    for _ in copy.iter() {
+        count = count.saturating_add(1);
+    }
+    holds(&rt, count == 5, "five types");
+    types.clear();
+    holds(&rt, types.get(&text(alloc, "a")).is_none(), "cleared");
+}
+
+#[test]
+fn flags_are_set(rt: HostRuntime) {
+    let mut made = Switches::new();
+    holds(
+        &rt,
+        !made.is_internal() && !made.is_standard(),
+        "none is set",
+    );
+    made.set_internal(true);
+    holds(&rt, made.is_internal(), "internal");
+    made.set_standard(true);
+    holds(&rt, made.is_standard() && !made.is_indexed(), "standard");
+    made.set_indexed(true);
+    let dup = made.dup();
+    holds(&rt, dup.is_indexed(), "indexed");
+    made.set_internal(false);
+    holds(&rt, !made.is_internal() && dup.is_internal(), "taken back");
+}
+
+#[test]
+fn flags_are_bits(rt: HostRuntime) {
+    let both = ModuleFlags::from_bits_retain(5);
+    holds(&rt, both.bits() == 5, "two bits");
+    holds(&rt, both.contains(ModuleFlags::INDEXED), "indexed");
+    holds(&rt, !both.contains(ModuleFlags::STANDARD), "not standard");
+    let named = ModuleFlags::flags().iter().map(|f| f.name());
+    holds(&rt, named.eq(["INTERNAL", "STANDARD", "INDEXED"]), "names");
+}
+
+/// A native without parameters, and what is said of it.
+fn declaration(alloc: Global) -> Declaration {
+    Declaration {
+        func: RhaiFunc::plugin(FnId(0)),
+        metadata: FuncMetadata {
+            hash: 1,
+            namespace: FnNamespace::Global,
+            access: FnAccess::Public,
+            name: text(alloc, "f"),
+            num_params: 0,
+            param_types: Types::new(alloc),
+            params_info: Texts::new(alloc),
+            return_type: Text::new(alloc),
+            comments: texts(alloc, "c"),
+        },
+    }
+}
+
+#[test]
+fn declarations_are_copied(rt: HostRuntime) {
+    let alloc = rt.alloc();
+    let made = declaration(alloc);
+    let metadata = must(&rt, made.metadata.dup(alloc), "metadata is copied");
+    holds(
+        &rt,
+        metadata.name.as_str() == "f" && metadata.hash == 1,
+        "of f",
+    );
+    let dup = must(&rt, made.dup(alloc), "a declaration is copied");
+    holds(&rt, dup.func.is_plugin_fn(), "a plugin");
+}
+
+/// Whether a fault tells that keys of `f` and `g` clash.
+fn is_collision(fault: &DeclFault) -> bool {
+    match fault {
+        DeclFault::HashCollision { held, new } => {
+            held.name().as_str() == "f" && new.name().as_str() == "g"
+        }
+        _ => false,
+    }
+}
+
+#[test]
+fn faults_are_made(rt: HostRuntime) {
+    let alloc = rt.alloc();
+    let clash = TableFault::Clash {
+        held: script_key(alloc, "f"),
+        new: script_key(alloc, "g"),
+    };
+    let fault = DeclFault::from(clash);
+    holds(&rt, is_collision(&fault), "a clash");
+    let dup = must(&rt, fault.dup(alloc), "a fault is copied");
+    holds(&rt, is_collision(&dup), "the same clash");
+    let memory = DeclFault::from(OutOfMemory);
+    holds(
+        &rt,
+        matches!(memory, DeclFault::OutOfMemory),
+        "want of memory",
+    );
+    let memory = DeclFault::from(AllocError);
+    holds(
+        &rt,
+        matches!(memory, DeclFault::OutOfMemory),
+        "of the allocator",
+    );
+    let memory = DeclFault::from(AllocFailed { value: 1u8 });
+    holds(
+        &rt,
+        matches!(memory, DeclFault::OutOfMemory),
+        "with a value",
+    );
+}

@@ -1,0 +1,285 @@
+//! Functions, natives, requests and what calls are answered: how they are made, read, copied and shown.
+
+ghost use Rattle.std.specs.Prelude.{◌<◌, length};
+
+use crate::given::{
+    answered, carry_of, context, holds, int, is_done, must, one, plain, script, text, texts,
+};
+use rhd_func::{
+    BodyId, CallRequest, CallShape, Carry, FnAccess, FnNamespace, HostAnswer, IterId, Natives,
+    PluginFunc, RhaiFunc, ScriptFuncDef, SharedDef, SharedText,
+};
+use rhd_tool::kit;
+use rhd_value::{Dynamic, FnId, Position, Value};
+use std::alloc::Global;
+use std::process::Abort;
+use std::test::Fail;
+
+/// A native that takes its arguments by value.
+fn by_value() -> RhaiFunc {
+    RhaiFunc::Pure {
+        func: FnId(0),
+        has_context: false,
+        is_pure: true,
+        is_volatile: false,
+    }
+}
+
+/// A native that takes its first argument by reference.
+fn by_reference() -> RhaiFunc {
+    RhaiFunc::Method {
+        func: FnId(1),
+        has_context: true,
+        is_pure: true,
+        is_volatile: true,
+    }
+}
+
+/// A private method `f` of integers with one parameter.
+fn private_method(alloc: Global) -> ScriptFuncDef {
+    ScriptFuncDef {
+        name: text(alloc, "f"),
+        params: texts(alloc, "p"),
+        this_type: Some(text(alloc, "i64")),
+        access: FnAccess::Private,
+        body: BodyId(0),
+    }
+}
+
+#[test]
+fn natives_are_shown(rt: HostRuntime) -> Result<(), Fail> {
+    let alloc = rt.alloc();
+    let pure = by_value();
+    let shown = format!(in alloc; "{pure} {pure:?}")?;
+    let wanted = "NativePureFunction NativePureFunction";
+    holds(&rt, shown.as_str() == wanted, "by value");
+    let method = by_reference();
+    let iterator = RhaiFunc::Iterator { func: IterId(0) };
+    let shown = format!(in alloc; "{method} {iterator}")?;
+    holds(
+        &rt,
+        shown.as_str() == "NativeMethod NativeIterator",
+        "others",
+    );
+    let plugin = RhaiFunc::plugin(FnId(0));
+    let listed = RhaiFunc::StaticPlugin { func: FnId(0) };
+    let shown = format!(in alloc; "{plugin} {listed}")?;
+    holds(
+        &rt,
+        shown.as_str() == "PluginFunction PluginFunction",
+        "plugins",
+    );
+    Ok(())
+}
+
+#[test]
+fn scripts_are_shown(rt: HostRuntime) -> Result<(), Fail> {
+    let alloc = rt.alloc();
+    let mut def = script(alloc, "f");
+    def.params = texts(alloc, "p");
+    let _ = def.params.push(text(alloc, "q"));
+    let public = RhaiFunc::from(must(&rt, SharedDef::new(alloc, def), "shared"));
+    let shown = format!(in alloc; "{public:?}")?;
+    holds(&rt, shown.as_str() == "f(p, q)", "public");
+    let def = private_method(alloc);
+    let private = RhaiFunc::from(must(&rt, SharedDef::new(alloc, def), "shared"));
+    let shown = format!(in alloc; "{private}")?;
+    holds(&rt, shown.as_str() == "private i64.f(p)", "private");
+    Ok(())
+}
+
+#[test]
+fn access_is_told(rt: HostRuntime) {
+    let private = FnAccess::Private;
+    holds(&rt, private.is_private() && !private.is_public(), "private");
+    let global = FnNamespace::Global;
+    holds(&rt, global.is_global_namespace(), "found by all");
+    holds(
+        &rt,
+        !global.is_module_namespace(),
+        "not in its module alone",
+    );
+}
+
+#[test]
+fn definitions_are_shared(rt: HostRuntime) {
+    let alloc = rt.alloc();
+    let def = private_method(alloc);
+    let dup = must(&rt, def.dup(alloc), "a script is copied");
+    holds(
+        &rt,
+        dup.name == def.name && dup.params == def.params,
+        "equal",
+    );
+    let shared = must(&rt, SharedDef::new(alloc, dup), "shared");
+    let other = must(&rt, shared.dup(alloc), "another owner");
+    holds(&rt, other.def().name == def.name, "of the same");
+    let made = SharedText::new(alloc, text(alloc, "a"));
+    let made = must(&rt, made, "a text that is shared");
+    let other = must(&rt, made.dup(alloc), "another owner");
+    holds(&rt, other.text().as_str() == "a", "of the same");
+}
+
+/// What a function says of itself where natives are asked.
+fn check_manner(rt: &impl Abort, natives: &Natives) {
+    let method = by_reference();
+    holds(
+        rt,
+        method.is_pure(natives) && method.is_method(natives),
+        "a method",
+    );
+    holds(rt, method.has_context(natives), "that is told its context");
+    holds(rt, method.is_volatile(natives), "and may answer otherwise");
+    let plugin = RhaiFunc::plugin(FnId(8));
+    holds(
+        rt,
+        !plugin.is_pure(natives) && plugin.is_method(natives),
+        "a plugin",
+    );
+    holds(rt, !plugin.has_context(natives), "without a context");
+    holds(rt, !plugin.is_volatile(natives), "that answers the same");
+}
+
+#[test]
+fn functions_are_read(rt: HostRuntime) {
+    let plugin = RhaiFunc::plugin(FnId(1));
+    holds(&rt, plugin.is_plugin_fn() && plugin.is_native(), "a plugin");
+    holds(&rt, plugin.native_id() == Some(FnId(1)), "native_id");
+    holds(
+        &rt,
+        plugin.get_plugin_fn() == Some(FnId(1)),
+        "get_plugin_fn",
+    );
+    holds(&rt, plugin.get_native_fn().is_none(), "no plain native");
+    holds(
+        &rt,
+        by_value().get_native_fn() == Some(FnId(0)),
+        "get_native_fn",
+    );
+    let iterator = RhaiFunc::Iterator { func: IterId(2) };
+    holds(&rt, iterator.is_iter() && !iterator.is_script(), "iterates");
+    holds(
+        &rt,
+        iterator.get_iter_fn() == Some(IterId(2)),
+        "get_iter_fn",
+    );
+}
+
+#[test]
+fn scripts_are_read(rt: HostRuntime) {
+    let alloc = rt.alloc();
+    let def = private_method(alloc);
+    let func = RhaiFunc::from(must(&rt, SharedDef::new(alloc, def), "shared"));
+    let dup = must(&rt, func.dup(alloc), "a function is copied");
+    holds(&rt, dup.is_script() && !dup.is_native(), "a script");
+    holds(&rt, dup.access() == FnAccess::Private, "that is private");
+    let held = dup.get_script_fn_def();
+    let name = held.is_some_and(|d| d.def().name.as_str() == "f");
+    holds(&rt, name, "its definition");
+}
+
+/// What the table says of its natives.
+fn check_natives(rt: &impl Abort, natives: &Natives) {
+    holds(rt, natives.get(FnId(0)).is_some(), "one that is held");
+    holds(rt, natives.get(FnId(20)).is_none(), "one that isn't");
+    holds(
+        rt,
+        natives.is_pure(FnId(7)) && natives.is_method(FnId(7)),
+        "its add",
+    );
+    holds(rt, natives.has_context(FnId(12)), "one with a context");
+    holds(
+        rt,
+        !natives.is_volatile(FnId(7)),
+        "one that answers the same",
+    );
+}
+
+/// Begins a native that answers the sum of its arguments.
+fn check_start(rt: &impl Abort, alloc: Global, natives: &Natives)
+    requires { 12 < length natives.now.items.items }
+{
+    let args = one(alloc, int(2));
+    let made = natives.start(alloc, FnId(7), None, Some(int(1)), args);
+    let step = must(rt, made, "a native is begun");
+    holds(rt, is_done(&step, 3), "a sum");
+    let dup = must(rt, step.dup(alloc), "a step is copied");
+    holds(rt, is_done(&dup, 3), "the same step");
+}
+
+/// Begins a native that asks for a call, and goes on with an answer.
+fn check_resume(rt: &impl Abort, alloc: Global, natives: &Natives)
+    requires { 12 < length natives.now.items.items }
+{
+    let word = Value::Text(text(alloc, "g"));
+    let args = one(alloc, Dynamic::from(word));
+    let ctx = context(alloc);
+    let made = natives.start(alloc, FnId(12), Some(&ctx), None, args);
+    let Some(carry) = carry_of(must(rt, made, "begun")) else {
+        panic!(rt; "a call is asked for");
+    };
+    let made = natives.resume(alloc, FnId(12), Some(&ctx), carry, answered(4));
+    let step = must(rt, made, "a native goes on");
+    holds(rt, is_done(&step, 4), "what the call answered");
+}
+
+#[test]
+fn natives_are_called(rt: HostRuntime) {
+    let alloc = rt.alloc();
+    let mut natives = Natives::new(alloc);
+    kit!(alloc, natives, panic!(&rt; "natives"));
+    check_natives(&rt, &natives);
+    check_manner(&rt, &natives);
+    if natives.len() == 20 {
+        check_start(&rt, alloc, &natives);
+        check_resume(&rt, alloc, &natives);
+    }
+}
+
+/// Whether a request is a call of `f`.
+fn is_f(request: &CallRequest) -> bool {
+    match request {
+        CallRequest::Named { name, .. } => name.as_str() == "f",
+        CallRequest::Qualified { .. } => false,
+    }
+}
+
+#[test]
+fn requests_are_copied(rt: HostRuntime) {
+    let alloc = rt.alloc();
+    let shape = plain(alloc, 1);
+    let shape = must(&rt, shape.dup(alloc), "arguments are copied");
+    holds(&rt, matches!(shape, CallShape::Plain(_)), "by value");
+    let request = CallRequest::Named {
+        name: text(alloc, "f"),
+        token: None,
+        native_only: false,
+        shape,
+        want: None,
+        pos: Position::NONE,
+    };
+    let dup = must(&rt, request.dup(alloc), "a request is copied");
+    holds(&rt, is_f(&dup), "of f");
+}
+
+#[test]
+fn answers_are_copied(rt: HostRuntime) {
+    let alloc = rt.alloc();
+    let carry = Carry {
+        first: None,
+        kept: int(1),
+    };
+    let dup = must(&rt, carry.dup(alloc), "a carry is copied");
+    holds(&rt, dup.kept.as_int() == Some(1), "what is kept");
+    let dup = must(&rt, answered(2).dup(alloc), "an answer is copied");
+    let answer = match &dup.answer {
+        Ok(value) => value.as_int() == Some(2),
+        Err(_) => false,
+    };
+    holds(&rt, answer, "what is answered");
+    let told = HostAnswer::Value(int(3));
+    let dup = must(&rt, told.dup(alloc), "a host's answer is copied");
+    holds(&rt, matches!(dup, HostAnswer::Value(_)), "a value");
+    let dup = must(&rt, context(alloc).dup(alloc), "a context is copied");
+    holds(&rt, dup.name.as_str() == "f" && dup.level == 1, "of f");
+}

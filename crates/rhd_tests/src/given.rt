@@ -1,0 +1,184 @@
+//! What tests are made of: small values, keys and scripts.
+
+ghost use Rattle.std.specs.Prelude.{◌≡◌, None, Ok};
+ghost use Rattle.rhd_module.specs.Tree.{empty_module};
+
+use rhd_func::{
+    BodyId, CallDone, CallShape, Carry, FnAccess, NativeCallContext, NativeStep, ScriptFuncDef,
+    SharedDef,
+};
+use rhd_hash::{Key, Seeds};
+use rhd_module::{FuncRegistration, Module, SharedModule};
+use rhd_value::{Dynamic, Position, Text, Texts, TypeTag, Types, Value, Values};
+use std::alloc::Global;
+use std::process::Abort;
+
+/// Seeds under which no two keys of a test clash.
+pub const SEEDS: Seeds = Seeds {
+    seed0: 0,
+    seed1: 0,
+    mask: u64::MAX,
+};
+
+/// Seeds under which all keys have one hash.
+pub const CLASHING: Seeds = Seeds {
+    seed0: 0,
+    seed1: 0,
+    mask: 0,
+};
+
+/// Stops the test where something doesn't hold.
+pub fn holds(rt: &impl Abort, fact: bool, what: &str) {
+    assert!(rt; fact, "{what}");
+}
+
+/// What a call made. Stops the test where it made nothing.
+pub fn must<T, E: Drop>(rt: &impl Abort, made: Result<T, E>, what: &str) -> T
+    ensures { made ≡ Ok result }
+{
+    match made {
+        Ok(made) => made,
+        Err(_) => panic!(rt; "{what}"),
+    }
+}
+
+/// A text; empty where memory ran out.
+pub fn text(alloc: Global, word: &str) -> Text {
+    let mut text = Text::new(alloc);
+    let _ = text.push(word);
+    text
+}
+
+/// One text; none where memory ran out.
+pub fn texts(alloc: Global, word: &str) -> Texts {
+    let mut texts = Texts::new(alloc);
+    let _ = texts.push(text(alloc, word));
+    texts
+}
+
+/// One type; none where memory ran out.
+pub fn types(alloc: Global, tag: TypeTag) -> Types {
+    let mut types = Types::new(alloc);
+    let _ = types.push(tag);
+    types
+}
+
+pub fn int(number: i64) -> Dynamic {
+    Dynamic::from(Value::Int(number))
+}
+
+/// One value; none where memory ran out.
+pub fn one(alloc: Global, value: Dynamic) -> Values {
+    let mut values = Values::new(alloc);
+    let _ = values.push(value);
+    values
+}
+
+/// One argument by value.
+pub fn plain(alloc: Global, number: i64) -> CallShape {
+    CallShape::Plain(one(alloc, int(number)))
+}
+
+/// The key of a script without parameters.
+pub fn script_key(alloc: Global, word: &str) -> Key {
+    Key::Script {
+        path: None,
+        name: text(alloc, word),
+        params: 0,
+    }
+}
+
+/// The key of a native of one type.
+pub fn native_key(alloc: Global, word: &str, tag: TypeTag) -> Key {
+    Key::Native {
+        path: None,
+        name: text(alloc, word),
+        types: types(alloc, tag),
+    }
+}
+
+/// A script that takes nothing.
+pub fn script(alloc: Global, word: &str) -> ScriptFuncDef {
+    ScriptFuncDef {
+        name: text(alloc, word),
+        params: Texts::new(alloc),
+        this_type: None,
+        access: FnAccess::Public,
+        body: BodyId(0),
+    }
+}
+
+/// The same with several owners.
+pub fn shared_script(rt: &impl Abort, alloc: Global, word: &str) -> SharedDef {
+    must(rt, SharedDef::new(alloc, script(alloc, word)), "a script")
+}
+
+/// A module in which nothing is.
+pub fn empty(rt: &impl Abort, alloc: Global, seeds: Seeds) -> Module
+    ensures { result ≡ empty_module seeds }
+{
+    must(rt, Module::new(alloc, seeds), "a module")
+}
+
+/// The same with several owners.
+pub fn shared(rt: &impl Abort, alloc: Global, seeds: Seeds) -> SharedModule
+    ensures { result ≡ empty_module seeds }
+{
+    let module = empty(rt, alloc, seeds);
+    must(rt, SharedModule::new(alloc, module), "a shared module")
+}
+
+/// A registration under a name for all calls.
+pub fn for_all(rt: &impl Abort, alloc: Global, name: &str) -> FuncRegistration
+    ensures purity { result.purity ≡ None }
+    ensures volatility { result.volatility ≡ None }
+{
+    let made = FuncRegistration::new(alloc, text(alloc, name));
+    must(rt, made, "a registration").in_global_namespace()
+}
+
+/// What a function is told.
+pub fn context(alloc: Global) -> NativeCallContext {
+    NativeCallContext {
+        name: text(alloc, "f"),
+        source: None,
+        call_source: None,
+        pos: Position::NONE,
+        level: 1,
+        tag: int(0),
+    }
+}
+
+/// The answer of a call that a function asked for.
+pub fn answered(number: i64) -> CallDone {
+    CallDone {
+        answer: Ok(int(number)),
+        first: None,
+    }
+}
+
+/// Whether a step is the end with this number.
+pub fn is_done(step: &NativeStep, number: i64) -> bool {
+    match step {
+        NativeStep::Done { answer, .. } => answer.as_int() == Some(number),
+        _ => false,
+    }
+}
+
+/// What a function keeps that asks for a call.
+pub fn carry_of(step: NativeStep) -> Option<Carry> {
+    match step {
+        NativeStep::Ask {
+            request: _request,
+            carry,
+        } => Some(carry),
+        NativeStep::Done {
+            answer: _answer,
+            first: _first,
+        } => None,
+        NativeStep::Failed {
+            fault: _fault,
+            first: _first,
+        } => None,
+    }
+}

@@ -1,0 +1,271 @@
+//! Hashes worked out apart from this code, filters of two sizes, keys, and tables by key.
+
+use crate::given::{CLASHING, SEEDS, holds, must, native_key, script_key, text, texts};
+use rhd_hash::{
+    BloomFilterU64, FnCallHashes, Key, KeyTable, Seeds, Steps, StraightHashMap, StraightHasher,
+    StraightHasherBuilder, TableFault, calc_fn_hash, calc_fn_hash_full, calc_native_fn_hash,
+    calc_typed_method_hash, calc_untyped_fn_hash, calc_var_hash, get_hasher,
+};
+use rhd_value::{OutOfMemory, Text, Texts, TypeTag};
+use std::alloc::Global;
+use std::hash::{BuildHasher, DefaultHasher, Hash, Hasher};
+use std::process::Abort;
+use std::test::Fail;
+
+/// Other seeds, and a mask of few bits.
+const OTHERS: Seeds = Seeds {
+    seed0: 1,
+    seed1: 2,
+    mask: 0xffff,
+};
+
+/// The path `a::b`.
+fn path(alloc: Global) -> Texts {
+    let mut path = texts(alloc, "a");
+    let _ = path.push(text(alloc, "b"));
+    path
+}
+
+/// The key of a native `f` of one integer.
+fn native(alloc: Global) -> Key {
+    native_key(alloc, "f", TypeTag::Int)
+}
+
+fn check_fn_hashes(rt: &impl Abort, f: &Text, path: &Texts) {
+    let base = calc_fn_hash(SEEDS, &[], f, 1);
+    holds(rt, base == 0xe74e627d86534bc6, "of a name");
+    holds(rt, calc_untyped_fn_hash(SEEDS, f, 1) == base, "untyped");
+    let other = calc_fn_hash(OTHERS, &[], f, 1);
+    holds(rt, other == 0xeb4, "under other seeds");
+    let pathed = calc_fn_hash(SEEDS, path.as_slice(), f, 1);
+    holds(rt, pathed == 0x8100ead4778e8b04, "with a path");
+    let full = calc_fn_hash_full(SEEDS, base, &[TypeTag::Int]);
+    holds(rt, full == 0x270bfb10e3c24760, "with a type");
+}
+
+fn check_other_hashes(rt: &impl Abort, alloc: Global, f: &Text, path: &Texts) {
+    let var = calc_var_hash(SEEDS, path.as_slice(), &text(alloc, "x"));
+    holds(rt, var == 0xb094e74d6d89ddd2, "of a variable");
+    let custom = calc_native_fn_hash(SEEDS, &[], f, &[TypeTag::Custom(3)]);
+    holds(rt, custom == 0xcd68947d42837e58, "of a custom type");
+    let typed = calc_typed_method_hash(SEEDS, 0xe74e627d86534bc6, &text(alloc, "i64"));
+    holds(rt, typed == 0xf8d4cbf3280027e1, "of a method");
+    let key = native(alloc);
+    holds(rt, key.mixed(SEEDS) == 0x270bfb10e3c24760, "of a key");
+    holds(rt, key.untyped(SEEDS) == 0xe74e627d86534bc6, "untyped");
+}
+
+#[test]
+fn hashes(rt: HostRuntime) {
+    let alloc = rt.alloc();
+    let f = text(alloc, "f");
+    let path = path(alloc);
+    check_fn_hashes(&rt, &f, &path);
+    check_other_hashes(&rt, alloc, &f, &path);
+}
+
+#[test]
+fn mixers(rt: HostRuntime) {
+    holds(&rt, Seeds::default() == SEEDS, "seeds where none are set");
+    let mut mixer = get_hasher(SEEDS);
+    holds(&rt, mixer.finish() == 0xcbf29ce44fd0bfc1, "of no byte");
+    mixer.write_u8(0x61);
+    holds(&rt, mixer.finish() == 0xaf63dc4c296230c0, "of a byte");
+    let mut mixer = get_hasher(SEEDS);
+    mixer.write_text(&text(rt.alloc(), "f"));
+    holds(&rt, mixer.finish() == 0x529a4adcdd6f2c7a, "of a text");
+    let mut mixer = get_hasher(SEEDS);
+    mixer.write_count(1);
+    holds(&rt, mixer.finish() == 0x89cd312994e7de8d, "of a count");
+}
+
+#[test]
+fn filters(rt: HostRuntime) {
+    let mut small = BloomFilterU64::<1>::new();
+    small.mark(0);
+    holds(&rt, !small.is_absent(8) && small.is_absent(1), "one mark");
+    holds(&rt, !small.is_empty(), "no more empty");
+    let mut large = BloomFilterU64::<64>::new();
+    holds(&rt, large.is_absent_and_set(512), "absent");
+    holds(&rt, !large.is_absent_and_set(512), "marked by then");
+    holds(&rt, !large.is_absent(0), "by its rest");
+    large.clear();
+    holds(&rt, large.is_absent(0) && large.is_empty(), "cleared");
+}
+
+/// What a hasher of std makes of a value.
+fn hash_of<T: Hash>(value: &T) -> u64 {
+    let mut hasher = DefaultHasher::new();
+    value.hash(&mut hasher);
+    hasher.finish()
+}
+
+#[test]
+fn filters_are_joined(rt: HostRuntime) -> Result<(), Fail> {
+    let mut first = BloomFilterU64::<8>::default();
+    first.mark(1);
+    let mut second = BloomFilterU64::<8>::default();
+    second.mark(2);
+    let copy = first.clone()?;
+    holds(&rt, copy == first && copy != second, "equal");
+    holds(&rt, hash_of(&copy) == hash_of(&first), "of one hash");
+    first += &second;
+    holds(
+        &rt,
+        !first.is_absent(1) && !first.is_absent(2),
+        "both marks",
+    );
+    let sum = copy + second.clone()?;
+    holds(&rt, sum == first, "a sum");
+    second += sum;
+    holds(&rt, second == first, "taken in");
+    Ok(())
+}
+
+#[test]
+fn keys_are_read(rt: HostRuntime) {
+    let alloc = rt.alloc();
+    let key = native(alloc);
+    holds(
+        &rt,
+        key.name().as_str() == "f" && key.num_params() == 1,
+        "of f",
+    );
+    let name = key.native_name().is_some_and(|n| n.as_str() == "f");
+    holds(&rt, name && !key.is_script() && !key.is_typed(), "a native");
+    let f = text(alloc, "f");
+    holds(&rt, key.matches(0, &f, &[TypeTag::Int]), "matches");
+    holds(&rt, !key.matches(0, &f, &[TypeTag::Bool]), "no other kind");
+    let any = native_key(alloc, "f", TypeTag::Dynamic);
+    holds(&rt, any.has_dynamic() && !key.has_dynamic(), "of any type");
+    let script = script_key(alloc, "f");
+    holds(
+        &rt,
+        script.is_script() && script.native_name().is_none(),
+        "a script",
+    );
+}
+
+#[test]
+fn keys_are_copied(rt: HostRuntime) {
+    let alloc = rt.alloc();
+    let key = script_key(alloc, "f");
+    let dup = must(&rt, key.dup(alloc), "a key is copied");
+    holds(&rt, dup == key && hash_of(&dup) == hash_of(&key), "equal");
+    let pathed = must(&rt, key.dup_at(alloc, &path(alloc)), "with a path");
+    holds(&rt, pathed != key, "another");
+    let other = script_key(alloc, "g");
+    holds(&rt, hash_of(&other) != hash_of(&key), "of another hash");
+}
+
+/// What a pair that goes in takes the place of, if it goes in at all.
+fn put(table: &mut KeyTable<u32>, key: Key, value: u32) -> Option<Option<u32>> {
+    table.insert(key, value).ok()
+}
+
+#[test]
+fn tables_are_filled(rt: HostRuntime) {
+    let alloc = rt.alloc();
+    let mut table = KeyTable::<u32>::new(alloc, SEEDS);
+    holds(&rt, table.seeds() == SEEDS, "under these seeds");
+    let first = put(&mut table, script_key(alloc, "f"), 1);
+    holds(&rt, first == Some(None), "a first pair");
+    let second = put(&mut table, script_key(alloc, "g"), 2);
+    holds(&rt, second == Some(None), "a second pair");
+    let again = put(&mut table, script_key(alloc, "f"), 3);
+    holds(
+        &rt,
+        again == Some(Some(1)) && table.len() == 2,
+        "an equal key",
+    );
+}
+
+#[test]
+fn tables_are_read(rt: HostRuntime) {
+    let alloc = rt.alloc();
+    let mut table = KeyTable::<u32>::new(alloc, SEEDS);
+    let _ = put(&mut table, script_key(alloc, "f"), 3);
+    let key = script_key(alloc, "f");
+    holds(&rt, table.get(&key) == Some(&3), "by key");
+    let held = table.get_by_hash(key.mixed(SEEDS));
+    holds(
+        &rt,
+        held.is_some_and(|(k, v)| *k == key && *v == 3),
+        "by hash",
+    );
+    let held = table.get_index(0);
+    holds(
+        &rt,
+        held.is_some_and(|(k, v)| *k == key && *v == 3),
+        "by place",
+    );
+    for (_key, value) in table.iter() {
+        holds(&rt, *value == 3, "each");
+    }
+    table.truncate(0);
+    holds(&rt, table.get(&key).is_none(), "cut off");
+}
+
+/// Whether a fault tells of a key without parameters, and of another of one.
+fn is_clash(fault: &TableFault) -> bool {
+    match fault {
+        TableFault::Clash { held, new } => held.num_params() == 0 && new.num_params() == 1,
+        TableFault::OutOfMemory => false,
+    }
+}
+
+#[test]
+fn clashing_keys_are_refused(rt: HostRuntime) {
+    let alloc = rt.alloc();
+    let mut clashing = KeyTable::<u32>::new(alloc, CLASHING);
+    let first = put(&mut clashing, script_key(alloc, "f"), 1);
+    holds(&rt, first == Some(None), "a first pair");
+    let Err(fault) = clashing.insert(native(alloc), 0) else {
+        panic!(&rt; "a key that clashes");
+    };
+    holds(&rt, is_clash(&fault) && clashing.len() == 1, "refused");
+    let dup = must(&rt, fault.dup(alloc), "a fault is copied");
+    holds(&rt, is_clash(&dup), "the same fault");
+    let memory = TableFault::from(OutOfMemory);
+    holds(&rt, !is_clash(&memory), "want of memory");
+}
+
+#[test]
+fn steps_are_counted(rt: HostRuntime) {
+    let mut steps = Steps::new();
+    steps.raise();
+    holds(&rt, steps.count() == 1, "one step");
+}
+
+#[test]
+fn call_hashes_are_read(rt: HostRuntime) -> Result<(), Fail> {
+    let both = FnCallHashes::from_hash(1);
+    holds(
+        &rt,
+        both.native() == 1 && !both.is_native_only(),
+        "one hash",
+    );
+    let native = FnCallHashes::from_native_only(7);
+    holds(&rt, native.is_native_only() && native != both, "of natives");
+    let two = FnCallHashes::from_script_and_native(1, 2);
+    assert!(&rt; !two.is_native_only());
+    holds(&rt, two.script() == 1, "of scripts");
+    let shown = format!(in rt.alloc(); "{both:?} {native:?} {two:?}")?;
+    holds(&rt, shown.as_str() == "1 7 (native only) (1, 2)", "as text");
+    Ok(())
+}
+
+#[test]
+fn hashes_stay_as_they_are(rt: HostRuntime) -> Result<(), Fail> {
+    let mut hasher: StraightHasher = StraightHasherBuilder.build_hasher();
+    hasher.write_u64(5);
+    holds(&rt, hasher.finish() == 5, "a number");
+    hasher.write(&[6, 0, 0, 0, 0, 0, 0, 0]);
+    holds(&rt, hasher.finish() == 6, "eight bytes");
+    hasher.write(&[7]);
+    holds(&rt, hasher.finish() == 6, "bytes of another count");
+    let mut map = StraightHashMap::<u32>::with_hasher(rt.alloc(), StraightHasherBuilder);
+    map.insert(5, 1)?;
+    holds(&rt, map.get(&5) == Some(&1), "a map");
+    Ok(())
+}

@@ -1,0 +1,30 @@
+//! Tests of all crates: each public call once on the smallest arguments, and natives, bodies and hosts that
+//! are handed in. They stand in one crate, since a crate with tests is proved twice.
+#![tactic(auto)]
+
+#[cfg(test)]
+mod decl;
+#[cfg(test)]
+mod dispatch;
+#[cfg(test)]
+mod engine;
+#[cfg(test)]
+mod foreign;
+#[cfg(test)]
+mod func;
+#[cfg(test)]
+mod given;
+#[cfg(test)]
+mod hash;
+#[cfg(test)]
+mod module;
+#[cfg(test)]
+mod names;
+#[cfg(test)]
+mod session;
+#[cfg(test)]
+mod text;
+#[cfg(test)]
+mod tool;
+#[cfg(test)]
+mod value;
