@@ -50,7 +50,12 @@ pub(crate) fn pick_found(alloc: Global, found: Option<Found>) -> Result<Option<P
 
 /// What a module itself declares under a key.
 #[tactic(auto, using(crate::proofs::Looks::raised_once))]
-fn look_own<'a>(place: &'a Module, layer: Layer, key: &HashedKey, steps: &mut Steps) -> Option<Found<'a>>
+fn look_own<'a>(
+    place: &'a Module,
+    layer: Layer,
+    key: &HashedKey,
+    steps: &mut Steps,
+) -> Option<Found<'a>>
     ensures found { option_map (λ f. picked f.layer f.func.now f.place.now) result ≡ pick_at key.now (alone layer place.now) }
     ensures steps { steps.new ≤ steps.old + 1 }
 {
@@ -79,7 +84,11 @@ pub(crate) fn look_tree<'a>(
 }
 
 /// What the latest library has that has the key.
-fn find_library<'a>(libs: &'a [SharedModule], key: &HashedKey, steps: &mut Steps) -> Option<Found<'a>>
+fn find_library<'a>(
+    libs: &'a [SharedModule],
+    key: &HashedKey,
+    steps: &mut Steps,
+) -> Option<Found<'a>>
     ensures found { option_map (λ f. picked f.layer f.func.now f.place.now) result ≡ first_of (in_own layers.Library key.now) (latest libs.now) }
     ensures steps { steps.new ≤ steps.old + length libs.now }
 {
@@ -94,7 +103,11 @@ fn find_library<'a>(libs: &'a [SharedModule], key: &HashedKey, steps: &mut Steps
 }
 
 /// What the first global module has that has the key.
-fn find_global<'a>(globals: &'a [SharedModule], key: &HashedKey, steps: &mut Steps) -> Option<Found<'a>>
+fn find_global<'a>(
+    globals: &'a [SharedModule],
+    key: &HashedKey,
+    steps: &mut Steps,
+) -> Option<Found<'a>>
     ensures found { option_map (λ f. picked f.layer f.func.now f.place.now) result ≡ first_of (in_own layers.Global key.now) (numbered globals.now) }
     ensures steps { steps.new ≤ steps.old + length globals.now }
 {

@@ -119,7 +119,13 @@ impl<V> KeyTable<V> {
         ensures { option_copied result ≡ lookup (key_eq key.now) self.now.pairs }
     {
         match self.get_by_hash(key.hash_under(self.seeds)) {
-            Some((held, value)) => { if *held == *key.key() { Some(value) } else { None } }
+            Some((held, value)) => {
+                if *held == *key.key() {
+                    Some(value)
+                } else {
+                    None
+                }
+            }
             None => None,
         }
     }

@@ -65,7 +65,9 @@ impl Module {
         requires { self.now.own.indexed ≡ true }
         ensures { result ≡ is_some (qualified self.now key.now) }
     {
-        self.index.get_hashed(&HashedKey::new(key, self.seeds())).is_some()
+        self.index
+            .get_hashed(&HashedKey::new(key, self.seeds()))
+            .is_some()
     }
 
     /// Whether a function of the module or of one below it is found without the module's name.

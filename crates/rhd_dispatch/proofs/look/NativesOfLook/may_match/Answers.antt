@@ -13,7 +13,7 @@ returns g c none types matches dynamic =
     let any : List ModuleTree → Bool = λ ms. list_any (λ m. may_match m c.args.place c.args.self.now.name.now c.args.kinds.now) ms in
     let count : length c.args.kinds.now ≡ c.args.self.now.hashed.params = c.if-kinds-params.false ∙ c.params.ensures in
     let have : (es same : Imports) → es ≡ same → any_may_have c.args.self.now.name.now (length c.args.kinds.now) same ≡ any_may_have c.args.self.now.hashed.name.now c.args.self.now.hashed.params es =
-        λ es same is. (λ i. any_may_have (sym c.args.self.now.is_name i) (count i) (sym is i)) in
+    λ es same is. (λ i. any_may_have (sym c.args.self.now.is_name i) (count i) (sym is i)) in
     let indexed : Imports → Bool = λ es. all_indexed es in
     not_found c.args.self.now.state.now.lib c.args.self.now.engine.now.globals c.args.self.now.state.now.imports c.args.self.now.engine.now.statics c.args.place c.args.self.now.name.now c.args.kinds.now types
     c.as_slice-2.ensures.indexed (ap indexed (sym c.static_modules.ensures) ∙ c.any_static_may_have.ensures.indexed) matches dynamic
