@@ -1,4 +1,4 @@
--- A session as plain data, and what the natives and bodies that are handed in may do.
+-- An engine and modules as plain data, and what the natives, the bodies and the host that are handed in may do.
 use Rattle.std.specs.Prelude.{ℕ, ◌+◌, Bool, List, Option}
 use Rattle.rhd_value.specs.Tree.{Bytes, Tree}
 use Rattle.rhd_value.specs.declared.tag.FnId.{FnId}

@@ -14,8 +14,8 @@ use rhd_func::{CallDone, CallRequest, Carry};
 use rhd_value::{Dynamic, EvalAltResult, OutOfMemory, Text};
 use std::alloc::Global;
 
-/// A call that is begun. Until it ends, its node shows what it shows where the budget is spent within
-/// the call.
+/// The node of a call that is begun at a level: 1, or one more than that of the call whose function asks
+/// for it. Until the call ends, its node shows what it shows where the budget is spent within it.
 pub fn begun(alloc: Global, call: CallRequest, level: u32) -> CallNode
     ensures { seen result ≡ begun_call call level }
 {

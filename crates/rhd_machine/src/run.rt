@@ -26,8 +26,9 @@ use rhd_value::OutOfMemory;
 use std::alloc::Global;
 use std::mem;
 
-/// Makes the call of a reply that was begun at the first level, with all the calls that it leads to.
-/// Each call that is begun counts. In the end the state is as before, also where memory runs out.
+/// Makes the call of a reply whose node was just made by `begun` at level 1, with all the calls that it
+/// leads to. Each call that is begun counts, and no more are begun than the budget. In the end the state
+/// is as before, also where memory runs out, which is the only error: the reply answers nothing then.
 pub fn fill<H: Host, B: Bodies>(
     alloc: Global,
     engine: &Engine,
