@@ -1,6 +1,5 @@
 -- Which replies answer a list of commands.
-use Rattle.std.specs.Prelude.{◌≡◌, ℕ, ◌≤◌, ◌<◌, Bool, List, [], ◌∷◌, length, take, slice_get, None, Some, Result, Ok, Err}
-use Rattle.rhd_func.specs.declared.request.CallRequest.{CallRequest}
+use Rattle.std.specs.Prelude.{◌≡◌, ℕ, ◌≤◌, ◌<◌, List, [], ◌∷◌, length, take, slice_get, None, Some, Result, Ok, Err}
 use Rattle.std.specs.List.{AllByRecursion, Contains}
 use Rattle.rhd_hash.specs.declared.key.Key.{Key}
 use Rattle.rhd_hash.specs.Table.{Clashing}
