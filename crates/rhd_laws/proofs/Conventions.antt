@@ -5,7 +5,7 @@ use Rattle.rhd_func.specs.declared.func.RhaiFunc.{RhaiFunc}
 use Rattle.rhd_func.specs.declared.func.RhaiFunc.TheVariants as funcs
 use Rattle.rhd_func.specs.Funcs.{is_method, is_script}
 use Rattle.rhd_func.specs.Natives.{NativeInfo}
-use Rattle.rhd_session.specs.Received.{Convention, script, native_method, other_native, convention_of}
+use Rattle.rhd_machine.specs.Received.{Convention, script, native_method, other_native, convention_of}
 
 abbrev pub told : Bool → Bool → Convention
 told s m = if s then script else if m then native_method else other_native

@@ -11,22 +11,22 @@ use Rattle.rhd_value.specs.Tree.{Bytes, Tree}
 use Rattle.rhd_call.specs.declared.node.CallNode.{CallNode}
 use Rattle.rhd_call.specs.declared.pick.Pick.{Pick}
 use Rattle.rhd_engine.specs.Engine.{EngineLists, Frame}
-use Rattle.rhd_session.specs.World.{World, Objects, Moment}
+use Rattle.rhd_machine.specs.World.{World, Objects, Moment}
 use Rattle.rhd_dispatch.specs.Asks.{looked, native, native_found, builtin}
 use Rattle.rhd_dispatch.specs.Patterns.{patterns}
 use Rattle.rhd_dispatch.specs.Searched.{found, pick_at, searched}
 use Rattle.rhd_hash.specs.declared.key.Key.{Key}
 use Rattle.rhd_value.specs.declared.tag.TypeTag.{TypeTag}
 use Rattle.rhd_names.specs.declared.token.OpToken.{OpToken}
-use Rattle.rhd_session.specs.Plans.{Plan, plan_of}
+use Rattle.rhd_machine.specs.Plans.{Plan, plan_of}
 use Rattle.rhd_call.specs.End.{End}
-use Rattle.rhd_session.specs.Ends.{host_end}
+use Rattle.rhd_machine.specs.Ends.{host_end}
 use Rattle.rhd_laws.specs.Owners.{shown_pick}
-use Rattle.rhd_session.specs.Decisions.{asks_of, look_of, Decision, ends, asks_host, runs, pick_of, decided, refusal, unless_refused, decision, is_on_constant, constant_end, picked}
-use Rattle.rhd_session.specs.Received.{received, convention_of, first_received, is_read_only}
+use Rattle.rhd_machine.specs.Decisions.{asks_of, look_of, Decision, ends, asks_host, runs, pick_of, decided, refusal, unless_refused, decision, is_on_constant, constant_end, picked}
+use Rattle.rhd_machine.specs.Received.{received, convention_of, first_received, is_read_only}
 use Rattle.rhd_call.specs.Seen.{seen, unbegun_node}
-use Rattle.rhd_session.specs.Runs.{Runs, not_begun, ended, host_answered, finished, cut_short}
-use Rattle.rhd_session.proofs.Found.{runs_only, decided_runs, decided_constant, decided_refused, decided_ends, decided_asks, unpicked_ends, unpicked_asks}
+use Rattle.rhd_machine.specs.Runs.{Runs, not_begun, ended, host_answered, finished, cut_short}
+use Rattle.rhd_machine.proofs.Found.{runs_only, decided_runs, decided_constant, decided_refused, decided_ends, decided_asks, unpicked_ends, unpicked_asks}
 use Rattle.rhd_laws.specs.Hosts.{HostEnds, EndsByHost}
 use Rattle.rhd_laws.specs.FirstAsks.{IsAnsweredFirst, IsForHost, EndsAlone, is_refused, isnt_found, on_constant, IsOnConstant, IsOfFirstPlace, IsOfFirstPattern}
 

@@ -19,12 +19,12 @@ use Rattle.rhd_call.specs.Trees.{InTree}
 use Rattle.rhd_call.specs.declared.node.CallNode.{CallNode}
 use Rattle.rhd_call.specs.declared.pick.Pick.{Pick}
 use Rattle.rhd_engine.specs.Engine.{EngineLists, Frame}
-use Rattle.rhd_session.specs.Ends.{first_at_end}
-use Rattle.rhd_session.specs.Plans.{Plan, plan_of}
-use Rattle.rhd_session.specs.Received.{Convention, native_method, other_native, script, Received, received, convention_of, first_after}
-use Rattle.rhd_session.specs.Runs.{Runs, not_begun, ended, host_answered, finished, cut_short, Steps, none_yet, one_more}
-use Rattle.rhd_session.specs.Steps.{Starts, native_starts, body_starts, Resumes, native_resumes, body_resumes}
-use Rattle.rhd_session.specs.World.{World, Objects, Moment}
+use Rattle.rhd_machine.specs.Ends.{first_at_end}
+use Rattle.rhd_machine.specs.Plans.{Plan, plan_of}
+use Rattle.rhd_machine.specs.Received.{Convention, native_method, other_native, script, Received, received, convention_of, first_after}
+use Rattle.rhd_machine.specs.Runs.{Runs, not_begun, ended, host_answered, finished, cut_short, Steps, none_yet, one_more}
+use Rattle.rhd_machine.specs.Steps.{Starts, native_starts, body_starts, Resumes, native_resumes, body_resumes}
+use Rattle.rhd_machine.specs.World.{World, Objects, Moment}
 use Rattle.rhd_laws.specs.Arguments.{HasFirstGiven, by_reference, of_method, IsCut}
 use Rattle.rhd_laws.specs.Causes.{EndsWith}
 use Rattle.rhd_laws.proofs.HostEnds.{host_first}

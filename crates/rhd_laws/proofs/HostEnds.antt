@@ -11,8 +11,8 @@ use Rattle.rhd_call.specs.End.{End, refusing}
 use Rattle.rhd_call.specs.declared.node.Whose.TheVariants.{Host}
 use Rattle.rhd_engine.specs.Engine.{EngineLists}
 use Rattle.rhd_engine.specs.Display.{display}
-use Rattle.rhd_session.specs.Plans.{Plan}
-use Rattle.rhd_session.specs.Ends.{wanted_name, not_wanted, accepted, missing_end, host_end}
+use Rattle.rhd_machine.specs.Plans.{Plan}
+use Rattle.rhd_machine.specs.Ends.{wanted_name, not_wanted, accepted, missing_end, host_end}
 use Rattle.rhd_laws.specs.Causes.{IsOfOtherKind}
 use Rattle.rhd_laws.proofs.LastSteps.{unwanted_other, other_unwanted}
 

@@ -23,9 +23,9 @@ use Rattle.rhd_engine.specs.declared.limits.Limits.{Limits}
 use Rattle.rhd_call.specs.declared.node.Whose.TheVariants.{Called}
 use Rattle.rhd_call.specs.declared.pick.Pick.{Pick}
 use Rattle.rhd_engine.specs.Display.{display}
-use Rattle.rhd_session.specs.Plans.{is_unqualified, Plan}
-use Rattle.rhd_session.specs.Ends.{wanted_name, not_wanted, too_large, first_at_end, first_too_large, unfit, done, handed_on, end_of}
-use Rattle.rhd_session.specs.Printed.{printer, no_text, printed_text, answer_after_printing}
+use Rattle.rhd_machine.specs.Plans.{is_unqualified, Plan}
+use Rattle.rhd_machine.specs.Ends.{wanted_name, not_wanted, too_large, first_at_end, first_too_large, unfit, done, handed_on, end_of}
+use Rattle.rhd_machine.specs.Printed.{printer, no_text, printed_text, answer_after_printing}
 use Rattle.rhd_laws.specs.Prints.{IsPrintable, Makes}
 use Rattle.rhd_laws.specs.Causes.{IsWithin, Passes, by_arrays, by_maps, by_texts, HasFirst, AreWithin, IsTooLarge, the_value, the_first, IsOfOtherKind, IsMismatch, isnt_text, isnt_wanted}
 use Rattle.rhd_laws.proofs.PrintedEnds.{makes_printing, printing_makes, text_missing, missing_text, unprinted, printable, printable_text}

@@ -20,28 +20,28 @@ use Rattle.rhd_func.specs.declared.request.HostAnswer.{HostAnswer}
 use Rattle.rhd_func.specs.declared.request.HostAnswer.TheVariants.{Value}
 use Rattle.rhd_func.specs.Shapes.{first_given, given, pos_of}
 use Rattle.rhd_engine.specs.Engine.{EngineLists, Frame}
-use Rattle.rhd_session.specs.World.{World, Objects, Moment}
+use Rattle.rhd_machine.specs.World.{World, Objects, Moment}
 use Rattle.rhd_call.specs.End.{End, refusing}
 use Rattle.rhd_call.specs.declared.node.CallNode.{CallNode}
 use Rattle.rhd_call.specs.declared.node.Whose.TheVariants.{Call, Called, Host}
 use Rattle.rhd_call.specs.declared.pick.Pick.{Pick}
 use Rattle.rhd_engine.specs.Display.{display}
-use Rattle.rhd_session.specs.Plans.{is_unqualified, in_module, Plan, plan_of}
-use Rattle.rhd_session.specs.Received.{Convention, native_method, convention_of, has_the_given}
+use Rattle.rhd_machine.specs.Plans.{is_unqualified, in_module, Plan, plan_of}
+use Rattle.rhd_machine.specs.Received.{Convention, native_method, convention_of, has_the_given}
 use Rattle.rhd_dispatch.specs.Picks.{root_of}
 use Rattle.rhd_dispatch.specs.Races.{locked_place}
-use Rattle.rhd_session.specs.Ends.{wanted_name, first_at_end, end_of, missing_end}
-use Rattle.rhd_session.specs.Decisions.{refusal, constant_end}
-use Rattle.rhd_session.specs.Decisions as decisions
+use Rattle.rhd_machine.specs.Ends.{wanted_name, first_at_end, end_of, missing_end}
+use Rattle.rhd_machine.specs.Decisions.{refusal, constant_end}
+use Rattle.rhd_machine.specs.Decisions as decisions
 use Rattle.rhd_laws.specs.FirstAsks.{EndsAlone, is_refused, isnt_found, on_constant, IsAnsweredFirst, IsOnConstant}
 use Rattle.rhd_laws.specs.Causes.{IsOwn, IsForNoConstant, IsFirstLocked, NamesLocked, AreWithin, IsTooLarge, IsOfOtherKind, IsMismatch, EndsWith, RefusesKind, RefusesSize, RefusesHosts, RefusesValue, for_kind, for_size, for_host, ShowsGivenBack}
 use Rattle.rhd_laws.specs.Unfound.{fault_number as number}
-use Rattle.rhd_session.specs.Entered.{context}
+use Rattle.rhd_machine.specs.Entered.{context}
 use Rattle.rhd_laws.specs.Hosts.{HostEnds}
 use Rattle.rhd_call.specs.Seen.{Seen, seen, begun_node, unbegun_node, cut_end}
-use Rattle.rhd_session.specs.Steps.{Starts}
-use Rattle.rhd_session.specs.Runs.{Runs, not_begun, ended, host_answered, finished, cut_short, Steps, received_by}
-use Rattle.rhd_session.proofs.Found.{plan_pos, deep_end, locked_end, rootless_end, own_refusal}
+use Rattle.rhd_machine.specs.Steps.{Starts}
+use Rattle.rhd_machine.specs.Runs.{Runs, not_begun, ended, host_answered, finished, cut_short, Steps, received_by}
+use Rattle.rhd_machine.proofs.Found.{plan_pos, deep_end, locked_end, rootless_end, own_refusal}
 use Rattle.rhd_laws.proofs.FirstAnswered.{ends_missing, runs_first, asks_first, first_constant, asks_no_pick, host_ends}
 use Rattle.rhd_laws.proofs.UnfoundRows.{missing_number}
 use Rattle.rhd_laws.proofs.HostEnds.{HostSays, says_nothing, says_fault, says_other, says_value, host_says, host_other, host_first}

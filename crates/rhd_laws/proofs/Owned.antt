@@ -8,25 +8,25 @@ use Rattle.rhd_func.specs.declared.request.HostAnswer.TheVariants.{Nothing}
 use Rattle.rhd_func.specs.declared.request.NativeStep.{NativeStep}
 use Rattle.rhd_func.specs.Shapes.{given}
 use Rattle.rhd_engine.specs.Engine.{EngineLists, Frame}
-use Rattle.rhd_session.specs.World.{World, Objects, Moment}
+use Rattle.rhd_machine.specs.World.{World, Objects, Moment}
 use Rattle.rhd_call.specs.End.{End, failed}
 use Rattle.rhd_call.specs.declared.node.CallNode.{CallNode}
 use Rattle.rhd_call.specs.declared.node.Whose.{Whose}
 use Rattle.rhd_call.specs.declared.node.Whose.TheVariants.{Call, Called, Host}
 use Rattle.rhd_call.specs.declared.pick.Pick.{Pick}
-use Rattle.rhd_session.specs.Plans.{Plan, plan_of}
-use Rattle.rhd_session.specs.Ends.{host_end, missing_fault, missing_end}
-use Rattle.rhd_session.specs.Decisions.{decision}
-use Rattle.rhd_session.specs.Decisions as decisions
+use Rattle.rhd_machine.specs.Plans.{Plan, plan_of}
+use Rattle.rhd_machine.specs.Ends.{host_end, missing_fault, missing_end}
+use Rattle.rhd_machine.specs.Decisions.{decision}
+use Rattle.rhd_machine.specs.Decisions as decisions
 use Rattle.rhd_laws.specs.FirstAsks.{EndsAlone, is_refused, isnt_found, on_constant}
 use Rattle.rhd_laws.specs.Hosts.{HostEnds}
 use Rattle.rhd_laws.specs.Causes.{IsOwn}
 use Rattle.rhd_laws.specs.Owners.{IsHosts, hosts_value, hosts_fault, IsAnsweredByHost, IsFunctions, own_value, own_fault, IsAnsweredByFunction}
 use Rattle.rhd_laws.specs.Unfound.{fault_number as number, AllFail, and_no_host, and_host, IsUnfound}
 use Rattle.rhd_call.specs.Seen.{Seen, seen, begun_node}
-use Rattle.rhd_session.specs.Runs.{Runs, not_begun, ended, host_answered, finished, cut_short}
+use Rattle.rhd_machine.specs.Runs.{Runs, not_begun, ended, host_answered, finished, cut_short}
 use Rattle.rhd_call.specs.Trees.{InTree}
-use Rattle.rhd_session.specs.Trees.{frame_at}
+use Rattle.rhd_machine.specs.Trees.{frame_at}
 use Rattle.rhd_laws.proofs.FirstAnswered.{ends_missing, missing_ends, asks_first, first_asks, host_ends}
 use Rattle.rhd_laws.proofs.LastSteps.{EndsBy, fails, is_large, is_other, fits, ends_by}
 use Rattle.rhd_laws.proofs.HostEnds.{HostSays, says_nothing, says_fault, says_other, says_value, host_says}

@@ -15,11 +15,11 @@ use Rattle.rhd_call.specs.declared.node.CallNode.{CallNode}
 use Rattle.rhd_call.specs.declared.node.Whose.TheVariants.{Call, Called, Host}
 use Rattle.rhd_call.specs.declared.pick.Pick.{Pick}
 use Rattle.rhd_engine.specs.Engine.{EngineLists, Frame}
-use Rattle.rhd_session.specs.Plans.{Plan, plan_of}
-use Rattle.rhd_session.specs.Ends.{missing_fault, missing_end}
-use Rattle.rhd_session.specs.Runs.{Runs}
-use Rattle.rhd_session.specs.Trees.{frame_at}
-use Rattle.rhd_session.specs.World.{World, Objects, Moment}
+use Rattle.rhd_machine.specs.Plans.{Plan, plan_of}
+use Rattle.rhd_machine.specs.Ends.{missing_fault, missing_end}
+use Rattle.rhd_machine.specs.Runs.{Runs}
+use Rattle.rhd_machine.specs.Trees.{frame_at}
+use Rattle.rhd_machine.specs.World.{World, Objects, Moment}
 use Rattle.rhd_laws.specs.Causes.{IsOwn, EndsWith}
 use Rattle.rhd_laws.specs.Hosts.{HostEnds}
 use Rattle.rhd_laws.specs.Owners.{IsHosts, hosts_value, hosts_fault, IsAnsweredByHost, IsFunctions, own_value, own_fault}

@@ -22,14 +22,14 @@ use Rattle.rhd_engine.specs.declared.builtins.Operator.{Operator}
 use Rattle.rhd_engine.specs.Display.{display}
 use Rattle.rhd_engine.specs.Operators.{operator_eq, operator_eq-Decides}
 use Rattle.rhd_dispatch.specs.Patterns.{patterns_to}
-use Rattle.rhd_session.specs.World.{Objects}
+use Rattle.rhd_machine.specs.World.{Objects}
 use Rattle.rhd_call.specs.End.{End}
 use Rattle.rhd_laws.specs.Unfound.{AllFail, and_no_host, and_host}
-use Rattle.rhd_session.specs.Received.{Convention, native_method, other_native, script, received}
+use Rattle.rhd_machine.specs.Received.{Convention, native_method, other_native, script, received}
 use Rattle.rhd_dispatch.specs.Searched.{found}
 use Rattle.rhd_dispatch.specs.Asks.{native_found, builtin, builtin_pick, params_of}
-use Rattle.rhd_session.specs.Plans.{Search, by_name, in_module, plan_of, is_unqualified, token_in, without_host}
-use Rattle.rhd_session.specs.Decisions.{asks_of, look_of}
+use Rattle.rhd_machine.specs.Plans.{Search, by_name, in_module, plan_of, is_unqualified, token_in, without_host}
+use Rattle.rhd_machine.specs.Decisions.{asks_of, look_of}
 use Rattle.rhd_laws.specs.FirstAsks.{IsAnsweredFirst, IsUnanswered}
 use Rattle.rhd_laws.specs.Matches.{TypesMatch, kinds_in, MatchesCall, by_type, by_number, by_kinds, rank, GoesBefore, lower_rank, more_exact, earlier_place, NoneMatches, IsFirstMatch, IsFirstBuiltin, HasBuiltin, IsAnsweredBy, by_declaration, by_builtin, all_received, IsInFirstPlace}
 use Rattle.rhd_laws.proofs.FirstAnswered.{first_is-first, first_none, none_first}

@@ -22,8 +22,8 @@ use Rattle.rhd_engine.specs.Operators.{operator_eq, operator_eq-Decides}
 use Rattle.rhd_dispatch.specs.Patterns.{patterns_to}
 use Rattle.rhd_dispatch.specs.Searched.{found}
 use Rattle.rhd_dispatch.specs.Asks.{looked, native, native_found, builtin, builtin_pick, params_of}
-use Rattle.rhd_session.specs.Plans.{plan_of, is_unqualified, only_natives, token_in}
-use Rattle.rhd_session.specs.Decisions.{asks_of, look_of}
+use Rattle.rhd_machine.specs.Plans.{plan_of, is_unqualified, only_natives, token_in}
+use Rattle.rhd_machine.specs.Decisions.{asks_of, look_of}
 use Rattle.rhd_laws.specs.FirstAsks.{IsAnsweredFirst}
 use Rattle.rhd_laws.specs.Matches.{TypesMatch, IsMoreExact, kinds_in, MatchesCall, by_type, by_number, by_kinds, HasDeclaration, rank, GoesBefore, lower_rank, more_exact, earlier_place, NoneMatches, IsFirstBuiltin, HasBuiltin, IsAnsweredBy, by_declaration, by_builtin, IsInFirstPlace}
 use Rattle.rhd_laws.proofs.FirstAnswered.{is-first_first}

@@ -16,8 +16,8 @@ use Rattle.rhd_call.specs.declared.pick.Layer.TheVariants.{Library, Global, Impo
 use Rattle.rhd_call.specs.declared.pick.Pick.{Pick}
 use Rattle.rhd_engine.specs.Engine.{EngineLists}
 use Rattle.rhd_engine.specs.Display.{display}
-use Rattle.rhd_session.specs.Plans.{is_unqualified, Plan}
-use Rattle.rhd_session.specs.Printed.{is_builtin, printer, no_text, printed_text, answer_after_printing}
+use Rattle.rhd_machine.specs.Plans.{is_unqualified, Plan}
+use Rattle.rhd_machine.specs.Printed.{is_builtin, printer, no_text, printed_text, answer_after_printing}
 use Rattle.rhd_laws.specs.Prints.{Prints, by_print, by_debug, IsPrintable, Makes, unit_for_it, itself}
 
 no_builtin : (layer : Layer) → is_builtin layer ≡ false → layer ≡ Builtin → ⊥

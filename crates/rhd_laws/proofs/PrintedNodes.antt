@@ -10,20 +10,20 @@ use Rattle.rhd_func.specs.declared.request.HostAnswer.{HostAnswer}
 use Rattle.rhd_func.specs.declared.request.NativeStep.{NativeStep}
 use Rattle.rhd_func.specs.declared.request.NativeStep.TheVariants.{Done}
 use Rattle.rhd_engine.specs.Engine.{EngineLists, Frame}
-use Rattle.rhd_session.specs.World.{World, Objects, Moment}
+use Rattle.rhd_machine.specs.World.{World, Objects, Moment}
 use Rattle.rhd_call.specs.End.{End, failed}
 use Rattle.rhd_engine.specs.declared.limits.Printers.{Printers}
 use Rattle.rhd_call.specs.declared.node.CallNode.{CallNode}
 use Rattle.rhd_call.specs.declared.node.Whose.TheVariants.{Call, Called}
 use Rattle.rhd_call.specs.declared.pick.Pick.{Pick}
-use Rattle.rhd_session.specs.Plans.{Plan, plan_of}
+use Rattle.rhd_machine.specs.Plans.{Plan, plan_of}
 use Rattle.rhd_laws.specs.Prints.{Prints, IsPrintable, Makes, unit_for_it, itself}
 use Rattle.rhd_laws.specs.Causes.{AreWithin, IsOfOtherKind, EndsWith}
 use Rattle.rhd_laws.specs.PrintedTexts.{ShowsText, AnswersValue}
 use Rattle.rhd_call.specs.Seen.{Seen, seen}
-use Rattle.rhd_session.specs.Runs.{Runs}
+use Rattle.rhd_machine.specs.Runs.{Runs}
 use Rattle.rhd_call.specs.Trees.{InTree}
-use Rattle.rhd_session.specs.Trees.{frame_at}
+use Rattle.rhd_machine.specs.Trees.{frame_at}
 use Rattle.rhd_laws.proofs.PrintedEnds.{printed_prints, prints_printed}
 use Rattle.rhd_laws.proofs.HostEnds.{HostSays, host_unprinted}
 use Rattle.rhd_laws.proofs.Owned.{not_called}

@@ -17,8 +17,8 @@ use Rattle.rhd_engine.specs.Engine.{EngineLists, Frame}
 use Rattle.rhd_dispatch.specs.Patterns.{patterns_to}
 use Rattle.rhd_dispatch.specs.Picks.{root_of, qualified_asks, looked_in}
 use Rattle.rhd_dispatch.specs.Searched.{Place, pick_at}
-use Rattle.rhd_session.specs.Plans.{Search, in_module, plan_of}
-use Rattle.rhd_session.specs.Decisions.{asks_by, look_by, asks_of, look_of}
+use Rattle.rhd_machine.specs.Plans.{Search, in_module, plan_of}
+use Rattle.rhd_machine.specs.Decisions.{asks_by, look_by, asks_of, look_of}
 use Rattle.rhd_laws.specs.FirstAsks.{IsAnsweredFirst, IsUnanswered}
 use Rattle.rhd_laws.specs.Matches.{TypesMatch, IsMoreExact, kinds_in}
 use Rattle.rhd_laws.specs.Qualified.{script_key, native_key, IsPickOf, IsAnsweredIn, by_script, by_native, NoneAnswersIn}

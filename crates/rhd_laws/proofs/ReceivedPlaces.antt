@@ -8,7 +8,7 @@ use Rattle.rhd_func.specs.declared.request.CallShape.TheVariants.{Plain, ByRef, 
 use Rattle.rhd_func.specs.Natives.{NativeInfo}
 use Rattle.rhd_func.specs.Shapes.{all_args}
 use Rattle.rhd_func.specs.Funcs.{is_method, is_script}
-use Rattle.rhd_session.specs.Received.{Convention, script, native_method, other_native, received, convention_of}
+use Rattle.rhd_machine.specs.Received.{Convention, script, native_method, other_native, received, convention_of}
 use Rattle.rhd_laws.proofs.Conventions.{told, native_convention, script_convention}
 use Rattle.rhd_laws.specs.Arguments.{HasFirstGiven, by_reference, of_method, GetsCopy, native_by_value, script_by_reference, HasItself, native_has_first, script_has_object, IsKindWritable, AreItemsWritable, AreMembersWritable, IsWritable}
 use Rattle.rhd_laws.specs.Matches.{all_received}

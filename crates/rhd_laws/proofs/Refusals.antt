@@ -18,9 +18,9 @@ use Rattle.rhd_engine.specs.NotFound.{path_text}
 use Rattle.rhd_dispatch.specs.Picks.{root_of}
 use Rattle.rhd_dispatch.specs.Searched.{Place}
 use Rattle.rhd_dispatch.specs.Races.{locked_place, locked_text}
-use Rattle.rhd_session.specs.Plans.{is_unqualified, in_module, plan_of}
-use Rattle.rhd_session.specs.Decisions.{refusal}
-use Rattle.rhd_session.proofs.Found.{deep_end, locked_end, rootless_end, own_refusal, refused_where, refusal_is}
+use Rattle.rhd_machine.specs.Plans.{is_unqualified, in_module, plan_of}
+use Rattle.rhd_machine.specs.Decisions.{refusal}
+use Rattle.rhd_machine.proofs.Found.{deep_end, locked_end, rootless_end, own_refusal, refused_where, refusal_is}
 
 -- a call is refused for its level, or else for a cause of its own
 pub refused_parts : (call : CallRequest) (limit level : ℕ) (deep : Bool) (own : Option EvalAltResult) (end : End) → ltb limit level ≡ deep → refused_where call deep own ≡ Some end

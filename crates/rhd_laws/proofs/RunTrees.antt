@@ -15,11 +15,12 @@ use Rattle.rhd_call.specs.declared.reply.Reply.TheVariants.{Done, Made, Refused,
 use Rattle.rhd_call.specs.declared.reply.Stopped.{Stopped}
 use Rattle.rhd_call.specs.Trees.{InTree}
 use Rattle.rhd_engine.specs.Engine.{Frame}
-use Rattle.rhd_session.specs.Answered.{Declares, refused, collided, done, Applied, declared, CallReplied, Replied, Answered, RunGives}
+use Rattle.rhd_session.specs.Answered.{Declares, refused, collided, done, Applied, declared, Replied, Answered, RunGives}
 use Rattle.rhd_session.specs.Commands.{change, Change}
-use Rattle.rhd_session.specs.Runs.{Runs}
-use Rattle.rhd_session.specs.Trees.{frame_at, RunsAt}
-use Rattle.rhd_session.specs.World.{World, Objects, Moment}
+use Rattle.rhd_machine.specs.Runs.{Runs}
+use Rattle.rhd_machine.specs.CallReplied.{CallReplied}
+use Rattle.rhd_machine.specs.Trees.{frame_at, RunsAt}
+use Rattle.rhd_machine.specs.World.{World, Objects, Moment}
 use Rattle.rhd_laws.specs.Ran.{RunOf, IsRunOf}
 use Rattle.rhd_laws.specs.Reached.{IsTreeAt}
 use Rattle.rhd_laws.proofs.TreeLaws.{tree_runs}

@@ -10,17 +10,17 @@ use Rattle.rhd_call.specs.declared.node.CallNode.{CallNode}
 use Rattle.rhd_call.specs.declared.node.Whose.TheVariants.{Call}
 use Rattle.rhd_call.specs.declared.pick.Pick.{Pick}
 use Rattle.rhd_engine.specs.Engine.{EngineLists, Frame}
-use Rattle.rhd_session.specs.World.{World, Objects, Moment}
+use Rattle.rhd_machine.specs.World.{World, Objects, Moment}
 use Rattle.rhd_call.specs.End.{End, failed}
-use Rattle.rhd_session.specs.Decisions.{ends, asks_host, refusal}
+use Rattle.rhd_machine.specs.Decisions.{ends, asks_host, refusal}
 use Rattle.rhd_laws.specs.FirstAsks.{IsAnsweredFirst, EndsAlone}
 use Rattle.rhd_laws.specs.Causes.{IsOwn}
 use Rattle.rhd_laws.specs.Hosts.{EndsByHost}
 use Rattle.rhd_call.specs.Seen.{Seen, seen, begun_node, unbegun_node}
-use Rattle.rhd_session.specs.Runs.{Runs, not_begun, ended, host_answered, finished, cut_short}
+use Rattle.rhd_machine.specs.Runs.{Runs, not_begun, ended, host_answered, finished, cut_short}
 use Rattle.rhd_call.specs.Trees.{InTree, is_root}
-use Rattle.rhd_session.specs.Trees.{frame_at}
-use Rattle.rhd_session.proofs.Found.{runs_within, decided_deep, deep_end, locked_end, rootless_end, deep_refused}
+use Rattle.rhd_machine.specs.Trees.{frame_at}
+use Rattle.rhd_machine.proofs.Found.{runs_within, decided_deep, deep_end, locked_end, rootless_end, deep_refused}
 use Rattle.rhd_laws.proofs.Refusals.{Refused, for_level, for_lock, for_path, refused}
 use Rattle.rhd_laws.proofs.NodeEnds.{runs_end, spends_not, overflows}
 use Rattle.rhd_laws.proofs.FirstAnswered.{ends_pick, runs_pick, asks_no_pick, shows_first, shows_missing, shows_unbegun}

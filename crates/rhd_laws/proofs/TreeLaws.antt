@@ -15,18 +15,18 @@ use Rattle.rhd_call.specs.declared.node.Nodes.{Nodes, Nodes', Row_of-CallNode, e
 use Rattle.rhd_call.specs.declared.pick.Pick.{Pick}
 use Rattle.rhd_call.specs.Nodes.{nodes_in, nodes_in_row}
 use Rattle.rhd_engine.specs.Engine.{Frame}
-use Rattle.rhd_session.specs.World.{World, Objects, Moment}
-use Rattle.rhd_session.specs.Plans.{Plan, plan_of}
+use Rattle.rhd_machine.specs.World.{World, Objects, Moment}
+use Rattle.rhd_machine.specs.Plans.{Plan, plan_of}
 use Rattle.rhd_call.specs.End.{End}
-use Rattle.rhd_session.specs.Entered.{context, entered}
+use Rattle.rhd_machine.specs.Entered.{context, entered}
 use Rattle.rhd_call.specs.Seen.{Seen, seen, begun_node, unbegun_node, cut_end}
-use Rattle.rhd_session.specs.Steps.{Starts}
-use Rattle.rhd_session.specs.Runs.{Runs, not_begun, ended, host_answered, finished, cut_short, Steps, none_yet, one_more, received_by}
+use Rattle.rhd_machine.specs.Steps.{Starts}
+use Rattle.rhd_machine.specs.Runs.{Runs, not_begun, ended, host_answered, finished, cut_short, Steps, none_yet, one_more, received_by}
 use Rattle.rhd_call.specs.Trees.{InTree, is_root, is_below, AllBegun, CutTree, cut_here, cut_below, begun_in, begun_in_nodes, begun_in_row}
-use Rattle.rhd_session.specs.Trees.{entered_by, frame_at, RunsAt}
+use Rattle.rhd_machine.specs.Trees.{entered_by, frame_at, RunsAt}
 use Rattle.rhd_laws.specs.Requests.{Requests, no_more, the_last, one_then, ShowsRequests}
-use Rattle.rhd_session.proofs.Found.{runs_within, runs_plan}
-use Rattle.rhd_session.proofs.Stepped.{starts_begun, resumes_begun}
+use Rattle.rhd_machine.proofs.Found.{runs_within, runs_plan}
+use Rattle.rhd_machine.proofs.Stepped.{starts_begun, resumes_begun}
 use Rattle.rhd_laws.specs.FirstAsks.{IsOnConstant}
 use Rattle.rhd_laws.proofs.FirstAnswered.{ends_missing, constant_of, runs_first}
 

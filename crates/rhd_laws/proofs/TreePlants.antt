@@ -10,13 +10,13 @@ use Rattle.rhd_func.specs.declared.request.NativeStep.TheVariants.{Ask}
 use Rattle.rhd_call.specs.declared.node.CallNode.{CallNode}
 use Rattle.rhd_call.specs.declared.pick.Pick.{Pick}
 use Rattle.rhd_engine.specs.Engine.{EngineLists, Frame}
-use Rattle.rhd_session.specs.World.{World, Objects, Moment}
-use Rattle.rhd_session.specs.Plans.{Plan}
+use Rattle.rhd_machine.specs.World.{World, Objects, Moment}
+use Rattle.rhd_machine.specs.Plans.{Plan}
 use Rattle.rhd_call.specs.End.{End}
-use Rattle.rhd_session.specs.Ends.{end_of}
-use Rattle.rhd_session.specs.Entered.{context}
+use Rattle.rhd_machine.specs.Ends.{end_of}
+use Rattle.rhd_machine.specs.Entered.{context}
 use Rattle.rhd_call.specs.Seen.{Seen, seen, done_of}
-use Rattle.rhd_session.specs.Steps.{Resumes}
+use Rattle.rhd_machine.specs.Steps.{Resumes}
 use Rattle.rhd_call.specs.Trees.{is_root, is_below, AllBegun, CutTree, cut_here, cut_below}
 use Rattle.rhd_laws.specs.Requests.{Requests, no_more, the_last, one_then}
 

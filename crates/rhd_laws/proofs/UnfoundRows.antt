@@ -13,8 +13,8 @@ use Rattle.rhd_func.specs.Shapes.{all_args}
 use Rattle.rhd_engine.specs.Engine.{EngineLists}
 use Rattle.rhd_engine.specs.Display.{display}
 use Rattle.rhd_engine.specs.NotFound.{get_index, set_index, get_property, set_property, not_found, not_found_in}
-use Rattle.rhd_session.specs.Plans.{Plan, Search, by_name, in_module}
-use Rattle.rhd_session.specs.Ends.{missing_fault}
+use Rattle.rhd_machine.specs.Plans.{Plan, Search, by_name, in_module}
+use Rattle.rhd_machine.specs.Ends.{missing_fault}
 use Rattle.rhd_laws.specs.Unfound.{fault_number, IsProperty, is_getter, is_setter, IsIndexer, is_index_getter, is_index_setter, IsAccess}
 use Rattle.rhd_engine.proofs.Unfound.{by_tests, tested}
 

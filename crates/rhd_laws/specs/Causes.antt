@@ -18,23 +18,23 @@ use Rattle.rhd_func.specs.Funcs.{is_script}
 use Rattle.rhd_func.specs.GivenBack.{back_of}
 use Rattle.rhd_func.specs.Shapes.{pos_of}
 use Rattle.rhd_engine.specs.Engine.{EngineLists, Frame}
-use Rattle.rhd_session.specs.World.{World, Objects, Moment}
+use Rattle.rhd_machine.specs.World.{World, Objects, Moment}
 use Rattle.rhd_call.specs.End.{End}
 use Rattle.rhd_engine.specs.declared.limits.Limits.{Limits}
 use Rattle.rhd_call.specs.declared.node.Whose.TheVariants.{Call}
 use Rattle.rhd_call.specs.declared.pick.Pick.{Pick}
 use Rattle.rhd_engine.specs.Display.{display}
-use Rattle.rhd_session.specs.Plans.{is_unqualified, Plan, plan_of}
-use Rattle.rhd_session.specs.Ends.{wanted_name, first_at_end, end_of}
+use Rattle.rhd_machine.specs.Plans.{is_unqualified, Plan, plan_of}
+use Rattle.rhd_machine.specs.Ends.{wanted_name, first_at_end, end_of}
 use Rattle.rhd_dispatch.specs.Races.{locked_text}
-use Rattle.rhd_session.specs.Decisions.{refusal}
+use Rattle.rhd_machine.specs.Decisions.{refusal}
 use Rattle.rhd_laws.specs.FirstAsks.{IsAnsweredFirst, IsOnConstant}
-use Rattle.rhd_session.specs.Entered.{context}
+use Rattle.rhd_machine.specs.Entered.{context}
 use Rattle.rhd_laws.specs.Hosts.{HostEnds}
 use Rattle.rhd_laws.specs.Prints.{Prints, IsPrintable, Makes}
 use Rattle.rhd_call.specs.Seen.{Seen}
-use Rattle.rhd_session.specs.Steps.{Starts}
-use Rattle.rhd_session.specs.Runs.{Steps, received_by}
+use Rattle.rhd_machine.specs.Steps.{Starts}
+use Rattle.rhd_machine.specs.Runs.{Steps, received_by}
 
 -- a call ends so with a fault of its own
 abbrev pub IsOwn : End → EvalAltResult → Type 0

@@ -12,11 +12,11 @@ use Rattle.rhd_call.specs.declared.pick.Pick.{Pick}
 use Rattle.rhd_dispatch.specs.Searched.{searched, pick_at}
 use Rattle.rhd_dispatch.specs.Asks.{native_found, builtin}
 use Rattle.rhd_dispatch.specs.Patterns.{patterns}
-use Rattle.rhd_session.specs.Received.{received, convention_of, first_received}
-use Rattle.rhd_session.specs.Plans.{without_host, Plan, plan_of}
+use Rattle.rhd_machine.specs.Received.{received, convention_of, first_received}
+use Rattle.rhd_machine.specs.Plans.{without_host, Plan, plan_of}
 use Rattle.rhd_call.specs.End.{End}
-use Rattle.rhd_session.specs.Ends.{missing_end}
-use Rattle.rhd_session.specs.Decisions.{asks_of, look_of, refusal, constant_end}
+use Rattle.rhd_machine.specs.Ends.{missing_end}
+use Rattle.rhd_machine.specs.Decisions.{asks_of, look_of, refusal, constant_end}
 
 -- the first ask that is found has this pick: in all modules of the frame, or, of a qualified call, in the module at which its path begins
 abbrev pub IsAnsweredFirst : EngineLists → Frame → CallRequest → Pick → Type 0

@@ -4,10 +4,10 @@ use Rattle.rhd_func.specs.declared.request.CallRequest.{CallRequest}
 use Rattle.rhd_func.specs.declared.request.HostAnswer.{HostAnswer}
 use Rattle.rhd_func.specs.Shapes.{all_args, is_method_shape}
 use Rattle.rhd_engine.specs.Engine.{EngineLists, Frame}
-use Rattle.rhd_session.specs.World.{Objects}
-use Rattle.rhd_session.specs.Plans.{plan_of}
+use Rattle.rhd_machine.specs.World.{Objects}
+use Rattle.rhd_machine.specs.Plans.{plan_of}
 use Rattle.rhd_call.specs.End.{End}
-use Rattle.rhd_session.specs.Ends.{host_end}
+use Rattle.rhd_machine.specs.Ends.{host_end}
 use Rattle.rhd_laws.specs.FirstAsks.{IsForHost}
 
 -- Between these states the host, asked for the call by its name with all arguments, gave this answer, and the call ends with it.

@@ -20,8 +20,8 @@ use Rattle.rhd_dispatch.specs.Asks.{params_of, builtin_pick}
 use Rattle.rhd_engine.specs.Display.{display}
 use Rattle.rhd_engine.specs.Engine.{EngineLists, Frame}
 use Rattle.rhd_engine.specs.declared.builtins.Operator.{Operator}
-use Rattle.rhd_session.specs.Plans.{plan_of, only_natives, token_in}
-use Rattle.rhd_session.specs.Received.{Received}
+use Rattle.rhd_machine.specs.Plans.{plan_of, only_natives, token_in}
+use Rattle.rhd_machine.specs.Received.{Received}
 use Rattle.rhd_call.specs.declared.pick.Pick.{Pick}
 
 -- A declared type takes the argument at a place: it is the argument's kind, or `Dynamic` at one of the first sixteen places.

@@ -10,7 +10,7 @@ use Rattle.rhd_call.specs.Seen.{Seen}
 use Rattle.rhd_call.specs.declared.node.Whose.{Whose}
 use Rattle.rhd_call.specs.declared.pick.Pick.{Pick}
 use Rattle.rhd_engine.specs.Engine.{EngineLists, Frame}
-use Rattle.rhd_session.specs.World.{World, Objects}
+use Rattle.rhd_machine.specs.World.{World, Objects}
 use Rattle.rhd_laws.specs.Causes.{EndsWith}
 use Rattle.rhd_laws.specs.FirstAsks.{IsForHost}
 use Rattle.rhd_laws.specs.Hosts.{HostEnds}

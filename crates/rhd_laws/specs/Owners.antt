@@ -8,13 +8,13 @@ use Rattle.rhd_func.specs.declared.request.HostAnswer.TheVariants.{Value, Fault}
 use Rattle.rhd_func.specs.declared.request.NativeStep.{NativeStep}
 use Rattle.rhd_func.specs.declared.request.NativeStep.TheVariants.{Done, Failed}
 use Rattle.rhd_engine.specs.Engine.{EngineLists, Frame}
-use Rattle.rhd_session.specs.World.{World, Objects}
+use Rattle.rhd_machine.specs.World.{World, Objects}
 use Rattle.rhd_call.specs.End.{End}
 use Rattle.rhd_engine.specs.declared.limits.Printers.{Printers}
 use Rattle.rhd_call.specs.declared.pick.Pick.{Pick}
-use Rattle.rhd_session.specs.Plans.{Plan, plan_of}
+use Rattle.rhd_machine.specs.Plans.{Plan, plan_of}
 use Rattle.rhd_laws.specs.Prints.{Makes}
-use Rattle.rhd_session.specs.Decisions.{Decision, ends, asks_host, runs}
+use Rattle.rhd_machine.specs.Decisions.{Decision, ends, asks_host, runs}
 use Rattle.rhd_laws.specs.FirstAsks.{IsForHost}
 use Rattle.rhd_laws.specs.Hosts.{HostEnds}
 use Rattle.rhd_call.specs.Seen.{Seen}

@@ -5,9 +5,9 @@ use Rattle.rhd_value.specs.Kinds.{text_in}
 use Rattle.rhd_value.specs.declared.tag.TypeTag.{TypeTag}
 use Rattle.rhd_func.specs.declared.request.NativeStep.TheVariants.{Done}
 use Rattle.rhd_engine.specs.Engine.{Frame}
-use Rattle.rhd_session.specs.World.{World, Objects}
+use Rattle.rhd_machine.specs.World.{World, Objects}
 use Rattle.rhd_call.specs.declared.pick.Pick.{Pick}
-use Rattle.rhd_session.specs.Plans.{plan_of}
+use Rattle.rhd_machine.specs.Plans.{plan_of}
 use Rattle.rhd_laws.specs.Prints.{Prints, IsPrintable, Makes}
 use Rattle.rhd_laws.specs.Causes.{AreWithin, IsOfOtherKind, EndsWith}
 use Rattle.rhd_call.specs.Seen.{Seen}

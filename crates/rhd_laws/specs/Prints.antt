@@ -6,7 +6,7 @@ use Rattle.rhd_func.specs.Funcs.{is_script}
 use Rattle.rhd_engine.specs.declared.limits.Printers.{Printers}
 use Rattle.rhd_call.specs.declared.pick.Layer.TheVariants.{Builtin}
 use Rattle.rhd_call.specs.declared.pick.Pick.{Pick}
-use Rattle.rhd_session.specs.Plans.{is_unqualified, Plan}
+use Rattle.rhd_machine.specs.Plans.{is_unqualified, Plan}
 
 -- the function is a native that was found by its name: no script, and no built-in
 abbrev pub IsNative : Pick → Type 0

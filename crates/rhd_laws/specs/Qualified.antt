@@ -11,7 +11,7 @@ use Rattle.rhd_decl.specs.declared.declaration.Declaration.{Declaration}
 use Rattle.rhd_call.specs.declared.pick.Pick.{Pick}
 use Rattle.rhd_dispatch.specs.Picks.{after_root}
 use Rattle.rhd_dispatch.specs.Searched.{Place}
-use Rattle.rhd_session.specs.Plans.{plan_of}
+use Rattle.rhd_machine.specs.Plans.{plan_of}
 use Rattle.rhd_laws.specs.Matches.{TypesMatch, IsMoreExact, kinds_in}
 
 -- The keys that a call with this path means in the module at which the path begins: they have the path's further names. A script takes as many parameters as there are arguments in all, and a native has these types.

@@ -7,8 +7,8 @@ use Rattle.rhd_call.specs.declared.reply.Reply.{Reply}
 use Rattle.rhd_call.specs.declared.reply.Stopped.{Stopped}
 use Rattle.rhd_engine.specs.Engine.{Frame}
 use Rattle.rhd_session.specs.Answered.{Answered}
-use Rattle.rhd_session.specs.Runs.{Runs}
-use Rattle.rhd_session.specs.World.{World, Objects, Moment}
+use Rattle.rhd_machine.specs.Runs.{Runs}
+use Rattle.rhd_machine.specs.World.{World, Objects, Moment}
 
 -- A call in any world and frame, at a level, between two moments, and a node that answers it. The truth value says whether the budget was spent in it.
 pub record Ran {H B : Type 0} (o : Objects H B) : Type 0 where

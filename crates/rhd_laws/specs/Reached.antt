@@ -3,7 +3,7 @@ use Rattle.std.specs.Prelude.{◌≡◌, ℕ, take, slice_get, Some}
 use Rattle.rhd_call.specs.declared.command.Command.TheVariants.{Call}
 use Rattle.rhd_call.specs.declared.node.CallNode.{CallNode}
 use Rattle.rhd_session.specs.Answered.{Answered}
-use Rattle.rhd_session.specs.World.{Objects}
+use Rattle.rhd_machine.specs.World.{Objects}
 use Rattle.rhd_laws.specs.Ran.{Ran, RunOf}
 
 -- The tree answers the call at this place of the commands: that ran at level 1, in the world and the frame, and from the moment, that the commands before it leave.

@@ -5,16 +5,16 @@ use Rattle.rhd_func.specs.declared.request.Carry.{Carry}
 use Rattle.rhd_func.specs.declared.request.NativeStep.{NativeStep}
 use Rattle.rhd_func.specs.declared.request.NativeStep.TheVariants.{Ask}
 use Rattle.rhd_engine.specs.Engine.{Frame}
-use Rattle.rhd_session.specs.World.{World, Objects, Moment}
+use Rattle.rhd_machine.specs.World.{World, Objects, Moment}
 use Rattle.rhd_call.specs.declared.pick.Pick.{Pick}
 use Rattle.rhd_call.specs.declared.node.CallNode.{CallNode}
-use Rattle.rhd_session.specs.Plans.{Plan, plan_of}
+use Rattle.rhd_machine.specs.Plans.{Plan, plan_of}
 use Rattle.rhd_call.specs.End.{End}
-use Rattle.rhd_session.specs.Ends.{end_of}
-use Rattle.rhd_session.specs.Entered.{context}
+use Rattle.rhd_machine.specs.Ends.{end_of}
+use Rattle.rhd_machine.specs.Entered.{context}
 use Rattle.rhd_call.specs.Seen.{Seen, seen, cut_end, done_of}
-use Rattle.rhd_session.specs.Steps.{Starts, Resumes}
-use Rattle.rhd_session.specs.Runs.{received_by}
+use Rattle.rhd_machine.specs.Steps.{Starts, Resumes}
+use Rattle.rhd_machine.specs.Runs.{received_by}
 use Rattle.rhd_call.specs.Trees.{CutTree}
 
 -- From this step on the function keeps these carries, its requests are the calls of these children, and the call ends so.

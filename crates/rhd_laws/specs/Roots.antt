@@ -11,7 +11,7 @@ use Rattle.rhd_call.specs.declared.pick.Layer.TheVariants.{Import, Static}
 use Rattle.rhd_engine.specs.Engine.{EngineLists, Frame, Imports}
 use Rattle.rhd_engine.specs.NotFound.{path_text}
 use Rattle.rhd_dispatch.specs.Searched.{Place}
-use Rattle.rhd_session.specs.Plans.{in_module, plan_of}
+use Rattle.rhd_machine.specs.Plans.{in_module, plan_of}
 
 -- no module of a list has the name
 abbrev pub NoneNamed : Bytes → Imports → Type 0

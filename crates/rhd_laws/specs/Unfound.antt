@@ -7,11 +7,11 @@ use Rattle.rhd_value.specs.declared.fault.EvalAltResult.TheVariants.{ErrorMismat
 use Rattle.rhd_func.specs.declared.request.CallRequest.{CallRequest}
 use Rattle.rhd_func.specs.declared.request.HostAnswer.TheVariants.{Nothing}
 use Rattle.rhd_engine.specs.Engine.{EngineLists, Frame}
-use Rattle.rhd_session.specs.World.{Objects}
+use Rattle.rhd_machine.specs.World.{Objects}
 use Rattle.rhd_call.specs.End.{End}
-use Rattle.rhd_session.specs.Plans.{without_host, plan_of}
-use Rattle.rhd_session.specs.Ends.{missing_fault}
-use Rattle.rhd_session.specs.Decisions.{refusal}
+use Rattle.rhd_machine.specs.Plans.{without_host, plan_of}
+use Rattle.rhd_machine.specs.Ends.{missing_fault}
+use Rattle.rhd_machine.specs.Decisions.{refusal}
 use Rattle.rhd_laws.specs.FirstAsks.{IsUnanswered, IsForHost}
 use Rattle.rhd_laws.specs.Hosts.{HostEnds}
 

@@ -12,10 +12,10 @@ ghost use Rattle.rhd_call.specs.Trees.{InTree};
 ghost use Rattle.rhd_engine.specs.Engine.{EngineLists};
 ghost use Rattle.rhd_laws.specs.Arguments.{HasFirstGiven, IsCut, GetsCopy, HasItself, IsWritable};
 ghost use Rattle.rhd_laws.specs.Matches.{all_received};
-ghost use Rattle.rhd_session.specs.Objects.{objects_of};
+ghost use Rattle.rhd_machine.specs.Objects.{objects_of};
 ghost use Rattle.rhd_laws.specs.Ran.{Ran};
-ghost use Rattle.rhd_session.specs.Plans.{plan_of};
-ghost use Rattle.rhd_session.specs.Runs.{received_by};
+ghost use Rattle.rhd_machine.specs.Plans.{plan_of};
+ghost use Rattle.rhd_machine.specs.Runs.{received_by};
 
 use rhd_func::{Bodies, Host, Natives};
 

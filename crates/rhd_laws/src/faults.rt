@@ -11,9 +11,9 @@ ghost use Rattle.rhd_call.specs.Trees.{InTree};
 ghost use Rattle.rhd_laws.specs.Causes.{IsOwn};
 ghost use Rattle.rhd_laws.specs.OwnFaults.{IsOwnNumber, IsRefusing, FaultOf, FunctionFails, HostFails};
 ghost use Rattle.rhd_laws.specs.Unfound.{fault_number};
-ghost use Rattle.rhd_session.specs.Objects.{objects_of};
+ghost use Rattle.rhd_machine.specs.Objects.{objects_of};
 ghost use Rattle.rhd_laws.specs.Ran.{Ran};
-ghost use Rattle.rhd_session.specs.Trees.{frame_at};
+ghost use Rattle.rhd_machine.specs.Trees.{frame_at};
 
 use rhd_func::{Bodies, Host, Natives};
 

@@ -6,7 +6,7 @@ ghost use Rattle.rhd_value.specs.declared.fault.EvalAltResult.{EvalAltResult};
 ghost use Rattle.rhd_value.specs.declared.tag.Position.{Position};
 ghost use Rattle.rhd_func.specs.Shapes.{given};
 ghost use Rattle.rhd_engine.specs.Engine.{EngineLists};
-ghost use Rattle.rhd_session.specs.Objects.{objects_of};
+ghost use Rattle.rhd_machine.specs.Objects.{objects_of};
 ghost use Rattle.rhd_laws.specs.Ran.{Ran};
 ghost use Rattle.rhd_call.specs.End.{failed};
 ghost use Rattle.rhd_laws.specs.Causes.{IsOwn};

@@ -11,11 +11,11 @@ ghost use Rattle.rhd_call.specs.declared.reply.Reply.{Reply};
 ghost use Rattle.rhd_call.specs.declared.reply.Stopped.{Stopped};
 ghost use Rattle.rhd_engine.specs.Engine.{Frame};
 ghost use Rattle.rhd_session.specs.Answered.{RunGives};
-ghost use Rattle.rhd_session.specs.World.{World, Moment};
+ghost use Rattle.rhd_machine.specs.World.{World, Moment};
 ghost use Rattle.rhd_laws.specs.Ran.{RunOf, IsRunOf};
 ghost use Rattle.rhd_laws.specs.Reached.{IsTreeAt};
-ghost use Rattle.rhd_session.specs.Objects.{objects_of};
-ghost use Rattle.rhd_session.specs.Trees.{frame_at, RunsAt};
+ghost use Rattle.rhd_machine.specs.Objects.{objects_of};
+ghost use Rattle.rhd_machine.specs.Trees.{frame_at, RunsAt};
 
 use rhd_func::{Bodies, Host, Natives};
 

@@ -33,7 +33,7 @@ use Rattle.rhd_call.specs.declared.command.ModuleId.{ModuleId}
 use Rattle.rhd_call.specs.declared.command.Command.TheVariants as commands
 use Rattle.rhd_call.specs.declared.reply.Reply.{Reply}
 use Rattle.rhd_call.specs.declared.reply.Reply.TheVariants.{Done, Made, Refused}
-use Rattle.rhd_session.specs.World.{World}
+use Rattle.rhd_machine.specs.World.{World}
 use Rattle.rhd_session.specs.Commands.{cause, change, Change, ChangedModule, Keyed, eager_keys, tree_keys, with_imports, with_globals, with_statics, with_keys, without_keys, module_change, target, operands, pop_operand, unknown_of, not_callable, indexer_not_allowed, with_module, changed, changed_by, changed_first, with_globals, with_libs, but_last, func_operands}
 use Rattle.rhd_session.specs.Answered.{Declares, refused, collided, done, NoClash}
 use Rattle.rhd_session.specs.Changing.{ChangesModule, Goes, IsReply, module_cause, native_in, iterator_in}

@@ -28,7 +28,7 @@ use Rattle.rhd_call.specs.declared.command.Command.{Command}
 use Rattle.rhd_call.specs.declared.command.ModuleId.{ModuleId}
 use Rattle.rhd_call.specs.declared.command.Command.TheVariants as commands
 use Rattle.rhd_call.specs.declared.reply.Reply.TheVariants.{Done}
-use Rattle.rhd_session.specs.World.{World}
+use Rattle.rhd_machine.specs.World.{World}
 use Rattle.rhd_session.specs.Commands.{cause, change, Change, Keyed, eager_keys, without_keys, with_module, changed_first, with_globals, unknown_of, not_callable, indexer_not_allowed, raw_registration}
 use Rattle.rhd_session.specs.Answered.{Declares, refused, collided, NoClash}
 use Rattle.rhd_session.specs.Changing.{Goes}

@@ -1,11 +1,5 @@
-pub mod Filled
-pub mod Finished
-pub mod Found
-pub mod HostEnds
+pub mod Placed
 pub mod Lists
 pub mod Declared
 pub mod ModuleChanges
 pub mod GlobalChanges
-pub mod Stack
-pub mod Stepped
-pub mod Unpicked

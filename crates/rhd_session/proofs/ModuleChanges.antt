@@ -35,7 +35,7 @@ use Rattle.rhd_call.specs.declared.command.ModuleId.{ModuleId}
 use Rattle.rhd_func.specs.declared.access.IterId.{IterId}
 use Rattle.rhd_call.specs.declared.reply.Reply.TheVariants.{Refused}
 use Rattle.rhd_call.specs.declared.command.Command.TheVariants as commands
-use Rattle.rhd_session.specs.World.{World}
+use Rattle.rhd_machine.specs.World.{World}
 use Rattle.rhd_session.specs.Commands.{cause, change, Keyed, eager_keys, tree_keys, ChangedModule, with_keys, without_keys, module_change, target, operands, func_operands, unknown_of, not_callable, indexer_not_allowed, with_module, raw_registration}
 use Rattle.rhd_session.specs.Answered.{Declares, refused, collided, NoClash}
 use Rattle.rhd_session.specs.Changing.{ChangesModule, Goes, module_cause, native_in, iterator_in}

@@ -1,6 +1,5 @@
 -- Which replies answer a list of commands.
-use Rattle.std.specs.Prelude.{◌≡◌, ℕ, ◌≤◌, ◌<◌, Bool, List, [], ◌∷◌, length, take, slice_get, None, Some, Result, Ok, Err}
-use Rattle.rhd_func.specs.declared.request.CallRequest.{CallRequest}
+use Rattle.std.specs.Prelude.{◌≡◌, ℕ, ◌≤◌, ◌<◌, List, [], ◌∷◌, length, take, slice_get, None, Some, Result, Ok, Err}
 use Rattle.std.specs.List.{AllByRecursion, Contains}
 use Rattle.rhd_hash.specs.declared.key.Key.{Key}
 use Rattle.rhd_hash.specs.Table.{Clashing}
@@ -10,13 +9,13 @@ use Rattle.rhd_decl.specs.declared.fault.DeclFault.TheVariants.{HashCollision}
 use Rattle.rhd_call.specs.declared.command.Command.{Command}
 use Rattle.rhd_call.specs.declared.command.Command.TheVariants as commands
 use Rattle.rhd_call.specs.declared.reply.Reply.{Reply}
-use Rattle.rhd_call.specs.declared.reply.Reply.TheVariants.{Refused, Called}
+use Rattle.rhd_call.specs.declared.reply.Reply.TheVariants.{Refused}
 use Rattle.rhd_engine.specs.Engine.{Frame}
-use Rattle.rhd_session.specs.World.{World, Objects, Moment}
+use Rattle.rhd_machine.specs.World.{World, Objects, Moment}
 use Rattle.rhd_session.specs.Commands.{cause, change, Change, Keyed}
-use Rattle.rhd_session.specs.Runs.{Runs}
+use Rattle.rhd_machine.specs.CallReplied.{CallReplied}
 use Rattle.rhd_call.specs.declared.reply.Stopped.{Stopped}
-use Rattle.rhd_session.specs.Setting.{Setting}
+use Rattle.rhd_machine.specs.Setting.{Setting}
 
 -- no two keys of a table clash
 abbrev pub NoClash : Keyed → Type 0
@@ -44,15 +43,6 @@ pub data Applied {H B : Type 0} (o : Objects H B) (w : World) (f : Frame) (comma
   declared : {reply : Reply} {w2 : World} {f2 : Frame} →
       Declares w f command reply w2 f2 →
       Applied o w f command reply w2 f2
-
--- a call is answered by a tree that runs at level 1
-abbrev pub CallReplied : {H B : Type 0} → Objects H B → World → Frame → Moment H B → CallRequest → Reply → Moment H B → Type 0
-CallReplied o w f before request (Called node) after = (cut : Bool) × Runs o w f 1 request node before after cut
-CallReplied o w f before request reply after = ⊥
-
--- the same in a setting
-abbrev pub CallRepliedIn : {H B : Type 0} → Setting H B → Moment H B → CallRequest → Reply → Moment H B → Type 0
-CallRepliedIn s before request reply after = CallReplied s.objects s.world s.frame before request reply after
 
 -- this reply answers the command
 abbrev pub Replied : {H B : Type 0} → Objects H B → World → Frame → Moment H B → Command → Reply → World → Frame → Moment H B → Type 0

@@ -17,7 +17,7 @@ use Rattle.rhd_call.specs.declared.command.Command.{Command}
 use Rattle.rhd_call.specs.declared.command.Command.TheVariants as commands
 use Rattle.rhd_call.specs.declared.reply.Reply.{Reply}
 use Rattle.rhd_call.specs.declared.reply.Reply.TheVariants.{Done, Refused}
-use Rattle.rhd_session.specs.World.{World}
+use Rattle.rhd_machine.specs.World.{World}
 use Rattle.rhd_session.specs.Commands.{ChangedModule, Keyed, module_change, not_callable, indexer_not_allowed}
 use Rattle.rhd_session.specs.Answered.{Declares, NoClash}
 

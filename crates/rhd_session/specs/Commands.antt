@@ -33,7 +33,7 @@ use Rattle.rhd_call.specs.declared.command.Command.TheVariants as commands
 use Rattle.rhd_call.specs.declared.command.ModuleId.{ModuleId}
 use Rattle.rhd_call.specs.declared.reply.Reply.{Reply}
 use Rattle.rhd_call.specs.declared.reply.Reply.TheVariants.{Done, Made, Count, Truth}
-use Rattle.rhd_session.specs.World.{World}
+use Rattle.rhd_machine.specs.World.{World}
 
 -- only a call declares nothing
 abbrev pub is_call : Command → Bool

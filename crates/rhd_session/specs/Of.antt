@@ -12,8 +12,8 @@ use Rattle.rhd_func.specs.Natives.{NativeInfo}
 use Rattle.rhd_module.specs.Tree.{ModuleTree}
 use Rattle.rhd_engine.specs.Engine.{Frame}
 use Rattle.rhd_engine.specs.Of.{lists_of}
-use Rattle.rhd_session.specs.World.{World, Moment, moment}
-use Rattle.rhd_session.specs.Setting.{Setting, setting_of}
+use Rattle.rhd_machine.specs.World.{World, Moment, moment}
+use Rattle.rhd_machine.specs.Setting.{Setting, setting_of}
 use Rattle.rhd_session.specs.declared.session.Session.{Session}
 
 -- the natives that it was made with

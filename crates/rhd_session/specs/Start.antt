@@ -7,7 +7,7 @@ use Rattle.rhd_engine.specs.declared.builtins.Operator.{Operator}
 use Rattle.rhd_engine.specs.Start.{start_lists}
 use Rattle.rhd_engine.specs.declared.limits.Limits.{Limits}
 use Rattle.rhd_engine.specs.declared.limits.Printers.{Printers}
-use Rattle.rhd_session.specs.World.{World, Moment, moment}
+use Rattle.rhd_machine.specs.World.{World, Moment, moment}
 
 -- a new engine, and no modules; its frame is that of a new state
 abbrev pub start_world : List NativeInfo → Seeds → Limits → List (Operator × FnId) → Printers → World

@@ -1,16 +1,7 @@
 //! A session: commands in, replies out, where the reply to a call shows what answered it.
 #![tactic(auto)]
 
-mod calls;
 mod declaring;
-mod ends;
-mod filling;
-mod machine;
-mod plan;
-mod printed;
-mod received;
-mod refusal;
-mod run;
 mod session;
 
 pub use rhd_call::{

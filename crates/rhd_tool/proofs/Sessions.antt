@@ -10,7 +10,7 @@ use Rattle.rhd_engine.specs.Engine.{Frame}
 use Rattle.rhd_engine.specs.Start.{start_frame}
 use Rattle.rhd_engine.specs.declared.limits.Limits.{Limits}
 use Rattle.rhd_hash.specs.declared.mixer.Seeds.{Seeds}
-use Rattle.rhd_session.specs.World.{World, Objects, Moment}
+use Rattle.rhd_machine.specs.World.{World, Objects, Moment}
 use Rattle.rhd_session.specs.Start.{start_world, start_moment}
 use Rattle.rhd_session.specs.Answered.{Answered, RunGives}
 use Rattle.rhd_text.specs.declared.session.SessionText.{SessionText}

@@ -8,8 +8,8 @@ use Rattle.rhd_func.specs.declared.request.NativeStep.{NativeStep}
 use Rattle.rhd_func.specs.declared.request.NativeCallContext.{NativeCallContext}
 use Rattle.rhd_func.specs.Natives.{NativeInfo}
 use Rattle.rhd_func.specs.Infos.{infos_of}
-use Rattle.rhd_session.specs.World.{Objects}
-use Rattle.rhd_session.specs.Objects.{objects_of}
+use Rattle.rhd_machine.specs.World.{Objects}
+use Rattle.rhd_machine.specs.Objects.{objects_of}
 use Rattle.rhd_text.specs.declared.body.BodyPlan.{BodyPlan}
 use Rattle.rhd_tool.specs.PlanBodies.{plan_starts, plan_resumes}
 use Rattle.rhd_tool.specs.TableHost.{table_answers}

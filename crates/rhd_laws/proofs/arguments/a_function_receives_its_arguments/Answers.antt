@@ -1,4 +1,4 @@
-use Rattle.rhd_session.specs.Plans.{plan_of}
+use Rattle.rhd_machine.specs.Plans.{plan_of}
 use Rattle.rhd_laws.proofs.ReceivedPlaces.{place_copied, place_given, first_exactly, copy_writable}
 use Rattle.rhd_laws.proofs.arguments.a_function_receives_its_arguments.Goals as goal
 

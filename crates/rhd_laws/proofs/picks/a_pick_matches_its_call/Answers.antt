@@ -1,4 +1,4 @@
-use Rattle.rhd_session.specs.Received.{convention_of}
+use Rattle.rhd_machine.specs.Received.{convention_of}
 use Rattle.rhd_laws.proofs.FirstAnswered.{picked_exactly}
 use Rattle.rhd_laws.proofs.PickCalls.{first_match}
 use Rattle.rhd_laws.proofs.PickAnswers.{match_first, unanswered_exactly, receives}

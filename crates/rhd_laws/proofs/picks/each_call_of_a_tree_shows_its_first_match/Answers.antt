@@ -1,6 +1,6 @@
 use Rattle.rhd_call.specs.Seen.{seen}
-use Rattle.rhd_session.specs.Plans.{plan_of}
-use Rattle.rhd_session.specs.Trees.{frame_at}
+use Rattle.rhd_machine.specs.Plans.{plan_of}
+use Rattle.rhd_machine.specs.Trees.{frame_at}
 use Rattle.rhd_laws.proofs.TreeFaults.{tree_picked}
 use Rattle.rhd_laws.proofs.Owned.{tree_host, tree_unfound}
 use Rattle.rhd_laws.proofs.PickCalls.{first_match}

@@ -1,5 +1,5 @@
 use Rattle.std.proofs.Common.{◌≡◌, length, ap, refl, arith}
-use Rattle.rhd_session.specs.Objects.{objects_of}
+use Rattle.rhd_machine.specs.Objects.{objects_of}
 use Rattle.rhd_tool.specs.Handed.{handed_of}
 use Rattle.rhd_tool.proofs.Sessions.{none_answered, start_same, all_answered, some_answered}
 use Rattle.rhd_tool.proofs.tool.answer.Goals as goal

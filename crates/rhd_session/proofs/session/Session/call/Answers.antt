@@ -1,6 +1,6 @@
 use Rattle.std.proofs.Common.{rules, ◌≡◌, refl, length}
 use Rattle.std.proofs.lemmas.Result.{on_ok_weaker}
-use Rattle.rhd_session.proofs.Filled.{placed, last_begun}
+use Rattle.rhd_session.proofs.Placed.{placed, last_begun}
 use Rattle.rhd_session.proofs.session.Session.call.Goals as goal
 
 pub fill-filled-requires-clause-begun : goal.fill-filled-requires-clause-begun

@@ -1,6 +1,6 @@
 use Rattle.std.proofs.Common.{rules, ◌≡◌, ap, false, ℕ}
 use Rattle.rhd_session.specs.Commands.{is_call}
-use Rattle.rhd_session.specs.World.{moment}
+use Rattle.rhd_machine.specs.World.{moment}
 use Rattle.rhd_session.proofs.Lists.{begins_none, declares_replied, declares_begins}
 use Rattle.rhd_session.proofs.session.Session.perform.Goals as goal
 

@@ -1,7 +1,7 @@
 use Rattle.std.proofs.Common.{arith, ◌≡◌, ◌≤◌, refl, sym, length, ◌∙◌}
 use Rattle.rhd_engine.specs.Of.{lists_of}
 use Rattle.rhd_session.specs.Of.{moment_of}
-use Rattle.rhd_session.proofs.Filled.{on_ok_of, on_err_of}
+use Rattle.rhd_session.proofs.Placed.{on_ok_of, on_err_of}
 use Rattle.rhd_session.proofs.Lists.{run_whole, stopped_at, stopped_before, stopped_begins, begins_none, turn}
 use Rattle.rhd_session.proofs.session.Session.run.Goals as goal
 

@@ -1,5 +1,5 @@
 use Rattle.std.proofs.Common.{◌≡◌, ◌≤◌, ◌+◌, length, take}
-use Rattle.rhd_session.specs.Objects.{objects_of}
+use Rattle.rhd_machine.specs.Objects.{objects_of}
 use Rattle.rhd_session.specs.Of.{natives_of, world_of, frame_of, modules_of, moment_of}
 use Rattle.rhd_session.specs.Answered.{Answered}
 use Rattle.rhd_session.proofs.session.Session.run.Given as goal

@@ -3,7 +3,7 @@ use Rattle.std.proofs.lemmas.List.{length-append}
 use Rattle.std.proofs.IntoIterSteps.{All-taken}
 use Rattle.rhd_engine.specs.Of.{lists_of}
 use Rattle.rhd_session.specs.Of.{moment_of}
-use Rattle.rhd_session.proofs.Filled.{on_ok_of, on_err_of}
+use Rattle.rhd_session.proofs.Placed.{on_ok_of, on_err_of}
 use Rattle.rhd_session.proofs.Lists.{taken_next, answered_front, answered_next, run_taken, stopped_at, stopped_before, stopped_begins}
 use Rattle.rhd_session.proofs.session.Session.run_commands.Goals as goal
 

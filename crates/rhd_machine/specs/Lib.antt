@@ -1,0 +1,16 @@
+pub mod World
+pub mod Objects
+pub mod Plans
+pub mod Received
+pub mod Printed
+pub mod Ends
+pub mod Decisions
+pub mod Entered
+pub mod Steps
+pub mod Runs
+pub mod Trees
+pub mod Setting
+pub mod CallReplied
+pub mod Filling
+pub mod Waits
+pub mod Held
