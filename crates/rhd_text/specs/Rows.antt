@@ -298,7 +298,9 @@ form (keywords.Call w) = called w
 -- all keywords, the more frequent ones first
 abbrev pub all_keywords : List Keyword
 all_keywords =
-    keywords.Call words.Call ∷ keywords.Call words.Ref ∷ keywords.Call words.Method ∷ keywords.Call words.CallNative ∷ keywords.Call words.RefNative ∷ keywords.Call words.MethodNative ∷ keywords.Call words.Qual ∷ keywords.Call words.QualRef
+    keywords.Call words.Call ∷ keywords.Call words.Ref ∷ keywords.Call words.Method
+    ∷ keywords.Call words.CallNative ∷ keywords.Call words.RefNative ∷ keywords.Call words.MethodNative
+    ∷ keywords.Call words.Qual ∷ keywords.Call words.QualRef
     ∷ keywords.Register ∷ keywords.RegisterRaw ∷ keywords.RegisterType ∷ keywords.Script ∷ keywords.Native ∷ keywords.Raw ∷ keywords.Module ∷ keywords.Lib ∷ keywords.PopLib
     ∷ keywords.Import ∷ keywords.PopImport ∷ keywords.Global ∷ keywords.Static ∷ keywords.Index
     ∷ keywords.SetId ∷ keywords.SetDoc ∷ keywords.SetVar ∷ keywords.SetType ∷ keywords.Submodule ∷ keywords.Clear ∷ keywords.RawIter ∷ keywords.RawScript
