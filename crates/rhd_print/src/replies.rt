@@ -1,6 +1,6 @@
 //! Replies as text, one line for each.
 
-ghost use Rattle.std.specs.Prelude.{◌≡◌, ◌++◌, ◌∷◌, ◌≤◌, [], ℕ, length, take, OnOk, OnErr, IfOk, codes};
+ghost use Rattle.std.specs.Prelude.{◌≡◌, ◌++◌, ◌∷◌, ◌≤◌, [], ℕ, length, take, OnOk, OnErr, codes};
 ghost use Rattle.std.specs.Fmt.{decimal};
 ghost use Rattle.rhd_print.specs.PrintedKeys.{key_text};
 ghost use Rattle.rhd_print.specs.PrintedReplies.{spelled_refusal, truth_text, printed, all_printed};

@@ -1,10 +1,10 @@
 //! Texts, quoted or not.
 
-ghost use Rattle.std.specs.Prelude.{◌≡◌, ◌<◌, ◌≤◌, false, length, drop, IsTrue, IfOk};
+ghost use Rattle.std.specs.Prelude.{◌≡◌, ◌≤◌, false, length, IfOk};
 ghost use Rattle.std.specs.List.{prefix_len};
 ghost use Rattle.rhd_syntax.specs.Runs.{is_letter, with_text};
 ghost use Rattle.rhd_syntax.specs.Bytes.{begins, unescaped};
-ghost use Rattle.rhd_syntax.specs.Reading.{comes, after_bracket, text_at, text_of, quoted_at, plain_text_at, text_here, wording_at};
+ghost use Rattle.rhd_syntax.specs.Reading.{text_at, text_of, quoted_at, plain_text_at, text_here, wording_at};
 ghost use Rattle.rhd_syntax.specs.Answers.{Gives};
 
 use crate::brackets::{after_first, begins};
