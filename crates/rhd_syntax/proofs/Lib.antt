@@ -16,6 +16,5 @@ pub mod ParamLaws
 pub mod ValueLaws
 pub mod WholeLaws
 pub mod ArgumentLaws
-pub mod PathLaws
 pub mod Utf8Laws
 pub mod LetterRuns

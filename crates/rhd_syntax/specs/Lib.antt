@@ -1,7 +1,6 @@
 pub mod Bytes
 pub mod Arguments
 pub mod Operators
-pub mod Paths
 pub mod Maps
 pub mod Spans
 pub mod Reading

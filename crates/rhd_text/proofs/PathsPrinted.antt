@@ -2,10 +2,12 @@
 use Rattle.std.proofs.Common.{◌≡◌, ℕ, Bool, true, false, cond, ◌&&◌, eqb, List, [], ◌∷◌, ◌++◌, refl, sym, ap, ◌∙◌}
 use Rattle.std.specs.List.{flat_map}
 use Rattle.std.proofs.lemmas.Bool.{eqb-true}
-use Rattle.rhd_syntax.specs.Paths.{with_byte, path_of}
+use Rattle.rhd_engine.specs.Paths.{with_byte, path_of}
 use Rattle.rhd_syntax.proofs.Agrees.{and_parts}
-use Rattle.rhd_syntax.proofs.PathLaws.{colons}
 use Rattle.rhd_print.specs.PrintedKeys.{path_name}
+
+abbrev colons : List ℕ
+colons = 58 ∷ 58 ∷ []
 
 -- some name, and others
 abbrev Names : List (List ℕ) → Type 0
