@@ -11,7 +11,7 @@ use Rattle.std.proofs.lemmas.Cmp.{nat_list_cmp_total}
 use Rattle.std.proofs.lemmas.List.{append-nil}
 use Rattle.rhd_value.specs.Tree.{Bytes, Tree}
 use Rattle.rhd_value.specs.Entries.{found, put}
-use Rattle.rhd_text.specs.Maps.{put_new, put_each}
+use Rattle.rhd_syntax.specs.Maps.{put_new, put_each}
 
 -- a name that stands after those of a map
 pub After : List (Bytes × Tree) → Bytes → Type 0

@@ -16,13 +16,13 @@ use Rattle.rhd_value.specs.declared.tag.Marks.{Marks}
 use Rattle.rhd_value.specs.declared.tag.FnPtrType.{FnPtrType}
 use Rattle.rhd_value.specs.declared.tag.FnPtrType.TheVariants as types
 use Rattle.rhd_value.specs.Tree.{Bytes, Kind, unit, boolean, integer, character, text, array, object, pointer, custom, Items, no_items, item, Members, no_members, member, Tree}
-use Rattle.rhd_text.specs.PrintedTexts.{escaped, quoted_by, quoted}
-use Rattle.rhd_text.specs.PrintedValues as print
-use Rattle.rhd_text.specs.PrintedValues.{mark_signs, pointer_head, spelled_kind, spelled_items, spaced_items, spelled_members, spaced_members, spelled}
+use Rattle.rhd_print.specs.PrintedTexts.{escaped, quoted_by, quoted}
+use Rattle.rhd_print.specs.PrintedValues as print
+use Rattle.rhd_print.specs.PrintedValues.{mark_signs, pointer_head, spelled_kind, spelled_items, spaced_items, spelled_members, spaced_members, spelled}
 use Rattle.rhd_text.specs.Proper.{IsInt, IsType, IsProper, AreProper, HasProper, depth}
-use Rattle.rhd_text.specs.Spans.{value, IsValue}
-use Rattle.rhd_text.proofs.Agrees.{and_parts}
-use Rattle.rhd_text.proofs.NumberLaws.{ascii-cons}
+use Rattle.rhd_syntax.specs.Spans.{value, IsValue}
+use Rattle.rhd_syntax.proofs.Agrees.{and_parts}
+use Rattle.rhd_syntax.proofs.NumberLaws.{ascii-cons}
 use Rattle.rhd_text.proofs.AgainWords.{own, no_space}
 use Rattle.rhd_text.proofs.AgainValues.{sign, value_again}
 

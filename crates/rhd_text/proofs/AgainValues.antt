@@ -6,12 +6,12 @@ use Rattle.rhd_value.specs.declared.tag.Marks.{Marks}
 use Rattle.rhd_value.specs.declared.tag.FnPtrType.{FnPtrType}
 use Rattle.rhd_value.specs.declared.tag.FnPtrType.TheVariants as types
 use Rattle.rhd_value.specs.Tree.{Bytes, Kind, unit, boolean, integer, character, text, array, object, pointer, custom, Items, no_items, item, Members, no_members, member, Tree, list_of, entries_of}
-use Rattle.rhd_text.specs.Bytes.{may_end}
-use Rattle.rhd_text.specs.PrintedTexts.{quoted}
-use Rattle.rhd_text.specs.PrintedValues as print
-use Rattle.rhd_text.specs.PrintedValues.{mark_signs, pointer_head, spelled_kind, spelled_items, spaced_items, spelled_members, spaced_members, spelled}
+use Rattle.rhd_syntax.specs.Bytes.{may_end}
+use Rattle.rhd_print.specs.PrintedTexts.{quoted}
+use Rattle.rhd_print.specs.PrintedValues as print
+use Rattle.rhd_print.specs.PrintedValues.{mark_signs, pointer_head, spelled_kind, spelled_items, spaced_items, spelled_members, spaced_members, spelled}
 use Rattle.rhd_text.specs.Proper.{IsType, IsProper, AreProper, HasProper, depth_kind, depth_items, depth_members, depth}
-use Rattle.rhd_text.specs.Spans.{Span, ◌▸◌, blanks, byte, bracket, run, word, each, mark, marks, pair, pairs, pointer_word, pointer_number, kind, value_within, value}
+use Rattle.rhd_syntax.specs.Spans.{Span, ◌▸◌, blanks, byte, bracket, run, word, each, mark, marks, pair, pairs, pointer_word, pointer_number, kind, value_within, value}
 use Rattle.rhd_text.proofs.AgainWords.{space, no_space, integer_again, number_again, quoted_again, character_again, word_again}
 use Rattle.rhd_text.proofs.AgainMaps.{ascending_again}
 

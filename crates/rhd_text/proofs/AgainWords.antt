@@ -11,11 +11,11 @@ use Rattle.std.proofs.lemmas.List.{append-nil}
 use Rattle.std.proofs.lemmas.Str.Parse.{IsNumeralModel, numerals_by_value}
 use Rattle.std.proofs.lemmas.Str.{IsUtf8-encode, is_utf8-from_IsUtf8, chars_past_char, chars-nil}
 use Rattle.std.proofs.lemmas.Fmt.{digits_decimal, digits_value-decimal, decimal_nonempty, length-decimal-le}
-use Rattle.rhd_text.specs.Bytes.{is_word_byte, may_end, unescaped, num_of, int_of}
-use Rattle.rhd_text.specs.PrintedTexts.{escaped, quoted_by}
+use Rattle.rhd_syntax.specs.Bytes.{is_word_byte, may_end, unescaped, num_of, int_of}
+use Rattle.rhd_print.specs.PrintedTexts.{escaped, quoted_by}
 use Rattle.rhd_text.specs.Proper.{IsInt}
-use Rattle.rhd_text.specs.Spans.{blanks, run, number, number_run, letter, letters_to, quoted_in, quoted_character, word}
-use Rattle.rhd_text.proofs.Agrees.{and_parts}
+use Rattle.rhd_syntax.specs.Spans.{blanks, run, number, number_run, letter, letters_to, quoted_in, quoted_character, word}
+use Rattle.rhd_syntax.proofs.Agrees.{and_parts}
 
 abbrev pub AreDigits : List ℕ → Type 0
 AreDigits ds = list_all is_ascii_digit ds ≡ true

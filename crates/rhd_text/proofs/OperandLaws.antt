@@ -1,23 +1,23 @@
 -- Each kind of operand: what is read is what is written.
 use Rattle.std.proofs.Common.{ℕ, List, Bool, true, false, cond, ◌≡◌, Some, None, refl}
 use Rattle.rhd_value.specs.declared.tag.TypeTag.{TypeTag}
-use Rattle.rhd_text.specs.declared.printers.Printer.{Printer}
-use Rattle.rhd_text.specs.Bytes.{num_of, value_kind_of, printer_of}
+use Rattle.rhd_syntax.specs.declared.printers.Printer.{Printer}
+use Rattle.rhd_syntax.specs.Bytes.{num_of, value_kind_of, printer_of}
 use Rattle.rhd_text.specs.Rows.{Operand, NAME, WORD, WORDS, NUM, LONG, ARG, ARGS, OPTIONAL, WANT, THIS, PURITY, VALUE, KIND, KINDS, PRINTER, Meaning}
-use Rattle.rhd_text.specs.Spans.{bare, name, number, value_kind, printer}
+use Rattle.rhd_syntax.specs.Spans.{bare, name, number, value_kind, printer}
 use Rattle.rhd_text.specs.Grammar.{operand}
-use Rattle.rhd_text.specs.Reading.{comes, word_at, wording_at, name_at, num_at, value_kind_at, printer_at}
+use Rattle.rhd_syntax.specs.Reading.{comes, word_at, wording_at, name_at, num_at, value_kind_at, printer_at}
 use Rattle.rhd_text.specs.ReadRows.{operand_at}
-use Rattle.rhd_text.proofs.Agrees.{Agrees}
-use Rattle.rhd_text.proofs.WordLaws.{bare_agrees, meaning_agrees}
-use Rattle.rhd_text.proofs.QuoteLaws.{word_agrees, words_agree}
-use Rattle.rhd_text.proofs.FlagLaws.{flag_read}
-use Rattle.rhd_text.proofs.WantLaws.{no_colon, colon_absent, want_agrees}
-use Rattle.rhd_text.proofs.ObjectLaws.{this_sound}
-use Rattle.rhd_text.proofs.PurityLaws.{purity_sound}
-use Rattle.rhd_text.proofs.ParamLaws.{kinds_agree}
-use Rattle.rhd_text.proofs.ValueLaws.{value_agrees}
-use Rattle.rhd_text.proofs.ArgumentLaws.{argument_agrees, arguments_agree}
+use Rattle.rhd_syntax.proofs.Agrees.{Agrees}
+use Rattle.rhd_syntax.proofs.WordLaws.{bare_agrees, meaning_agrees}
+use Rattle.rhd_syntax.proofs.QuoteLaws.{word_agrees, words_agree}
+use Rattle.rhd_syntax.proofs.FlagLaws.{flag_read}
+use Rattle.rhd_syntax.proofs.WantLaws.{no_colon, colon_absent, want_agrees}
+use Rattle.rhd_syntax.proofs.ObjectLaws.{this_sound}
+use Rattle.rhd_syntax.proofs.PurityLaws.{purity_sound}
+use Rattle.rhd_syntax.proofs.ParamLaws.{kinds_agree}
+use Rattle.rhd_syntax.proofs.ValueLaws.{value_agrees}
+use Rattle.rhd_syntax.proofs.ArgumentLaws.{argument_agrees, arguments_agree}
 
 name_sound : (b : Bool) (s bytes rest : List ℕ) → comes 58 bytes ≡ b → cond b None (wording_at bytes) ≡ Some (s, rest) → name s bytes rest
 name_sound true s bytes rest h e = absurd cc

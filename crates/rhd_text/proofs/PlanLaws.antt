@@ -12,7 +12,7 @@ use Rattle.rhd_text.specs.declared.requests.Handing.TheVariants as handings
 use Rattle.rhd_text.specs.declared.part.Part.TheVariants as parts
 use Rattle.rhd_text.specs.declared.place.Place.{Place}
 use Rattle.rhd_text.specs.Rows.{Operand, From, from_then, position, nowhere, definition, defined, call_form, planned, called, step, form}
-use Rattle.rhd_text.specs.Reading.{◌>>=◌, is_end}
+use Rattle.rhd_syntax.specs.Reading.{◌>>=◌, is_end}
 use Rattle.rhd_text.specs.ReadRows.{operand_at, operands_at, row_at, definition_at, plan_at, named_at, qualified_at}
 
 ended : {A B : Type 0} (f : A → B) (b : Bool) (o : Option A) → cond b (option_map f o) None ≡ option_map f (cond b o None)

@@ -5,22 +5,22 @@ use Rattle.std.specs.Str.{is_utf8, bytes_eq}
 use Rattle.std.proofs.lemmas.Slice.Eq.{bytes_eq-Decides}
 use Rattle.std.proofs.lemmas.Bool.{eqb-true}
 use Rattle.rhd_text.specs.declared.place.Place.{Place}
-use Rattle.rhd_text.specs.Bytes.{is_blank}
+use Rattle.rhd_syntax.specs.Bytes.{is_blank}
 use Rattle.rhd_text.specs.Rows.{Operand, NAME, WORD, WORDS, NUM, LONG, ARG, ARGS, OPTIONAL, WANT, THIS, PURITY, VALUE, KIND, KINDS, PRINTER, Meaning, From, Form, Table}
-use Rattle.rhd_text.specs.Spans.{blanks, bare}
+use Rattle.rhd_syntax.specs.Spans.{blanks, bare}
 use Rattle.rhd_text.specs.Grammar.{operands, formed, WrittenLine, IsWritten}
-use Rattle.rhd_text.specs.Reading.{◌>>=◌, skip_blanks, is_end, word_at, flag_at, this_at, purity_at}
+use Rattle.rhd_syntax.specs.Reading.{◌>>=◌, skip_blanks, is_end, word_at, flag_at, this_at, purity_at}
 use Rattle.rhd_text.specs.ReadRows.{operand_at, operands_at, row_at, keyword_in, form_of, form_at, begins_no_part, is_skipped, line_by}
-use Rattle.rhd_text.proofs.Agrees.{bind_some, same_some, and_parts, not_true}
-use Rattle.rhd_text.proofs.WordLaws.{stops_nil, head_stop, skipped, skips_to, bare_agrees, bare_here, end_sound, end_complete, no_word}
-use Rattle.rhd_text.proofs.QuoteLaws.{word_agrees, words_agree}
-use Rattle.rhd_text.proofs.FlagLaws.{not_word, flag_there, flag_absent}
-use Rattle.rhd_text.proofs.WantLaws.{want_agrees}
-use Rattle.rhd_text.proofs.ObjectLaws.{this_there, this_absent}
-use Rattle.rhd_text.proofs.PurityLaws.{purity_there, purity_absent}
-use Rattle.rhd_text.proofs.ParamLaws.{kinds_agree}
-use Rattle.rhd_text.proofs.ValueLaws.{value_agrees}
-use Rattle.rhd_text.proofs.ArgumentLaws.{argument_agrees, arguments_agree}
+use Rattle.rhd_syntax.proofs.Agrees.{bind_some, same_some, and_parts, not_true}
+use Rattle.rhd_syntax.proofs.WordLaws.{stops_nil, head_stop, skipped, skips_to, bare_agrees, bare_here, end_sound, end_complete, no_word}
+use Rattle.rhd_syntax.proofs.QuoteLaws.{word_agrees, words_agree}
+use Rattle.rhd_syntax.proofs.FlagLaws.{not_word, flag_there, flag_absent}
+use Rattle.rhd_syntax.proofs.WantLaws.{want_agrees}
+use Rattle.rhd_syntax.proofs.ObjectLaws.{this_there, this_absent}
+use Rattle.rhd_syntax.proofs.PurityLaws.{purity_there, purity_absent}
+use Rattle.rhd_syntax.proofs.ParamLaws.{kinds_agree}
+use Rattle.rhd_syntax.proofs.ValueLaws.{value_agrees}
+use Rattle.rhd_syntax.proofs.ArgumentLaws.{argument_agrees, arguments_agree}
 use Rattle.rhd_text.proofs.OperandLaws.{name_agrees, number_agrees, value_kind_agrees, printer_agrees, operand_sound}
 
 -- ---- any row

@@ -10,7 +10,7 @@ use Rattle.rhd_text.specs.Session.{empty_text, with_line, IsText, IsSession, IsB
 use Rattle.rhd_text.specs.ReadRows.{line_of}
 use Rattle.rhd_text.specs.ReadSession.{after_line, next, text_from, session_of}
 use Rattle.rhd_text.specs.Answers.{Reads}
-use Rattle.rhd_text.proofs.Agrees.{bind_some}
+use Rattle.rhd_syntax.proofs.Agrees.{bind_some}
 use Rattle.rhd_text.proofs.TableLaws.{line_sound, line_complete}
 
 abbrev Said : Type 0

@@ -11,12 +11,12 @@ use Rattle.rhd_text.specs.declared.keyword.Keyword.TheVariants.{SetId, SetDoc, S
 use Rattle.rhd_text.specs.declared.keyword.CallWord.{CallWord}
 use Rattle.rhd_text.specs.declared.keyword.CallWord.TheVariants as words
 use Rattle.rhd_text.specs.Rows.{call_form, step, all_calls, form, all_keywords, line_forms, step_forms}
-use Rattle.rhd_text.specs.Spans.{bare}
+use Rattle.rhd_syntax.specs.Spans.{bare}
 use Rattle.rhd_text.specs.Grammar.{part, IsLine}
-use Rattle.rhd_text.specs.Reading.{word_at}
+use Rattle.rhd_syntax.specs.Reading.{word_at}
 use Rattle.rhd_text.specs.ReadRows.{keyword_in, form_of, form_at, part_at, begins_no_part, is_skipped, line_of}
-use Rattle.rhd_text.proofs.Agrees.{bind_some}
-use Rattle.rhd_text.proofs.WordLaws.{bare_agrees}
+use Rattle.rhd_syntax.proofs.Agrees.{bind_some}
+use Rattle.rhd_syntax.proofs.WordLaws.{bare_agrees}
 use Rattle.rhd_text.proofs.RowLaws.{well_placed, IsSound, of_sound, of_complete, LinesAgree, form_agrees, word_shows, line_by_sound, line_by_complete}
 
 -- ---- calls

@@ -19,8 +19,8 @@ use Rattle.rhd_text.specs.declared.part.Part.{Part}
 use Rattle.rhd_text.specs.declared.part.Part.TheVariants as parts
 use Rattle.rhd_text.specs.declared.fault.TextFault.{TextFault}
 use Rattle.rhd_text.specs.Session.{empty_text, takes_headers, is_held, stepped, ended, in_latest, with_seeds, with_limits, with_printer, with_builtin, with_host, with_body, with_call, with_end, with_command, added, is_header, with_part, with_line, IsText, ReadsText}
-use Rattle.rhd_text.specs.Reading.{◌>>=◌}
-use Rattle.rhd_text.proofs.Agrees.{bind_some, cond_some, same_some, and_parts}
+use Rattle.rhd_syntax.specs.Reading.{◌>>=◌}
+use Rattle.rhd_syntax.proofs.Agrees.{bind_some, cond_some, same_some, and_parts}
 
 -- what holds of a text of so many lines
 pub record Holds (natives : List NativeInfo) (count : ℕ) (t : SessionText) : Type 0 where

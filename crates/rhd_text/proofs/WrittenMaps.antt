@@ -8,9 +8,9 @@ use Rattle.std.specs.Map.{keys_of}
 use Rattle.std.proofs.lemmas.Cmp.{nat_list_cmp_total}
 use Rattle.rhd_value.specs.Tree.{Bytes, Tree}
 use Rattle.rhd_value.specs.Entries.{found, put}
-use Rattle.rhd_text.specs.Maps.{put_or_none, put_new, put_each}
-use Rattle.rhd_text.specs.Spans.{Span, each, pair}
-use Rattle.rhd_text.proofs.Agrees.{bind_some, same_some}
+use Rattle.rhd_syntax.specs.Maps.{put_or_none, put_new, put_each}
+use Rattle.rhd_syntax.specs.Spans.{Span, each, pair}
+use Rattle.rhd_syntax.proofs.Agrees.{bind_some, same_some}
 
 -- what holds of each entry
 pub AllHold : (Bytes × Tree → Type 0) → List (Bytes × Tree) → Type 0

@@ -9,10 +9,10 @@ use Rattle.std.proofs.lemmas.Str.{scalars-chars, IsUtf8-from_is_utf8}
 use Rattle.rhd_value.specs.declared.tag.FnPtrType.{FnPtrType}
 use Rattle.rhd_value.specs.declared.tag.FnPtrType.TheVariants as types
 use Rattle.rhd_value.specs.Tree.{Bytes, Kind, unit, boolean, integer, character, text, array, object, pointer, custom, Items, no_items, item, Members, no_members, member, Tree, list_of, entries_of}
-use Rattle.rhd_text.specs.Bytes.{begins, is_digits, is_signed_digits, fitting_int, num_of, int_of}
+use Rattle.rhd_syntax.specs.Bytes.{begins, is_digits, is_signed_digits, fitting_int, num_of, int_of}
 use Rattle.rhd_text.specs.Proper.{IsInt, IsType, IsProper, AreProper, HasProper, depth_kind, depth_items, depth_members, depth}
-use Rattle.rhd_text.specs.Spans.{Span, each, word, number, pair, pointer_number, kind, value_within, IsValue}
-use Rattle.rhd_text.proofs.Agrees.{cond_some, and_parts}
+use Rattle.rhd_syntax.specs.Spans.{Span, each, word, number, pair, pointer_number, kind, value_within, IsValue}
+use Rattle.rhd_syntax.proofs.Agrees.{cond_some, and_parts}
 use Rattle.rhd_text.proofs.WrittenMaps.{AllHold, no_entries_hold, first_holds, each_ascending, each_holds, nothing_ascends, pairs_hold}
 
 -- ---- numbers

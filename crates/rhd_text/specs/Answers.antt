@@ -1,36 +1,11 @@
--- What the readers answer.
-use Rattle.std.specs.Prelude.{◌≡◌, ℕ, List, Option, Some, None, Result, Ok, Err}
+-- What the reader of a text answers.
+use Rattle.std.specs.Prelude.{◌≡◌, ℕ, Result, Ok, Err}
 use Rattle.rhd_text.specs.declared.fault.TextFault.{TextFault}
 use Rattle.rhd_text.specs.declared.fault.TextFault.TheVariants.{BadLine, OutOfMemory}
-use Rattle.rhd_text.specs.declared.fault.Stop.{Stop}
-use Rattle.rhd_text.specs.declared.fault.Stop.TheVariants as stops
 use Rattle.rhd_text.specs.declared.session.SessionText.{SessionText}
-use Rattle.rhd_value.specs.Tree.{Tree}
-use Rattle.rhd_text.specs.Spans.{IsValue}
-
--- a reader stopped where its definition gives nothing, unless memory ran out
-abbrev pub Stops : {Y : Type 0} → Stop → Option Y → Type 0
-Stops stops.Bad read = read ≡ None
-Stops stops.Memory read = Unit {0}
-
--- what a reader answered, seen by view, is what its definition gives, unless memory ran out
-abbrev pub Gives : {X Y : Type 0} → (X → Y) → Result X Stop → Option Y → Type 0
-Gives view (Ok x) read = read ≡ Some (view x)
-Gives view (Err e) read = Stops e read
-
--- what a step made of the old is what its definition gives, unless memory ran out; where it stopped, all is as before
-abbrev pub StepGives : {X Y : Type 0} → Result X Stop → Y → Y → Option Y → Type 0
-StepGives (Ok x) old new step = step ≡ Some new
-StepGives (Err e) old new step = Stops e step × (new ≡ old)
 
 -- the reader's answer is what the lines say, unless memory ran out
 abbrev pub Reads : Result SessionText TextFault → Result SessionText ℕ → Type 0
 Reads (Ok t) said = said ≡ Ok t
 Reads (Err (BadLine n)) said = said ≡ Err n
 Reads (Err OutOfMemory) said = Unit {0}
-
--- the value that the bytes are, and none exactly where they are none, unless memory ran out
-abbrev pub ReadsValue : {E : Type 0} → List ℕ → Result (Option Tree) E → Type 0
-ReadsValue bytes (Ok (Some t)) = IsValue t bytes
-ReadsValue bytes (Ok None) = (t : Tree) → IsValue t bytes → ⊥
-ReadsValue bytes (Err e) = Unit {0}

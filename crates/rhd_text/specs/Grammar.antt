@@ -7,7 +7,7 @@ use Rattle.rhd_text.specs.declared.part.Part.{Part}
 use Rattle.rhd_text.specs.declared.part.Part.TheVariants.{Command}
 use Rattle.rhd_text.specs.declared.place.Place.{Place}
 use Rattle.rhd_text.specs.Rows.{Operand, NAME, WORD, WORDS, NUM, LONG, ARG, ARGS, OPTIONAL, WANT, THIS, PURITY, VALUE, KIND, KINDS, PRINTER, Meaning, From, Table, line_forms, step_forms}
-use Rattle.rhd_text.specs.Spans.{Span, blanks, bare, name, word, words, optional, number, want, this, purity, value, value_kind, kinds, printer, argument, arguments}
+use Rattle.rhd_syntax.specs.Spans.{Span, blanks, bare, name, word, words, optional, number, want, this, purity, value, value_kind, kinds, printer, argument, arguments}
 
 -- how each kind of operand is written
 abbrev pub operand : (o : Operand) → Meaning o → Span

@@ -2,7 +2,7 @@
 use Rattle.std.specs.Prelude.{ℕ, ◌+◌, List, [], ◌∷◌, Option, Some, None, Result, Ok, Err}
 use Rattle.rhd_func.specs.Natives.{NativeInfo}
 use Rattle.rhd_text.specs.declared.session.SessionText.{SessionText}
-use Rattle.rhd_text.specs.Reading.{◌>>=◌}
+use Rattle.rhd_syntax.specs.Reading.{◌>>=◌}
 use Rattle.rhd_text.specs.ReadRows.{line_of}
 use Rattle.rhd_text.specs.Session.{empty_text, with_line}
 

@@ -22,13 +22,13 @@ use Rattle.rhd_module.specs.Registered.{new_registration}
 use Rattle.rhd_call.specs.declared.command.Command.{Command}
 use Rattle.rhd_call.specs.declared.command.Command.TheVariants as commands
 use Rattle.rhd_text.specs.declared.place.Place.{Place}
-use Rattle.rhd_text.specs.declared.arguments.Argument.{Argument}
-use Rattle.rhd_text.specs.declared.arguments.Argument.TheVariants as argument
-use Rattle.rhd_text.specs.declared.arguments.Arguments.{Arguments}
+use Rattle.rhd_syntax.specs.declared.arguments.Argument.{Argument}
+use Rattle.rhd_syntax.specs.declared.arguments.Argument.TheVariants as argument
+use Rattle.rhd_syntax.specs.declared.arguments.Arguments.{Arguments}
 use Rattle.rhd_text.specs.declared.body.BodyEnd.{BodyEnd}
 use Rattle.rhd_text.specs.declared.body.BodyEnd.TheVariants.{Ret, RetGiven, Fail}
 use Rattle.rhd_text.specs.declared.body.CallPlan.{CallPlan}
-use Rattle.rhd_text.specs.declared.printers.Printer.{Printer}
+use Rattle.rhd_syntax.specs.declared.printers.Printer.{Printer}
 use Rattle.rhd_text.specs.declared.part.Part.{Part}
 use Rattle.rhd_text.specs.declared.part.Part.TheVariants as parts
 use Rattle.rhd_text.specs.declared.keyword.CallWord.{CallWord}
@@ -37,9 +37,9 @@ use Rattle.rhd_text.specs.declared.keyword.Keyword.{Keyword}
 use Rattle.rhd_text.specs.declared.keyword.Keyword.TheVariants as keywords
 use Rattle.rhd_text.specs.declared.requests.Handing.{Handing}
 use Rattle.rhd_text.specs.declared.requests.Handing.TheVariants as handings
-use Rattle.rhd_text.specs.Arguments.{no_arguments, with_argument, joined}
-use Rattle.rhd_text.specs.Operators.{operator_of}
-use Rattle.rhd_text.specs.Paths.{path_of}
+use Rattle.rhd_syntax.specs.Arguments.{no_arguments, with_argument, joined}
+use Rattle.rhd_syntax.specs.Operators.{operator_of}
+use Rattle.rhd_engine.specs.Paths.{path_of}
 
 -- an operand of a line: the name of a call; a text, quoted or not; texts between brackets; a number of 32 or of 64 bits;
 -- one argument, or arguments up to the end of the line, which may be given ones or not; a word that may be left out; the
@@ -298,7 +298,9 @@ form (keywords.Call w) = called w
 -- all keywords, the more frequent ones first
 abbrev pub all_keywords : List Keyword
 all_keywords =
-    keywords.Call words.Call ∷ keywords.Call words.Ref ∷ keywords.Call words.Method ∷ keywords.Call words.CallNative ∷ keywords.Call words.RefNative ∷ keywords.Call words.MethodNative ∷ keywords.Call words.Qual ∷ keywords.Call words.QualRef
+    keywords.Call words.Call ∷ keywords.Call words.Ref ∷ keywords.Call words.Method
+    ∷ keywords.Call words.CallNative ∷ keywords.Call words.RefNative ∷ keywords.Call words.MethodNative
+    ∷ keywords.Call words.Qual ∷ keywords.Call words.QualRef
     ∷ keywords.Register ∷ keywords.RegisterRaw ∷ keywords.RegisterType ∷ keywords.Script ∷ keywords.Native ∷ keywords.Raw ∷ keywords.Module ∷ keywords.Lib ∷ keywords.PopLib
     ∷ keywords.Import ∷ keywords.PopImport ∷ keywords.Global ∷ keywords.Static ∷ keywords.Index
     ∷ keywords.SetId ∷ keywords.SetDoc ∷ keywords.SetVar ∷ keywords.SetType ∷ keywords.Submodule ∷ keywords.Clear ∷ keywords.RawIter ∷ keywords.RawScript

@@ -18,11 +18,11 @@ use Rattle.rhd_text.specs.declared.session.SessionText.{SessionText}
 use Rattle.rhd_text.specs.declared.body.CallPlan.{CallPlan}
 use Rattle.rhd_text.specs.declared.body.BodyEnd.{BodyEnd}
 use Rattle.rhd_text.specs.declared.body.BodyPlan.{BodyPlan}
-use Rattle.rhd_text.specs.declared.printers.Printer.{Printer}
-use Rattle.rhd_text.specs.declared.printers.Printer.TheVariants as printers
+use Rattle.rhd_syntax.specs.declared.printers.Printer.{Printer}
+use Rattle.rhd_syntax.specs.declared.printers.Printer.TheVariants as printers
 use Rattle.rhd_text.specs.declared.part.Part.{Part}
 use Rattle.rhd_text.specs.declared.part.Part.TheVariants as parts
-use Rattle.rhd_text.specs.Reading.{◌>>=◌}
+use Rattle.rhd_syntax.specs.Reading.{◌>>=◌}
 use Rattle.rhd_text.specs.Grammar.{IsLine}
 
 -- what a text without lines says

@@ -5,12 +5,12 @@ ghost use Rattle.rhd_text.specs.declared.part.Part.TheVariants as parts;
 ghost use Rattle.rhd_text.specs.Grammar.{IsCallOrNone};
 ghost use Rattle.rhd_text.specs.ReadRows.{request_in};
 
-use crate::fault::Stop;
 use crate::line::line_at;
 use crate::part::Part;
 use crate::place::Place;
 use rhd_call::Command;
 use rhd_func::CallRequest;
+use rhd_syntax::Stop;
 use rhd_value::OutOfMemory;
 use std::alloc::Global;
 

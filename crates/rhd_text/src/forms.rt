@@ -4,30 +4,25 @@ ghost use Rattle.std.specs.Prelude.{◌≡◌};
 ghost use Rattle.rhd_text.specs.declared.keyword.Keyword.TheVariants as keywords;
 ghost use Rattle.rhd_text.specs.Rows.{answered, built_in, called, step, form, step_forms};
 ghost use Rattle.rhd_text.specs.ReadRows.{row_at, form_at, part_at};
-ghost use Rattle.rhd_text.specs.Answers.{Gives};
+ghost use Rattle.rhd_syntax.specs.Answers.{Gives};
 
-use crate::arguments::{Argument, argument_at};
 use crate::body::BodyEnd;
-use crate::fault::Stop;
 use crate::keyword::{CallWord, Keyword, call_of, keyword_of};
 use crate::module_forms::{
     clear_at, count_at, doc_at, has_native_at, has_script_at, id_at, index_at, native_at, raw_at,
     raw_iter_at, raw_script_at, register_at, register_raw_at, register_type_at, script_at,
     submodule_at, type_line_at, var_at,
 };
-use crate::numbers::{long_at, num_at};
-use crate::operators::operator_of;
 use crate::part::Part;
 use crate::place::Place;
-use crate::printers::printer_at;
-use crate::quoted::wording_at;
 use crate::requests::plan_at;
-use crate::values::value_at;
-use crate::wants::value_kind_at;
-use crate::words::{is_end, word_at};
 use rhd_call::{Command, ModuleId};
 use rhd_engine::Limits;
 use rhd_hash::Seeds;
+use rhd_syntax::{
+    Argument, Stop, argument_at, is_end, long_at, num_at, operator_of, printer_at, value_at,
+    value_kind_at, word_at, wording_at,
+};
 use rhd_value::{FnId, Position, Text, TypeTag};
 use std::alloc::Global;
 

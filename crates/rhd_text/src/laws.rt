@@ -1,17 +1,16 @@
 //! What is read is what is written.
 
-ghost use Rattle.std.specs.Prelude.{◌≡◌, ◌≤◌, ◌↔◌, ◌⊎◌, Option, List, ◌∷◌, ◌++◌, ℕ, Some, true, codes};
+ghost use Rattle.std.specs.Prelude.{◌≡◌, ◌≤◌, ◌↔◌, ◌⊎◌, Option, List, ◌++◌, ℕ, Some, true, codes};
 ghost use Rattle.std.specs.List.{flat_map};
 ghost use Rattle.rhd_func.specs.Natives.{NativeInfo};
 ghost use Rattle.rhd_text.specs.declared.part.Part.{Part};
 ghost use Rattle.rhd_text.specs.declared.session.SessionText.{SessionText};
-ghost use Rattle.std.specs.Str.{is_utf8};
-ghost use Rattle.rhd_text.specs.Bytes.{is_blank, is_bracket, may_end};
-ghost use Rattle.rhd_text.specs.Spans.{◌▸◌, byte, letters, letters_to, run, value, IsValue};
+ghost use Rattle.rhd_syntax.specs.Bytes.{may_end};
+ghost use Rattle.rhd_syntax.specs.Spans.{value, IsValue};
 ghost use Rattle.rhd_text.specs.Proper.{IsProper, depth};
-ghost use Rattle.rhd_text.specs.Paths.{path_of};
-ghost use Rattle.rhd_text.specs.PrintedValues.{spelled};
-ghost use Rattle.rhd_text.specs.PrintedKeys.{path_name};
+ghost use Rattle.rhd_engine.specs.Paths.{path_of};
+ghost use Rattle.rhd_print.specs.PrintedValues.{spelled};
+ghost use Rattle.rhd_print.specs.PrintedKeys.{path_name};
 ghost use Rattle.rhd_value.specs.Tree.{Tree};
 ghost use Rattle.rhd_text.specs.Grammar.{IsLine};
 ghost use Rattle.rhd_text.specs.Session.{IsSession, IsFirstBad};
@@ -34,11 +33,6 @@ pub fn every_text_is_read_or_has_a_first_bad_line()
     ensures one { (natives : List NativeInfo) (lines : List (List ℕ)) (m n : ℕ) → IsFirstBad natives m lines → IsFirstBad natives n lines → m ≡ n }
 {}
 
-/// Bytes are one value at most.
-pub fn values_say_one_thing()
-    ensures { (bytes : List ℕ) (t u : Tree) → IsValue t bytes → IsValue u bytes → t ≡ u }
-{}
-
 /// What can be written as a value is what a value may be, and at most 64 deep: its numbers,
 /// characters and texts are those of their types, and the names of a map ascend.
 pub fn values_are_what_can_be_written()
@@ -55,13 +49,4 @@ pub fn printed_values_are_read_again()
 /// The names of a path are printed, each with `::` behind it, as the path is written.
 pub fn paths_are_printed_as_they_are_written()
     ensures { (path : List ℕ) → flat_map path_name (path_of path) ≡ path ++ codes "::" }
-{}
-
-/// In a line in UTF-8 every text is UTF-8, between quotation marks or after a blank or a bracket,
-/// and so is every character: no line is bad for one that is not.
-pub fn texts_of_lines_are_utf8()
-    ensures quoted { (line front bytes rest s : List ℕ) → is_utf8 line ≡ true → line ≡ front ++ bytes → (byte 34 ▸ letters s) bytes rest → is_utf8 s ≡ true }
-    ensures character { (line front bytes rest s : List ℕ) → is_utf8 line ≡ true → line ≡ front ++ bytes → (byte 39 ▸ letters_to 39 s) bytes rest → is_utf8 s ≡ true }
-    ensures unquoted { (line front bytes rest w : List ℕ) (b : ℕ) → is_utf8 line ≡ true → is_blank b ≡ true → line ≡ front ++ b ∷ bytes → run w bytes rest → is_utf8 w ≡ true }
-    ensures bracketed { (line front bytes rest w : List ℕ) (b : ℕ) → is_utf8 line ≡ true → is_bracket b ≡ true → line ≡ front ++ b ∷ bytes → run w bytes rest → is_utf8 w ≡ true }
 {}

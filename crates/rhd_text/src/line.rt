@@ -1,15 +1,13 @@
 //! What one line says.
 
-ghost use Rattle.std.specs.Prelude.{◌≡◌, IsTrue};
-ghost use Rattle.std.specs.Str.{IsAscii, is_utf8};
+ghost use Rattle.std.specs.Prelude.{◌≡◌};
 ghost use Rattle.rhd_text.specs.ReadRows.{is_skipped, part_at, line_by};
-ghost use Rattle.rhd_text.specs.Answers.{Gives};
+ghost use Rattle.rhd_syntax.specs.Answers.{Gives};
 
-use crate::fault::Stop;
 use crate::forms::part_at;
 use crate::part::Part;
 use crate::place::Place;
-use crate::words::skip_blanks;
+use rhd_syntax::{Stop, is_text, skip_blanks};
 use std::alloc::Global;
 
 /// Whether a line says nothing: it is blank, or a comment.
@@ -21,27 +19,6 @@ pub fn is_skipped(line: &[u8]) -> bool
         [b';', ..] => true,
         _ => false,
     }
-}
-
-/// Whether all bytes are ASCII.
-fn is_ascii(bytes: &[u8]) -> bool
-    ensures { IsTrue result → IsAscii bytes.now }
-{
-    let mut most = 0u8;
-    for b in bytes {
-        most = most.max(*b);
-    }
-    most < 128
-}
-
-/// Whether bytes are UTF-8. Most texts are ASCII, and that is told sooner.
-pub fn is_text(line: &[u8]) -> bool
-    ensures { result ≡ is_utf8 line.now }
-{
-    if is_ascii(line) {
-        return true;
-    }
-    str::from_utf8(line).is_ok()
 }
 
 /// The part of a text that a line is; none where it says nothing.

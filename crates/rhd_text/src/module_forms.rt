@@ -4,21 +4,18 @@ ghost use Rattle.std.specs.Prelude.{◌≡◌};
 ghost use Rattle.rhd_text.specs.declared.keyword.Keyword.TheVariants as keywords;
 ghost use Rattle.rhd_text.specs.Rows.{form, access, found_in, registration, raw_func};
 ghost use Rattle.rhd_text.specs.ReadRows.{row_at, definition_at};
-ghost use Rattle.rhd_text.specs.Answers.{Gives};
+ghost use Rattle.rhd_syntax.specs.Answers.{Gives};
 
-use crate::fault::Stop;
-use crate::kinds::kinds_at;
-use crate::numbers::{long_at, num_at};
-use crate::operands::{purity_at, texts_at, this_at};
 use crate::part::Part;
 use crate::place::Place;
-use crate::quoted::wording_at;
-use crate::values::value_at;
-use crate::words::{flag_at, is_end};
 use rhd_call::{Command, ModuleId};
 use rhd_func::{BodyId, FnAccess, FnNamespace, IterId, RhaiFunc, ScriptFuncDef, SharedDef};
 use rhd_hash::Key;
 use rhd_module::FuncRegistration;
+use rhd_syntax::{
+    Stop, flag_at, is_end, kinds_at, long_at, num_at, purity_at, texts_at, this_at, value_at,
+    wording_at,
+};
 use rhd_value::{FnId, Text, Texts, Types};
 use std::alloc::Global;
 

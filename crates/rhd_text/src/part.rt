@@ -4,11 +4,11 @@ ghost use Rattle.std.specs.Prelude.{◌≡◌};
 ghost use Rattle.rhd_text.specs.Session.{is_header};
 
 use crate::body::{BodyEnd, CallPlan};
-use crate::printers::Printer;
 use rhd_call::Command;
 use rhd_engine::Limits;
 use rhd_hash::Seeds;
 use rhd_names::OpToken;
+use rhd_syntax::Printer;
 use rhd_value::{Dynamic, FnId, Text, TypeTag};
 
 /// What one line adds to a session text.

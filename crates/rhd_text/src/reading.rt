@@ -8,15 +8,17 @@ ghost use Rattle.rhd_engine.specs.Held.{builtins_held};
 ghost use Rattle.rhd_text.specs.declared.session.SessionText.{SessionText};
 ghost use Rattle.rhd_text.specs.Session.{IsSession, IsFirstBad, ReadsText, ReadsNoOther, NamesNoOther};
 ghost use Rattle.rhd_text.specs.ReadSession.{after_line, session_of};
-ghost use Rattle.rhd_text.specs.Answers.{Reads, StepGives};
+ghost use Rattle.rhd_syntax.specs.Answers.{StepGives};
+ghost use Rattle.rhd_text.specs.Answers.{Reads};
 
-use crate::fault::{Stop, TextFault};
+use crate::fault::TextFault;
 use crate::forms::part_at;
-use crate::line::{is_skipped, is_text};
+use crate::line::is_skipped;
 use crate::lines::first_line;
 use crate::place::Place;
 use crate::session::SessionText;
 use rhd_func::Natives;
+use rhd_syntax::{Stop, is_text};
 use std::alloc::Global;
 
 /// Reads one line after what is said so far. A line that is not known to be UTF-8 is tested.

@@ -4,19 +4,14 @@ ghost use Rattle.std.specs.Prelude.{◌≡◌};
 ghost use Rattle.rhd_func.specs.declared.request.CallShape.TheVariants as shapes;
 ghost use Rattle.rhd_text.specs.Rows.{first_apart, shape_of, request_of};
 ghost use Rattle.rhd_text.specs.ReadRows.{named_at, qualified_at, plan_at};
-ghost use Rattle.rhd_text.specs.Answers.{Gives};
+ghost use Rattle.rhd_syntax.specs.Answers.{Gives};
 
-use crate::arguments::{Arguments, arguments_at};
 use crate::body::CallPlan;
-use crate::fault::Stop;
 use crate::keyword::CallWord;
-use crate::operands::name_at;
-use crate::paths::path_of;
-use crate::quoted::wording_at;
-use crate::wants::want_at;
-use crate::words::is_end;
+use rhd_engine::path_of;
 use rhd_func::{CallRequest, CallShape};
 use rhd_names::lookup_symbol_from_syntax;
+use rhd_syntax::{Arguments, Stop, arguments_at, is_end, name_at, want_at, wording_at};
 use rhd_value::{Position, Text, TypeTag, Values};
 use std::alloc::Global;
 

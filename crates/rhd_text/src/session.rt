@@ -3,17 +3,16 @@
 ghost use Rattle.std.specs.Prelude.{◌≡◌, IfOk, Some};
 ghost use Rattle.rhd_func.specs.Infos.{infos_of};
 ghost use Rattle.rhd_text.specs.Session.{empty_text, takes_headers, is_held, with_seeds, with_limits, with_printer, with_builtin, with_host, with_body, with_call, with_end, with_command, added, with_part};
-ghost use Rattle.rhd_text.specs.Answers.{StepGives};
+ghost use Rattle.rhd_syntax.specs.Answers.{StepGives};
 
 use crate::body::{BodyEnd, BodyPlans, CallPlan};
-use crate::fault::Stop;
 use crate::part::Part;
-use crate::printers::Printer;
 use rhd_call::{Command, Commands};
 use rhd_engine::{Builtins, Limits, Printers};
 use rhd_func::Natives;
 use rhd_hash::Seeds;
 use rhd_names::OpToken;
+use rhd_syntax::{Printer, Stop};
 use rhd_value::{Dynamic, Entries, FnId, OutOfMemory, Text, TypeTag};
 use std::alloc::Global;
 

@@ -16,7 +16,7 @@ use Rattle.rhd_session.specs.Start.{start_world, start_moment}
 use Rattle.rhd_session.specs.Answered.{Answered}
 use Rattle.rhd_text.specs.declared.session.SessionText.{SessionText}
 use Rattle.rhd_text.specs.Session.{IsSession, IsFirstBad}
-use Rattle.rhd_text.specs.PrintedReplies.{all_printed}
+use Rattle.rhd_print.specs.PrintedReplies.{all_printed}
 use Rattle.rhd_tool.specs.Handed.{Handed, Hosts, Bodies}
 use Rattle.rhd_tool.specs.Streams.{CameWhole, WrotePart}
 

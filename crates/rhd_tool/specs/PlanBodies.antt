@@ -18,9 +18,9 @@ use Rattle.rhd_text.specs.declared.body.BodyEnd.{BodyEnd}
 use Rattle.rhd_text.specs.declared.body.BodyEnd.TheVariants.{Ret, RetGiven, Fail}
 use Rattle.rhd_text.specs.declared.body.BodyPlan.{BodyPlan}
 use Rattle.rhd_text.specs.declared.body.CallPlan.{CallPlan}
-use Rattle.rhd_text.specs.declared.body.Given.{Given}
-use Rattle.rhd_text.specs.declared.body.Given.TheVariants.{This, Last, Arg}
-use Rattle.rhd_text.specs.declared.body.GivenAt.{GivenAt}
+use Rattle.rhd_syntax.specs.declared.given.Given.{Given}
+use Rattle.rhd_syntax.specs.declared.given.Given.TheVariants.{This, Last, Arg}
+use Rattle.rhd_syntax.specs.declared.given.GivenAt.{GivenAt}
 use Rattle.rhd_tool.specs.Values.{argument_at, own_fault, bad_carry, values_in}
 
 -- What a body is given.

@@ -7,7 +7,7 @@ ghost use Rattle.rhd_func.specs.Infos.{infos_of};
 ghost use Rattle.rhd_engine.specs.Held.{builtins_held};
 ghost use Rattle.rhd_text.specs.declared.session.SessionText.{SessionText};
 ghost use Rattle.rhd_text.specs.Session.{IsSession, IsFirstBad};
-ghost use Rattle.rhd_text.specs.PrintedReplies.{all_printed};
+ghost use Rattle.rhd_print.specs.PrintedReplies.{all_printed};
 ghost use Rattle.rhd_tool.specs.Causes.{Rose};
 ghost use Rattle.rhd_tool.specs.Handed.{handed_of};
 ghost use Rattle.rhd_tool.specs.Streams.{CameMore, WrotePart, WroteLess};

@@ -1,4 +1,4 @@
-use Rattle.rhd_text.specs.PrintedValues.{spelled}
+use Rattle.rhd_print.specs.PrintedValues.{spelled}
 use Rattle.rhd_text.proofs.AgainUtf8.{whole_again}
 use Rattle.rhd_text.proofs.WrittenValues.{whole_fits}
 use Rattle.rhd_text.proofs.laws.values_are_what_can_be_written.Goals as goal

@@ -1,0 +1,124 @@
+//! Blanks and words.
+
+ghost use Rattle.std.specs.Prelude.{◌≡◌, ◌≤◌, length};
+ghost use Rattle.std.specs.List.{list_all, prefix_len};
+ghost use Rattle.std.specs.Option.{option_map};
+ghost use Rattle.std.specs.Char.{is_ascii_digit};
+ghost use Rattle.rhd_syntax.specs.Bytes.{is_blank, is_bracket, is_word_byte, may_end};
+ghost use Rattle.rhd_syntax.specs.Reading.{skip_blanks, is_end, run_at, word_at, flag_at};
+ghost use Rattle.rhd_syntax.specs.Answers.{Gives};
+
+use crate::fault::Stop;
+
+fn is_blank(b: u8) -> bool
+    ensures { result ≡ is_blank b }
+{
+    b == b' ' || b == b'\t'
+}
+
+fn is_bracket(b: u8) -> bool
+    ensures { result ≡ is_bracket b }
+{
+    b == b'(' || b == b')' || b == b'[' || b == b']' || b == b'{' || b == b'}'
+}
+
+fn is_word_byte(b: u8) -> bool
+    ensures { result ≡ is_word_byte b }
+{
+    !(is_blank(b) || is_bracket(b) || b == b'"' || b == b'\'')
+}
+
+fn blanks_len(bytes: &[u8]) -> usize
+    ensures length { result ≡ prefix_len is_blank bytes.now }
+    ensures within { result ≤ length bytes.now }
+{
+    bytes.iter().take_while(|b| is_blank(**b)).count()
+}
+
+fn run_len(bytes: &[u8]) -> usize
+    ensures length { result ≡ prefix_len is_word_byte bytes.now }
+    ensures within { result ≤ length bytes.now }
+{
+    bytes.iter().take_while(|b| is_word_byte(**b)).count()
+}
+
+/// The bytes after the blanks at the front.
+pub fn skip_blanks(bytes: &[u8]) -> &[u8]
+    ensures { result.now ≡ skip_blanks bytes.now }
+{
+    &bytes[blanks_len(bytes)..]
+}
+
+/// Whether only blanks are left.
+pub fn is_end(bytes: &[u8]) -> bool
+    ensures { result ≡ is_end bytes.now }
+{
+    skip_blanks(bytes).is_empty()
+}
+
+/// Whether a word may end before these bytes.
+pub fn may_end(bytes: &[u8]) -> bool
+    ensures { result ≡ may_end bytes.now }
+{
+    match bytes {
+        [] => true,
+        [b, ..] => is_blank(*b) || is_bracket(*b),
+    }
+}
+
+fn find_run(bytes: &[u8]) -> Option<(&[u8], &[u8])>
+    ensures { option_map (λ x. (x.0.now, x.1.now)) result ≡ run_at bytes.now }
+{
+    let (word, rest) = bytes.split_at(run_len(bytes));
+    if word.is_empty() || !may_end(rest) {
+        return None;
+    }
+    Some((word, rest))
+}
+
+/// The run of word bytes at the front, of one or more, and the bytes after it.
+pub fn run_at(bytes: &[u8]) -> Result<(&[u8], &[u8]), Stop>
+    ensures { Gives (λ x. (x.0.now, x.1.now)) result (run_at bytes.now) }
+{
+    match find_run(bytes) {
+        Some(found) => Ok(found),
+        None => Err(Stop::Bad),
+    }
+}
+
+/// The next word, and the bytes after it.
+#[tactic(auto, unfolding(crate::specs::Reading::word_at))]
+pub fn word_at(bytes: &[u8]) -> Result<(&[u8], &[u8]), Stop>
+    ensures { Gives (λ x. (x.0.now, x.1.now)) result (word_at bytes.now) }
+{
+    run_at(skip_blanks(bytes))
+}
+
+#[tactic(auto, unfolding(crate::specs::Reading::word_at))]
+fn find_word(bytes: &[u8]) -> Option<(&[u8], &[u8])>
+    ensures { option_map (λ x. (x.0.now, x.1.now)) result ≡ word_at bytes.now }
+{
+    find_run(skip_blanks(bytes))
+}
+
+/// Whether this word comes next, and the bytes after it if it does.
+#[tactic(auto, unfolding(crate::specs::Reading::flag_at))]
+pub fn flag_at<'a>(bytes: &'a [u8], word: &[u8]) -> (bool, &'a [u8])
+    ensures { (result.0, result.1.now) ≡ flag_at word.now bytes.now }
+{
+    let Some((next, rest)) = find_word(bytes) else {
+        return (false, bytes);
+    };
+    if next == word {
+        (true, rest)
+    } else {
+        (false, bytes)
+    }
+}
+
+/// Whether all bytes are digits.
+pub fn all_digits(word: &[u8]) -> bool
+    ensures { result ≡ list_all is_ascii_digit word.now }
+{
+    word.iter().all(|b| b.is_ascii_digit())
+}

@@ -1,9 +1,0 @@
-use Rattle.std.proofs.Common.{◌∙◌}
-use Rattle.rhd_text.proofs.NumberLaws.{parsed_number, digits_are_text}
-use Rattle.rhd_text.proofs.numbers.parse_u64.Goals as goal
-
-pub returns-in-Ok : goal.returns-in-Ok
-returns-in-Ok c = c.ok.ensures.value ∙ parsed_number 64 c.args.word.now c.parse.result c.requires (rw c.in-Ok.ensures.cases.0 at c.parse.ensures.value.0)
-
-pub returns-in-Err : goal.returns-in-Err
-returns-in-Err c = absurd (c.in-Err.ensures.cases.0 (digits_are_text c.args.word.now c.requires))
