@@ -1,6 +1,6 @@
 //! Engines, what is registered in them, lists of modules, and the state of a run.
 
-use crate::given::{SEEDS, for_all, holds, int, must, one, plain, shared, text, texts};
+use crate::given::{SEEDS, for_all, holds, int, is_told, must, one, plain, shared, text, texts};
 use rhd_engine::{
     Builtins, Engine, GlobalRuntimeState, ImportList, Limits, ModuleList, ModuleMap, Operator,
     Printers, RegisterIntoEngine, fn_registration, for_all_calls, path_text, raw_func,
@@ -245,7 +245,7 @@ fn check_list_registers(rt: &impl Abort, alloc: Global, natives: &Natives) {
     assert!(rt; list.len() == 1, "one module");
     let reg = for_all(rt, alloc, "g");
     let told = list.register_in_first_told(alloc, reg, natives, FnId(1));
-    holds(rt, told.is_ok_and(|m| m.num_params == 1), "told");
+    holds(rt, is_told(told, 1), "told");
     check_list_raw(rt, alloc, natives, &mut list);
 }
 
@@ -294,7 +294,10 @@ fn lists_are_filled(rt: HostRuntime) {
     holds(&rt, put.is_ok() && list.len() == 3, "insert");
     let mut dup = must(&rt, list.dup(alloc), "a list is copied");
     holds(&rt, has_ids(&dup, &["a", "b", "c"]), "in order");
-    let last = dup.pop().is_some_and(|m| has_id(m.module(), "c"));
+    let last = match dup.pop() {
+        Some(last) => has_id(last.module(), "c"),
+        None => false,
+    };
     holds(&rt, last && list.len() == 3, "pop");
 }
 
@@ -310,10 +313,7 @@ fn imports_are_listed(rt: HostRuntime) {
     for (name, _shared) in dup.as_slice() {
         holds(&rt, name.as_str() == "a", "as_slice");
     }
-    let last = dup
-        .pop()
-        .is_some_and(|(name, _shared)| name.as_str() == "a");
-    holds(&rt, last && dup.len() == 0, "pop");
+    holds(&rt, dup.pop().is_some() && dup.len() == 0, "pop");
 }
 
 #[test]

@@ -13,7 +13,6 @@ use rhd_tool::kit;
 use rhd_value::{Dynamic, FnId, Position, Value};
 use std::alloc::Global;
 use std::process::Abort;
-use std::test::Fail;
 
 /// A native that takes its arguments by value.
 fn by_value() -> RhaiFunc {
@@ -47,15 +46,15 @@ fn private_method(alloc: Global) -> ScriptFuncDef {
 }
 
 #[test]
-fn natives_are_shown(rt: HostRuntime) -> Result<(), Fail> {
+fn natives_are_shown(rt: HostRuntime) {
     let alloc = rt.alloc();
     let pure = by_value();
-    let shown = format!(in alloc; "{pure} {pure:?}")?;
+    let shown = must(&rt, format!(in alloc; "{pure} {pure:?}"), "memory");
     let wanted = "NativePureFunction NativePureFunction";
     holds(&rt, shown.as_str() == wanted, "by value");
     let method = by_reference();
     let iterator = RhaiFunc::Iterator { func: IterId(0) };
-    let shown = format!(in alloc; "{method} {iterator}")?;
+    let shown = must(&rt, format!(in alloc; "{method} {iterator}"), "memory");
     holds(
         &rt,
         shown.as_str() == "NativeMethod NativeIterator",
@@ -63,29 +62,27 @@ fn natives_are_shown(rt: HostRuntime) -> Result<(), Fail> {
     );
     let plugin = RhaiFunc::plugin(FnId(0));
     let listed = RhaiFunc::StaticPlugin { func: FnId(0) };
-    let shown = format!(in alloc; "{plugin} {listed}")?;
+    let shown = must(&rt, format!(in alloc; "{plugin} {listed}"), "memory");
     holds(
         &rt,
         shown.as_str() == "PluginFunction PluginFunction",
         "plugins",
     );
-    Ok(())
 }
 
 #[test]
-fn scripts_are_shown(rt: HostRuntime) -> Result<(), Fail> {
+fn scripts_are_shown(rt: HostRuntime) {
     let alloc = rt.alloc();
     let mut def = script(alloc, "f");
     def.params = texts(alloc, "p");
     let _ = def.params.push(text(alloc, "q"));
     let public = RhaiFunc::from(must(&rt, SharedDef::new(alloc, def), "shared"));
-    let shown = format!(in alloc; "{public:?}")?;
+    let shown = must(&rt, format!(in alloc; "{public:?}"), "memory");
     holds(&rt, shown.as_str() == "f(p, q)", "public");
     let def = private_method(alloc);
     let private = RhaiFunc::from(must(&rt, SharedDef::new(alloc, def), "shared"));
-    let shown = format!(in alloc; "{private}")?;
+    let shown = must(&rt, format!(in alloc; "{private}"), "memory");
     holds(&rt, shown.as_str() == "private i64.f(p)", "private");
-    Ok(())
 }
 
 #[test]
@@ -174,7 +171,10 @@ fn scripts_are_read(rt: HostRuntime) {
     holds(&rt, dup.is_script() && !dup.is_native(), "a script");
     holds(&rt, dup.access() == FnAccess::Private, "that is private");
     let held = dup.get_script_fn_def();
-    let name = held.is_some_and(|d| d.def().name.as_str() == "f");
+    let name = match held {
+        Some(def) => def.def().name.as_str() == "f",
+        None => false,
+    };
     holds(&rt, name, "its definition");
 }
 

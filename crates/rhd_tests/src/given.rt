@@ -3,6 +3,7 @@
 ghost use Rattle.std.specs.Prelude.{◌≡◌, None, Ok};
 ghost use Rattle.rhd_module.specs.Tree.{empty_module};
 
+use rhd_decl::{DeclFault, FuncMetadata};
 use rhd_func::{
     BodyId, CallDone, CallShape, Carry, FnAccess, NativeCallContext, NativeStep, ScriptFuncDef,
     SharedDef,
@@ -47,6 +48,22 @@ pub fn text(alloc: Global, word: &str) -> Text {
     let mut text = Text::new(alloc);
     let _ = text.push(word);
     text
+}
+
+/// Whether there is a text, and which.
+pub fn is_text(text: Option<&Text>, word: &str) -> bool {
+    match text {
+        Some(text) => text.as_str() == word,
+        None => false,
+    }
+}
+
+/// Whether there is a value, and which number it is.
+pub fn is_int(value: Option<&Dynamic>, number: i64) -> bool {
+    match value {
+        Some(value) => value.as_int() == Some(number),
+        None => false,
+    }
 }
 
 /// One text; none where memory ran out.
@@ -180,5 +197,13 @@ pub fn carry_of(step: NativeStep) -> Option<Carry> {
             fault: _fault,
             first: _first,
         } => None,
+    }
+}
+
+/// Whether a native was registered with so many parameters.
+pub fn is_told(told: Result<FuncMetadata, DeclFault>, params: u64) -> bool {
+    match told {
+        Ok(metadata) => metadata.num_params == params,
+        Err(_) => false,
     }
 }

@@ -1,6 +1,6 @@
 //! Hashes worked out apart from this code, filters of two sizes, keys, and tables by key.
 
-use crate::given::{CLASHING, SEEDS, holds, must, native_key, script_key, text, texts};
+use crate::given::{CLASHING, SEEDS, holds, is_text, must, native_key, script_key, text, texts};
 use rhd_hash::{
     BloomFilterU64, FnCallHashes, Key, KeyTable, Seeds, Steps, StraightHashMap, StraightHasher,
     StraightHasherBuilder, TableFault, calc_fn_hash, calc_fn_hash_full, calc_native_fn_hash,
@@ -10,7 +10,6 @@ use rhd_value::{OutOfMemory, Text, Texts, TypeTag};
 use std::alloc::Global;
 use std::hash::{BuildHasher, DefaultHasher, Hash, Hasher};
 use std::process::Abort;
-use std::test::Fail;
 
 /// Other seeds, and a mask of few bits.
 const OTHERS: Seeds = Seeds {
@@ -101,12 +100,12 @@ fn hash_of<T: Hash>(value: &T) -> u64 {
 }
 
 #[test]
-fn filters_are_joined(rt: HostRuntime) -> Result<(), Fail> {
+fn filters_are_joined(rt: HostRuntime) {
     let mut first = BloomFilterU64::<8>::default();
     first.mark(1);
     let mut second = BloomFilterU64::<8>::default();
     second.mark(2);
-    let copy = first.clone()?;
+    let copy = must(&rt, first.clone(), "memory");
     holds(&rt, copy == first && copy != second, "equal");
     holds(&rt, hash_of(&copy) == hash_of(&first), "of one hash");
     first += &second;
@@ -115,11 +114,11 @@ fn filters_are_joined(rt: HostRuntime) -> Result<(), Fail> {
         !first.is_absent(1) && !first.is_absent(2),
         "both marks",
     );
-    let sum = copy + second.clone()?;
+    let other = must(&rt, second.clone(), "memory");
+    let sum = copy + other;
     holds(&rt, sum == first, "a sum");
     second += sum;
     holds(&rt, second == first, "taken in");
-    Ok(())
 }
 
 #[test]
@@ -131,7 +130,7 @@ fn keys_are_read(rt: HostRuntime) {
         key.name().as_str() == "f" && key.num_params() == 1,
         "of f",
     );
-    let name = key.native_name().is_some_and(|n| n.as_str() == "f");
+    let name = is_text(key.native_name(), "f");
     holds(&rt, name && !key.is_script() && !key.is_typed(), "a native");
     let f = text(alloc, "f");
     holds(&rt, key.matches(0, &f, &[TypeTag::Int]), "matches");
@@ -180,6 +179,14 @@ fn tables_are_filled(rt: HostRuntime) {
     );
 }
 
+/// Whether a pair is 3 under this key.
+fn is_pair(pair: Option<(&Key, &u32)>, key: &Key) -> bool {
+    match pair {
+        Some((held, value)) => *held == *key && *value == 3,
+        None => false,
+    }
+}
+
 #[test]
 fn tables_are_read(rt: HostRuntime) {
     let alloc = rt.alloc();
@@ -188,17 +195,9 @@ fn tables_are_read(rt: HostRuntime) {
     let key = script_key(alloc, "f");
     holds(&rt, table.get(&key) == Some(&3), "by key");
     let held = table.get_by_hash(key.mixed(SEEDS));
-    holds(
-        &rt,
-        held.is_some_and(|(k, v)| *k == key && *v == 3),
-        "by hash",
-    );
+    holds(&rt, is_pair(held, &key), "by hash");
     let held = table.get_index(0);
-    holds(
-        &rt,
-        held.is_some_and(|(k, v)| *k == key && *v == 3),
-        "by place",
-    );
+    holds(&rt, is_pair(held, &key), "by place");
     for (_key, value) in table.iter() {
         holds(&rt, *value == 3, "each");
     }
@@ -238,7 +237,7 @@ fn steps_are_counted(rt: HostRuntime) {
 }
 
 #[test]
-fn call_hashes_are_read(rt: HostRuntime) -> Result<(), Fail> {
+fn call_hashes_are_read(rt: HostRuntime) {
     let both = FnCallHashes::from_hash(1);
     holds(
         &rt,
@@ -250,13 +249,16 @@ fn call_hashes_are_read(rt: HostRuntime) -> Result<(), Fail> {
     let two = FnCallHashes::from_script_and_native(1, 2);
     assert!(&rt; !two.is_native_only());
     holds(&rt, two.script() == 1, "of scripts");
-    let shown = format!(in rt.alloc(); "{both:?} {native:?} {two:?}")?;
+    let shown = must(
+        &rt,
+        format!(in rt.alloc(); "{both:?} {native:?} {two:?}"),
+        "memory",
+    );
     holds(&rt, shown.as_str() == "1 7 (native only) (1, 2)", "as text");
-    Ok(())
 }
 
 #[test]
-fn hashes_stay_as_they_are(rt: HostRuntime) -> Result<(), Fail> {
+fn hashes_stay_as_they_are(rt: HostRuntime) {
     let mut hasher: StraightHasher = StraightHasherBuilder.build_hasher();
     hasher.write_u64(5);
     holds(&rt, hasher.finish() == 5, "a number");
@@ -265,7 +267,6 @@ fn hashes_stay_as_they_are(rt: HostRuntime) -> Result<(), Fail> {
     hasher.write(&[7]);
     holds(&rt, hasher.finish() == 6, "bytes of another count");
     let mut map = StraightHashMap::<u32>::with_hasher(rt.alloc(), StraightHasherBuilder);
-    map.insert(5, 1)?;
+    must(&rt, map.insert(5, 1), "memory");
     holds(&rt, map.get(&5) == Some(&1), "a map");
-    Ok(())
 }

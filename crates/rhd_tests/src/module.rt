@@ -3,10 +3,10 @@
 ghost use Rattle.std.specs.Prelude.{◌≡◌, true};
 
 use crate::given::{
-    SEEDS, empty, for_all, holds, int, must, native_key, script, script_key, shared, shared_script,
-    text, texts,
+    SEEDS, empty, for_all, holds, int, is_int, is_text, is_told, must, native_key, script,
+    script_key, shared, shared_script, text, texts,
 };
-use rhd_decl::DeclFault;
+use rhd_decl::{CustomTypeInfo, DeclFault};
 use rhd_func::{FnAccess, FnNamespace, Natives, PluginFunc, RhaiFunc, SharedDef};
 use rhd_hash::{Key, Steps};
 use rhd_module::{FuncRegistration, Module, is_pure_by_name, script_declaration};
@@ -15,7 +15,6 @@ use rhd_value::{FnId, Texts, TypeTag};
 use std::alloc::Global;
 use std::process::Abort;
 use std::rc::Rc;
-use std::test::Fail;
 
 /// A module whose variable `x` is this number.
 fn with_x(rt: &impl Abort, alloc: Global, number: i64) -> Module {
@@ -35,10 +34,13 @@ fn modules_have_texts(rt: HostRuntime) {
         "no id",
     );
     let set = module.set_id(alloc, text(alloc, "m"));
-    let id = module.id().is_some_and(|id| id.as_str() == "m");
+    let id = is_text(module.id(), "m");
     holds(&rt, set.is_ok() && id, "an id");
     let shared = must(&rt, module.share_id(alloc), "the id is shared");
-    let same = shared.is_some_and(|id| id.text().as_str() == "m");
+    let same = match &shared {
+        Some(id) => id.text().as_str() == "m",
+        None => false,
+    };
     holds(&rt, same, "the same id");
     module.clear_id();
     holds(&rt, module.id().is_none(), "cleared");
@@ -66,7 +68,7 @@ fn modules_have_variables(rt: HostRuntime) {
     let x = text(alloc, "x");
     holds(&rt, module.contains_var(&x), "contains_var");
     let value = must(&rt, module.get_var(alloc, &x), "get_var");
-    let held = value.is_some_and(|v| v.as_int() == Some(1));
+    let held = is_int(value.as_ref(), 1);
     holds(&rt, held, "its value");
     let value = must(&rt, module.get_var_value::<i64>(alloc, &x), "a number");
     holds(&rt, value == Some(1), "get_var_value");
@@ -107,12 +109,20 @@ fn modules_have_types(rt: HostRuntime) {
     holds(&rt, set.is_ok(), "set_custom_type_with_comments_raw");
     for name in ["custom1", "custom2", "t", "u"] {
         let display = module.get_custom_type_display_by_name(&text(alloc, name));
-        holds(&rt, display.is_some_and(|n| n.as_str() == "N"), name);
+        holds(&rt, is_text(display, "N"), name);
     }
     let display = must(&rt, module.get_custom_type_display(alloc, 1), "display");
-    holds(&rt, display.is_some_and(|n| n.as_str() == "N"), "by number");
+    holds(&rt, is_text(display, "N"), "by number");
     for (_name, info) in module.iter_custom_types() {
         holds(&rt, info.display_name.as_str() == "N", "iter_custom_types");
+    }
+}
+
+/// Whether a type is shown with so many comments.
+fn has_comments(info: Option<&CustomTypeInfo>, count: usize) -> bool {
+    match info {
+        Some(info) => info.comments.len() == count,
+        None => false,
     }
 }
 
@@ -121,13 +131,9 @@ fn types_are_read_raw(rt: HostRuntime) {
     let alloc = rt.alloc();
     let module = with_types(&rt, alloc);
     let info = must(&rt, module.get_custom_type_raw(alloc, 2), "info");
-    holds(
-        &rt,
-        info.is_some_and(|i| i.comments.len() == 1),
-        "by number",
-    );
+    holds(&rt, has_comments(info, 1), "by number");
     let info = module.get_custom_type_by_name_raw(&text(alloc, "t"));
-    holds(&rt, info.is_some_and(|i| i.comments.len() == 0), "by name");
+    holds(&rt, has_comments(info, 0), "by name");
 }
 
 #[test]
@@ -143,7 +149,10 @@ fn modules_have_modules(rt: HostRuntime) {
         "a sub-module",
     );
     let x = text(alloc, "x");
-    let inner = root.get_sub_module(&a).is_some_and(|m| m.contains_var(&x));
+    let inner = match root.get_sub_module(&a) {
+        Some(inner) => inner.contains_var(&x),
+        None => false,
+    };
     holds(&rt, inner, "get_sub_module");
     for (name, inner) in root.iter_sub_modules() {
         holds(
@@ -154,11 +163,7 @@ fn modules_have_modules(rt: HostRuntime) {
     }
     let value = root.get_qualified_var(alloc, texts(alloc, "a").as_slice(), &x);
     let value = must(&rt, value, "a variable below");
-    holds(
-        &rt,
-        value.is_some_and(|v| v.as_int() == Some(1)),
-        "its value",
-    );
+    holds(&rt, is_int(value.as_ref(), 1), "its value");
 }
 
 /// A module with a script `s` without parameters.
@@ -170,6 +175,14 @@ fn with_script(rt: &impl Abort, alloc: Global) -> Module {
     module
 }
 
+/// Whether there is a function that a script defines.
+fn is_script(func: Option<&RhaiFunc>) -> bool {
+    match func {
+        Some(func) => func.is_script(),
+        None => false,
+    }
+}
+
 #[test]
 fn scripts_are_declared(rt: HostRuntime) {
     let alloc = rt.alloc();
@@ -177,7 +190,7 @@ fn scripts_are_declared(rt: HostRuntime) {
     let key = script_key(alloc, "s");
     let mut steps = Steps::new();
     let func = module.get_fn(&key, &mut steps);
-    holds(&rt, func.is_some_and(|f| f.is_script()), "get_fn");
+    holds(&rt, is_script(func), "get_fn");
     holds(
         &rt,
         steps.count() == 1 && module.contains_fn(&key),
@@ -191,7 +204,7 @@ fn scripts_are_declared(rt: HostRuntime) {
 }
 
 #[test]
-fn modules_are_copied(rt: HostRuntime) -> Result<(), Fail> {
+fn modules_are_copied(rt: HostRuntime) {
     let alloc = rt.alloc();
     let mut module = with_script(&rt, alloc);
     let key = script_key(alloc, "s");
@@ -206,9 +219,8 @@ fn modules_are_copied(rt: HostRuntime) -> Result<(), Fail> {
             "comments too",
         );
     }
-    let clone = module.clone()?;
+    let clone = must(&rt, module.clone(), "memory");
     holds(&rt, clone.contains_fn(&key), "clone");
-    Ok(())
 }
 
 #[test]
@@ -231,7 +243,7 @@ fn scripts_are_described(rt: HostRuntime) {
 }
 
 #[test]
-fn registrations_are_named(rt: HostRuntime) -> Result<(), Fail> {
+fn registrations_are_named(rt: HostRuntime) {
     let alloc = rt.alloc();
     let x = text(alloc, "x");
     let reg = must(&rt, FuncRegistration::new_getter(alloc, &x), "a getter");
@@ -248,7 +260,6 @@ fn registrations_are_named(rt: HostRuntime) -> Result<(), Fail> {
     let reg = must(&rt, FuncRegistration::new_index_setter(alloc), "made");
     holds(&rt, reg.name.as_str() == "index$set$", "writes");
     holds(&rt, !is_pure_by_name(&reg.name, 3), "not pure by its name");
-    Ok(())
 }
 
 #[test]
@@ -297,11 +308,8 @@ fn check_natives(rt: &impl Abort, alloc: Global, natives: &Natives) {
     let mut module = empty(rt, alloc, SEEDS);
     let set = module.set_native_fn(alloc, natives, text(alloc, "n"), FnId(1));
     let key = native_key(alloc, "n", TypeTag::Int);
-    holds(
-        rt,
-        set.is_ok_and(|h| h == key.mixed(SEEDS)),
-        "set_native_fn",
-    );
+    let hash = must(rt, set, "set_native_fn");
+    holds(rt, hash == key.mixed(SEEDS), "its hash");
     let n = text(alloc, "n");
     holds(rt, module.may_match(0, &n, &[TypeTag::Int]), "may_match");
     let x = text(alloc, "x");
@@ -354,7 +362,7 @@ fn check_registered(rt: &impl Abort, alloc: Global, natives: &Natives) {
     let types = [TypeTag::Int, TypeTag::Int];
     let reg = for_all(rt, alloc, "f");
     let made = reg.set_into_module_raw(alloc, &mut module, natives, &types, func);
-    holds(rt, made.is_ok_and(|m| m.num_params == 2), "raw");
+    holds(rt, is_told(made, 2), "raw");
     let func = RhaiFunc::plugin(FnId(1));
     let reg = for_all(rt, alloc, "g");
     let made = module.set_fn_raw_with_options(alloc, reg, natives, &[], func);
@@ -426,7 +434,7 @@ fn check_shared_natives(rt: &impl Abort, alloc: Global, natives: &Natives) {
     holds(rt, set.is_ok(), "register");
     let reg = for_all(rt, alloc, "f");
     let told = owner.register_told(alloc, reg, natives, FnId(1));
-    holds(rt, told.is_ok_and(|m| m.num_params == 1), "register_told");
+    holds(rt, is_told(told, 1), "register_told");
     let func = RhaiFunc::plugin(FnId(1));
     let types = [TypeTag::Int, TypeTag::Int];
     let reg = for_all(rt, alloc, "f");
@@ -443,10 +451,10 @@ fn owners_have_ids(rt: HostRuntime) {
     let set = owner.set_id_if_none(alloc, text(alloc, "m"));
     holds(&rt, set.is_ok(), "set_id_if_none");
     let set = owner.set_id_if_none(alloc, text(alloc, "n"));
-    let id = owner.module().id().is_some_and(|id| id.as_str() == "m");
+    let id = is_text(owner.module().id(), "m");
     holds(&rt, set.is_ok() && id, "the first stays");
     let set = owner.set_id(alloc, text(alloc, "n"));
-    let id = owner.module().id().is_some_and(|id| id.as_str() == "n");
+    let id = is_text(owner.module().id(), "n");
     holds(&rt, set.is_ok() && id, "set_id");
     holds(&rt, other.module().id().is_none(), "unseen by the other");
 }

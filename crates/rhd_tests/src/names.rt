@@ -1,11 +1,11 @@
 //! Tests against tables that stand here once more, and that calls succeed.
 
+use crate::given::must;
 use rhd_names::{
     OpToken, is_anonymous_fn, is_reserved_keyword_or_symbol, is_valid_function_name,
     is_valid_identifier, lookup_symbol_from_syntax, make_getter, make_setter,
 };
 use std::process::Abort;
-use std::test::Fail;
 
 /// The tokens that are words, and how they are written.
 const WORDS: [OpToken; 25] = [
@@ -117,12 +117,12 @@ fn check_tokens(rt: &impl Abort, texts: &str, tokens: &[OpToken], assigns: bool)
     let mut tokens = tokens.iter();
     for text in texts.split(' ') {
         let token = tokens.next().copied();
-        assert!(rt;
-            token.is_some_and(|t| t.is_op_assignment() == assigns),
-            "{text}"
-        );
+        let same = match token {
+            Some(token) => token.text() == text && token.is_op_assignment() == assigns,
+            None => false,
+        };
+        assert!(rt; same, "{text}");
         assert!(rt; lookup_symbol_from_syntax(text) == token, "{text}");
-        assert!(rt; token.is_some_and(|t| t.text() == text), "{text}");
         check_text(rt, text, false, false);
     }
     assert!(rt; tokens.next().is_none());
@@ -154,10 +154,9 @@ fn tables(rt: HostRuntime) {
 }
 
 #[test]
-fn properties(rt: HostRuntime) -> Result<(), Fail> {
-    let getter = make_getter(rt.alloc(), "x")?;
+fn properties(rt: HostRuntime) {
+    let getter = must(&rt, make_getter(rt.alloc(), "x"), "memory");
     assert!(rt; getter.as_str() == "get$x" && !is_valid_identifier(getter.as_str()));
-    let setter = make_setter(rt.alloc(), "")?;
+    let setter = must(&rt, make_setter(rt.alloc(), ""), "memory");
     assert!(rt; setter.as_str() == "set$" && !is_anonymous_fn(setter.as_str()));
-    Ok(())
 }

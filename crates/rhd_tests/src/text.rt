@@ -10,17 +10,23 @@ use rhd_text::{
 use rhd_value::Position;
 use std::alloc::Global;
 use std::process::Abort;
-use std::test::Fail;
 
 #[test]
-fn faults_are_shown(rt: HostRuntime) -> Result<(), Fail> {
+fn faults_are_shown(rt: HostRuntime) {
     let alloc = rt.alloc();
-    let bad = format!(in alloc; "{}", TextFault::BadLine(4294967295))?;
+    let bad = must(
+        &rt,
+        format!(in alloc; "{}", TextFault::BadLine(4294967295)),
+        "memory",
+    );
     let wanted = "line 4294967295 is no line of a session text";
     holds(&rt, bad.as_str() == wanted, "a bad line");
-    let full = format!(in alloc; "{}", TextFault::OutOfMemory)?;
+    let full = must(
+        &rt,
+        format!(in alloc; "{}", TextFault::OutOfMemory),
+        "memory",
+    );
     holds(&rt, full.as_str() == "out of memory", "want of memory");
-    Ok(())
 }
 
 #[test]
@@ -64,7 +70,10 @@ fn is_f(request: &CallRequest, line: u32) -> bool {
 fn call_lines_are_read(rt: HostRuntime) {
     let alloc = rt.alloc();
     let read = must(&rt, read_call(alloc, b"call f 1", 7), "an answer");
-    let call = read.is_some_and(|request| is_f(&request, 7));
+    let call = match &read {
+        Some(request) => is_f(request, 7),
+        None => false,
+    };
     holds(&rt, call, "a call");
     let read = must(&rt, read_call(alloc, b"module", 1), "an answer");
     holds(&rt, read.is_none(), "no call");
@@ -133,7 +142,10 @@ fn calls_are_listed(rt: HostRuntime) {
     holds(&rt, calls.push(plan).is_ok(), "a call goes last");
     let dup = must(&rt, calls.dup(alloc), "calls are copied");
     holds(&rt, dup.len() == 1 && dup.as_slice().len() == 1, "one call");
-    let first = dup.get(0).is_some_and(|plan| is_f(&plan.request, 1));
+    let first = match dup.get(0) {
+        Some(plan) => is_f(&plan.request, 1),
+        None => false,
+    };
     holds(&rt, first && dup.get(1).is_none(), "get");
 }
 
@@ -159,6 +171,9 @@ fn bodies_are_listed(rt: HostRuntime) {
     let mut bodies = BodyPlans::new(alloc);
     holds(&rt, bodies.push(body).is_ok(), "a body goes last");
     let dup = must(&rt, bodies.dup(alloc), "bodies are copied");
-    let first = dup.get(0).is_some_and(|body| answers_two(body));
+    let first = match dup.get(0) {
+        Some(body) => answers_two(body),
+        None => false,
+    };
     holds(&rt, first && dup.len() == 1, "one body");
 }

@@ -12,7 +12,6 @@ use rhd_tool::{
 use rhd_value::{Dynamic, Entries, TypeTag, Value, Values};
 use std::alloc::Global;
 use std::process::Abort;
-use std::test::Fail;
 
 #[test]
 fn natives_are_described(rt: HostRuntime) {
@@ -91,15 +90,15 @@ fn hosts_answer(rt: HostRuntime) {
 }
 
 #[test]
-fn sources_are_read(rt: HostRuntime) -> Result<(), Fail> {
+fn sources_are_read(rt: HostRuntime) {
     let alloc = rt.alloc();
     let mut buf = [0u8; 3];
-    let bytes = Vec::from_slice(alloc, b"ab")?;
+    let bytes = must(&rt, Vec::from_slice(alloc, b"ab"), "memory");
     let mut plain = PlainSource::new(bytes);
     let read = plain.read(&mut buf);
     holds(&rt, read == Ok(2) && buf == [b'a', b'b', 0], "plain");
-    let bytes = Vec::from_slice(alloc, b"cd")?;
-    let fails = Vec::from_slice(alloc, &[2u64])?;
+    let bytes = must(&rt, Vec::from_slice(alloc, b"cd"), "memory");
+    let fails = must(&rt, Vec::from_slice(alloc, &[2u64]), "memory");
     let mut memory = MemSource::new(bytes, fails, 1);
     holds(&rt, memory.read(&mut buf) == Ok(1), "one byte at a time");
     holds(&rt, memory.read(&mut buf).is_err(), "the second call fails");
@@ -110,16 +109,15 @@ fn sources_are_read(rt: HostRuntime) -> Result<(), Fail> {
         read == Ok(2) && buf == [b'e', b'f', 0],
         "a reader of std",
     );
-    Ok(())
 }
 
 #[test]
-fn sinks_are_written(rt: HostRuntime) -> Result<(), Fail> {
+fn sinks_are_written(rt: HostRuntime) {
     let alloc = rt.alloc();
     let mut plain = PlainSink::new(alloc);
     holds(&rt, plain.write(b"ab") == Ok(2), "plain");
     holds(&rt, plain.bytes() == b"ab".as_slice(), "its bytes");
-    let fails = Vec::from_slice(alloc, &[2u64])?;
+    let fails = must(&rt, Vec::from_slice(alloc, &[2u64]), "memory");
     let mut memory = MemSink::new(alloc, fails, 1);
     holds(&rt, memory.write(b"cd") == Ok(1), "one byte at a time");
     holds(&rt, memory.write(b"d").is_err(), "the second call fails");
@@ -129,7 +127,6 @@ fn sinks_are_written(rt: HostRuntime) -> Result<(), Fail> {
     holds(&rt, writing.write(b"ef") == Ok(2), "a writer of std");
     drop(writing);
     holds(&rt, out.as_slice() == b"ef".as_slice(), "its bytes");
-    Ok(())
 }
 
 #[test]

@@ -1,6 +1,6 @@
 //! Values, texts and types, lists and maps of them, pointers and faults.
 
-use crate::given::{holds, int, must, one, text, texts, types};
+use crate::given::{holds, int, is_int, is_text, must, one, text, texts, types};
 use rhd_value::{
     Dynamic, Entries, EvalAltResult, FnId, FnPtr, FnPtrType, OutOfMemory, ParseErrorType, Position,
     Sizes, Text, Texts, TypeTag, Types, Value, Values, Variant, a_value_comes_back, map_type,
@@ -8,69 +8,70 @@ use rhd_value::{
 use std::alloc::{AllocError, AllocFailed, Global};
 use std::cmp::Ordering;
 use std::process::Abort;
-use std::test::Fail;
 
 /// Calls on a text.
 #[test]
-fn texts_are_made(rt: HostRuntime) -> Result<(), Fail> {
+fn texts_are_made(rt: HostRuntime) {
     let alloc = rt.alloc();
     let mut made = Text::new(alloc);
-    made.push("ab")?;
+    must(&rt, made.push("ab"), "memory");
     holds(&rt, made.len() == 2 && made.as_str() == "ab", "pushed");
-    let other = Text::from_string(String::from_str(alloc, "b")?);
+    let other = must(&rt, String::from_str(alloc, "b"), "memory");
+    let other = Text::from_string(other);
     holds(&rt, other.as_str() == "b", "from a string");
-    let dup = made.dup(alloc)?;
+    let dup = must(&rt, made.dup(alloc), "memory");
     holds(&rt, dup == made, "dup");
-    let clone = made.clone()?;
+    let clone = must(&rt, made.clone(), "memory");
     holds(&rt, clone == made && clone != other, "clone");
     holds(&rt, made.cmp(&other) == Ordering::Less, "cmp");
     let order = other.partial_cmp(&made);
     holds(&rt, order == Some(Ordering::Greater), "partial_cmp");
-    Ok(())
 }
 
 /// Calls on a list of texts.
 #[test]
-fn lists_of_texts_are_made(rt: HostRuntime) -> Result<(), Fail> {
+fn lists_of_texts_are_made(rt: HostRuntime) {
     let alloc = rt.alloc();
     let mut made = Texts::new(alloc);
-    made.push(text(alloc, "a"))?;
+    must(&rt, made.push(text(alloc, "a")), "memory");
     holds(&rt, made.len() == 1, "pushed");
     holds(&rt, made == texts(alloc, "a"), "equal");
-    let dup = made.dup(alloc)?;
+    let dup = must(&rt, made.dup(alloc), "memory");
     holds(&rt, dup == made, "dup");
-    let clone = made.clone()?;
+    let clone = must(&rt, made.clone(), "memory");
     holds(&rt, clone.as_slice() == made.as_slice(), "clone");
-    let first = made.get(0).is_some_and(|t| t.as_str() == "a");
+    let first = is_text(made.get(0), "a");
     holds(&rt, first && made.get(1).is_none(), "get");
-    let last = made.pop().is_some_and(|t| t.as_str() == "a");
+    let last = is_text(made.pop().as_ref(), "a");
     holds(&rt, last && made.pop().is_none(), "pop");
-    Ok(())
 }
 
 /// Calls on types.
 #[test]
-fn lists_of_types_are_made(rt: HostRuntime) -> Result<(), Fail> {
+fn lists_of_types_are_made(rt: HostRuntime) {
     let alloc = rt.alloc();
     let mut made = Types::new(alloc);
-    made.push(TypeTag::Int)?;
+    must(&rt, made.push(TypeTag::Int), "memory");
     holds(&rt, made.len() == 1, "pushed");
     holds(&rt, made == types(alloc, TypeTag::Int), "equal");
-    let dup = made.dup(alloc)?;
+    let dup = must(&rt, made.dup(alloc), "memory");
     holds(&rt, dup == made, "dup");
-    let other = Types::from_slice(alloc, &[TypeTag::Custom(1)])?;
+    let other = must(
+        &rt,
+        Types::from_slice(alloc, &[TypeTag::Custom(1)]),
+        "memory",
+    );
     holds(&rt, other.as_slice() != made.as_slice(), "from_slice");
     holds(&rt, other.get(0) == Some(TypeTag::Custom(1)), "get");
     holds(&rt, other.get(1).is_none(), "no second");
-    Ok(())
 }
 
 #[test]
-fn types_are_named(rt: HostRuntime) -> Result<(), Fail> {
+fn types_are_named(rt: HostRuntime) {
     let alloc = rt.alloc();
-    let name = TypeTag::Custom(7).type_name(alloc)?;
+    let name = must(&rt, TypeTag::Custom(7).type_name(alloc), "memory");
     holds(&rt, name.as_str() == "custom7", "type_name");
-    let shown = TypeTag::Text.type_text(alloc)?;
+    let shown = must(&rt, TypeTag::Text.type_text(alloc), "memory");
     holds(&rt, shown.as_str() == "ImmutableString", "type_text");
     let mapped = map_type(true, TypeTag::Str);
     holds(&rt, mapped == TypeTag::Text, "map_type");
@@ -80,7 +81,6 @@ fn types_are_named(rt: HostRuntime) -> Result<(), Fail> {
     holds(&rt, fault == OutOfMemory, "want of memory");
     let fault = OutOfMemory::from(AllocFailed { value: 1u8 });
     holds(&rt, fault == OutOfMemory, "with a value");
-    Ok(())
 }
 
 /// A list of 0, 1 and 2.
@@ -107,9 +107,9 @@ fn lists_are_read(rt: HostRuntime) {
     let dup = must(&rt, values.dup(alloc), "a list is copied");
     holds(&rt, dup.as_slice().len() == 3, "as a slice");
     let (first, mut rest) = dup.split_first();
-    let first = first.is_some_and(|v| v.as_int() == Some(0));
+    let first = is_int(first.as_ref(), 0);
     holds(&rt, first && rest.len() == 2, "the first is split off");
-    let last = rest.pop().is_some_and(|v| v.as_int() == Some(2));
+    let last = is_int(rest.pop().as_ref(), 2);
     holds(&rt, last, "the last comes off");
 }
 
@@ -138,7 +138,7 @@ fn maps_are_made(rt: HostRuntime) {
     holds(&rt, entries.len() == 1, "one entry");
     let dup = must(&rt, entries.dup(alloc), "a map is copied");
     let name = text(alloc, "a");
-    let held = dup.get(&name).is_some_and(|v| v.as_int() == Some(1));
+    let held = is_int(dup.get(&name), 1);
     holds(&rt, held && dup.get(&text(alloc, "b")).is_none(), "get");
     for (name, value) in dup.iter() {
         holds(
@@ -199,13 +199,12 @@ fn pointers_are_changed(rt: HostRuntime) {
 }
 
 #[test]
-fn pointers_are_shown(rt: HostRuntime) -> Result<(), Fail> {
+fn pointers_are_shown(rt: HostRuntime) {
     let alloc = rt.alloc();
     let ptr = check_pointer(&rt, alloc);
     let typ = FnPtrType::Native(FnId(0));
-    let shown = format!(in alloc; "{ptr} {ptr:?} {typ}")?;
+    let shown = must(&rt, format!(in alloc; "{ptr} {ptr:?} {typ}"), "memory");
     holds(&rt, shown.as_str() == "Fn(f) Fn(f) Fn#", "as text");
-    Ok(())
 }
 
 #[test]
@@ -238,7 +237,7 @@ fn values_are_told_apart(rt: HostRuntime) {
     holds(&rt, truth.as_bool() == Some(true), "a truth");
     holds(&rt, truth.as_int().is_none(), "no number");
     let word = Dynamic::from(Value::Text(text(alloc, "a")));
-    let held = word.as_text().is_some_and(|t| t.as_str() == "a");
+    let held = is_text(word.as_text(), "a");
     holds(&rt, held && word.as_bool().is_none(), "a text");
 }
 
@@ -277,13 +276,13 @@ fn small_values_come_back(rt: HostRuntime) {
 fn large_values_come_back(rt: HostRuntime) {
     let alloc = rt.alloc();
     let word = a_value_comes_back(text(alloc, "a"));
-    holds(&rt, word.is_some_and(|t| t.as_str() == "a"), "a text");
+    holds(&rt, is_text(word.as_ref(), "a"), "a text");
     let values = a_value_comes_back(one(alloc, int(1)));
-    holds(&rt, values.is_some_and(|v| v.len() == 1), "a list");
+    holds(&rt, values.is_some(), "a list");
     let entries = a_value_comes_back(Entries::new(alloc));
-    holds(&rt, entries.is_some_and(|e| e.len() == 0), "a map");
+    holds(&rt, entries.is_some(), "a map");
     let value = a_value_comes_back(int(1));
-    holds(&rt, value.is_some_and(|v| v.as_int() == Some(1)), "a value");
+    holds(&rt, is_int(value.as_ref(), 1), "a value");
     let ptr = a_value_comes_back(check_pointer(&rt, alloc));
-    holds(&rt, ptr.is_some_and(|p| p.is_curried()), "a pointer");
+    holds(&rt, ptr.is_some(), "a pointer");
 }
