@@ -3,7 +3,7 @@
 use crate::given::{SEEDS, for_all, holds, int, is_told, must, one, plain, shared, text, texts};
 use rhd_engine::{
     Builtins, Engine, GlobalRuntimeState, ImportList, Limits, ModuleList, ModuleMap, Operator,
-    Printers, RegisterIntoEngine, fn_registration, for_all_calls, path_text, raw_func,
+    Printers, RegisterIntoEngine, fn_registration, for_all_calls, path_of, path_text, raw_func,
     raw_registration,
 };
 use rhd_func::{FnNamespace, Natives, PluginFunc, RhaiFunc};
@@ -116,6 +116,19 @@ fn check_register(rt: &impl Abort, alloc: Global, engine: &mut Engine) {
     holds(rt, set.is_ok() && three, "register_set");
 }
 
+/// Registers natives of a pair, both or none.
+fn check_register_pairs(rt: &impl Abort, alloc: Global, engine: &mut Engine) {
+    let before = count(engine.global_modules());
+    let y = text(alloc, "y");
+    let set = engine.register_get_set(alloc, &y, FnId(15), FnId(17));
+    let both = count(engine.global_modules()) > before;
+    holds(rt, set.is_ok() && both, "register_get_set");
+    let set = engine.register_get_set(alloc, &text(alloc, "z"), FnId(15), FnId(999));
+    holds(rt, set.is_err(), "one of both isn't held");
+    let set = engine.register_indexer_get_set(alloc, FnId(17), FnId(17));
+    holds(rt, set.is_ok(), "register_indexer_get_set");
+}
+
 /// Registers natives as indexers, and raw.
 fn check_register_raw(rt: &impl Abort, alloc: Global, engine: &mut Engine) {
     let set = engine.register_indexer_get(alloc, FnId(17));
@@ -185,6 +198,8 @@ fn check_not_found(rt: &impl Abort, alloc: Global, engine: &Engine) {
     holds(rt, is_not_found(&fault, "a::f (i64)"), "not_found_in");
     let shown = must(rt, path_text(alloc, path.as_slice()), "a path");
     holds(rt, shown.as_str() == "a", "path_text");
+    let names = must(rt, path_of(alloc, "a::b"), "names");
+    holds(rt, names.len() == 2, "path_of");
 }
 
 /// Registrations for all calls, of a native of one integer.
@@ -227,6 +242,7 @@ fn engines_are_filled(rt: HostRuntime) {
     check_parts(&rt, &engine);
     check_register(&rt, alloc, &mut engine);
     check_register_raw(&rt, alloc, &mut engine);
+    check_register_pairs(&rt, alloc, &mut engine);
     check_register_into(&rt, alloc, &mut engine);
     check_types(&rt, alloc, &mut engine);
     check_signatures(&rt, alloc, &engine);
@@ -242,6 +258,11 @@ fn check_list_registers(rt: &impl Abort, alloc: Global, natives: &Natives) {
     let reg = for_all(rt, alloc, "f");
     let set = list.register_in_first(alloc, reg, natives, FnId(1));
     holds(rt, set.is_ok(), "register_in_first");
+    assert!(rt; list.len() == 1, "one module");
+    let get = for_all(rt, alloc, "g");
+    let put = for_all(rt, alloc, "g");
+    let set = list.register_both_in_first(alloc, natives, get, FnId(1), put, FnId(1));
+    holds(rt, set.is_ok(), "register_both_in_first");
     assert!(rt; list.len() == 1, "one module");
     let reg = for_all(rt, alloc, "g");
     let told = list.register_in_first_told(alloc, reg, natives, FnId(1));

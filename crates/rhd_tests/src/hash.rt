@@ -2,9 +2,10 @@
 
 use crate::given::{CLASHING, SEEDS, holds, is_text, must, native_key, script_key, text, texts};
 use rhd_hash::{
-    BloomFilterU64, FnCallHashes, Key, KeyTable, Seeds, Steps, StraightHashMap, StraightHasher,
-    StraightHasherBuilder, TableFault, calc_fn_hash, calc_fn_hash_full, calc_native_fn_hash,
-    calc_typed_method_hash, calc_untyped_fn_hash, calc_var_hash, get_hasher,
+    BloomFilterU64, FnCallHashes, HashedKey, HashedName, Key, KeyTable, Seeds, Steps,
+    StraightHashMap, StraightHasher, StraightHasherBuilder, TableFault, calc_fn_hash,
+    calc_fn_hash_full, calc_native_fn_hash, calc_typed_method_hash, calc_untyped_fn_hash,
+    calc_var_hash, get_hasher,
 };
 use rhd_value::{OutOfMemory, Text, Texts, TypeTag};
 use std::alloc::Global;
@@ -227,6 +228,31 @@ fn clashing_keys_are_refused(rt: HostRuntime) {
     holds(&rt, is_clash(&dup), "the same fault");
     let memory = TableFault::from(OutOfMemory);
     holds(&rt, !is_clash(&memory), "want of memory");
+}
+
+#[test]
+fn hashes_are_at_hand(rt: HostRuntime) {
+    let alloc = rt.alloc();
+    let mut table = KeyTable::<u32>::new(alloc, SEEDS);
+    let _ = put(&mut table, script_key(alloc, "f"), 3);
+    let key = script_key(alloc, "f");
+    let hashed = HashedKey::new(&key, SEEDS);
+    holds(&rt, *hashed.key() == key, "of the key");
+    holds(
+        &rt,
+        hashed.hash_under(SEEDS) == key.mixed(SEEDS),
+        "its hash",
+    );
+    holds(&rt, table.get_hashed(&hashed) == Some(&3), "by its hash");
+    let other = HashedKey::new(&key, CLASHING);
+    holds(&rt, table.get_hashed(&other) == Some(&3), "of other seeds");
+    let name = HashedName::new(key.name(), 0, SEEDS);
+    let hash = name.hash_under(SEEDS);
+    holds(
+        &rt,
+        name.params() == 0 && hash == key.untyped(SEEDS),
+        "a name",
+    );
 }
 
 #[test]

@@ -8,7 +8,7 @@ use crate::given::{
 };
 use rhd_decl::{CustomTypeInfo, DeclFault};
 use rhd_func::{FnAccess, FnNamespace, Natives, PluginFunc, RhaiFunc, SharedDef};
-use rhd_hash::{Key, Steps};
+use rhd_hash::{HashedKey, Key, Steps};
 use rhd_module::{FuncRegistration, Module, is_pure_by_name, script_declaration};
 use rhd_tool::kit;
 use rhd_value::{FnId, Texts, TypeTag};
@@ -196,6 +196,9 @@ fn scripts_are_declared(rt: HostRuntime) {
         steps.count() == 1 && module.contains_fn(&key),
         "by its key",
     );
+    let hashed = HashedKey::new(&key, SEEDS);
+    let func = module.get_hashed_fn(&hashed, &mut steps);
+    holds(&rt, is_script(func), "get_hashed_fn");
     let found = module.get_script_fn(&text(alloc, "s"), 0);
     holds(&rt, found.is_some(), "get_script_fn");
     for (held, declaration) in module.iter_fn() {
@@ -393,6 +396,9 @@ fn check_index(rt: &impl Abort, root: &Module, plain: &Key, pathed: &Key)
     let mut steps = Steps::new();
     let func = root.get_qualified_fn(plain, &mut steps);
     holds(rt, func.is_some() && steps.count() == 1, "without its path");
+    let hashed = HashedKey::new(plain, SEEDS);
+    let func = root.get_qualified_hashed_fn(&hashed, &mut steps);
+    holds(rt, func.is_some() && steps.count() == 2, "by its hash");
     holds(rt, root.contains_qualified_fn(pathed), "by its path");
     holds(rt, root.contains_indexed_global_functions(), "found by all");
     let hash = plain.untyped(SEEDS);
@@ -441,6 +447,11 @@ fn check_shared_natives(rt: &impl Abort, alloc: Global, natives: &Natives) {
     let set = owner.register_raw(alloc, reg, natives, &types, func);
     let three = owner.module().count() == (0, 3, 0);
     holds(rt, set.is_ok() && three, "register_raw");
+    let get = for_all(rt, alloc, "g");
+    let put = for_all(rt, alloc, "h");
+    let set = owner.register_both(alloc, natives, get, FnId(1), put, FnId(1));
+    let five = owner.module().count() == (0, 5, 0);
+    holds(rt, set.is_ok() && five, "register_both");
 }
 
 #[test]
