@@ -1,0 +1,5 @@
+mod Ranks
+mod Places
+mod Folds
+mod Tables
+mod Fitting

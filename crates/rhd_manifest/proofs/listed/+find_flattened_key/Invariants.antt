@@ -1,0 +1,10 @@
+use Rattle.std.proofs.Common.{◌≡◌, ◌++◌, reverse}
+use Rattle.std.specs.List.{flat_map}
+use Rattle.rhd_manifest.specs.Rank.{flattened, find_entry}
+use Rattle.rhd_manifest.proofs.listed.+find_flattened_key.Given as goal
+
+abbrev pub decreases-find_flattened_key : goal.decreases-find_flattened_key
+decreases-find_flattened_key l = l.id.0
+
+abbrev pub invariant-loop-sub : goal.invariant-loop-sub
+invariant-loop-sub l = find_entry l.key (flat_map (λ s. flattened l.manifests s.1) (reverse l.sub-iterator.iter.rest.now) ++ reverse l.manifest.entries) ≡ find_entry l.key (flattened l.manifests l.id)
