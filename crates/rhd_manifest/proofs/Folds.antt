@@ -6,7 +6,7 @@ use Rattle.rhd_manifest.specs.Meets.{IsFirstThatMeets}
 
 pub folds_append : {P A : Type 0} (R : P → A → P → Type 0) (p q r : P) (xs ys : List A) → FoldsTo R p xs q → FoldsTo R q ys r → FoldsTo R p (xs ++ ys) r
 folds_append R p q r [] ys h k = let S : _ → Type 0 = λ s. FoldsTo R s ys r in subst S (sym h) k
-folds_append R p q r (x ∷ xs) ys h k = (h.0, (h.1.0, folds_append R h.0 q r xs ys h.1.1 k))
+folds_append R p q r (x ∷ xs) ys h k = (h.0, h.1, folds_append R h.0 q r xs ys h.2 k)
 
 -- what the first list has is found
 pub meets_found : (answers : Entry → Bool → Type 0) (xs ys : List Entry) (o : Option Entry) → is_some o ≡ true → IsFirstThatMeets answers xs o → IsFirstThatMeets answers (xs ++ ys) o

@@ -1,8 +1,9 @@
 -- The places under the hashes of keys, after one more entry.
-use Rattle.std.proofs.Common.{◌≡◌, ℕ, suc, ◌+◌, ◌<◌, ◌&&◌, ◌||◌, Bool, true, false, cond, List, [], ◌∷◌, ◌++◌, reverse, length, Option, None, Some, is_some, is_none, refl, sym, ap, subst, ◌∙◌, arith, slice_get, nat_eq, true≢false, eqb-true, eq-eqb}
+use Rattle.std.proofs.Common.{◌≡◌, ℕ, zero, suc, ◌+◌, ◌<◌, ◌&&◌, ◌||◌, Bool, true, false, cond, List, [], ◌∷◌, ◌++◌, reverse, length, Option, None, Some, is_some, is_none, take, refl, sym, ap, subst, ◌∙◌, arith, slice_get, nat_eq, true≢false, eqb-true, eq-eqb}
 use Rattle.std.proofs.lemmas.List.{reverse-append, length-append}
+use Rattle.std.proofs.Math.Seq.{take-append_seam}
 use Rattle.std.proofs.lemmas.Bool.{cond-true, cond-false}
-use Rattle.std.specs.Option.{option_and_then}
+use Rattle.std.specs.Option.{option_and_then, option_to_list, IsSome}
 use Rattle.std.specs.List.{find}
 use Rattle.rhd_hash.specs.declared.key.Key.{Key}
 use Rattle.rhd_hash.specs.declared.key.Key.TheVariants.{Script, Typed, Native}
@@ -14,7 +15,7 @@ use Rattle.rhd_manifest.specs.Index.{IsIndex, index_hash, entry_at, has_other}
 
 slice_before : {A : Type 0} (xs : List A) (x : A) (i : ℕ) → i < length xs → slice_get (xs ++ x ∷ []) i ≡ slice_get xs i
 slice_before [] x i h = absurd (omega (arith, h))
-slice_before (y ∷ xs) x 0 h = refl
+slice_before (y ∷ xs) x zero h = refl
 slice_before (y ∷ xs) x (suc i) h = slice_before xs x i (omega (arith, h))
 
 slice_new : {A : Type 0} (xs : List A) (x : A) → slice_get (xs ++ x ∷ []) (length xs) ≡ Some x
@@ -110,3 +111,10 @@ no_script (Script path name params) (e ∷ es) h = no_script (Script path name p
 no_script (Typed path name params this_type) [] h = refl
 no_script (Typed path name params this_type) (e ∷ es) h = no_script (Typed path name params this_type) es h
 no_script (Native path name types) es h = absurd (true≢false (sym h))
+
+-- what a pop leaves after a push
+pub popped : (es all news : List Entry) (e : Entry) (r : Option Entry) → all ≡ es ++ e ∷ [] → all ≡ news ++ option_to_list r → IsSome r → news ≡ es
+popped es all news e None p q h = absurd (cc)
+popped es all news e (Some x) p q h =
+    let n : length news ≡ length es = omega (arith, ap length p, ap length q, length-append es (e ∷ []), length-append news (x ∷ [])) in
+    sym (take-append_seam news (x ∷ [])) ∙ (λ i. take (n i) ((sym q ∙ p) i)) ∙ take-append_seam es (e ∷ [])

@@ -1,8 +1,9 @@
 -- The entries of a manifest by parts, from the highest precedence down and from the lowest up.
-use Rattle.std.proofs.Common.{◌≡◌, ℕ, zero, suc, ◌<◌, Bool, true, false, cond, List, [], ◌∷◌, ◌++◌, reverse, length, Option, None, Some, is_some, refl, sym, ap, subst, ◌∙◌, arith, append-nil, slice_get, unwrap_or, true≢false}
+use Rattle.std.proofs.Common.{◌≡◌, ℕ, zero, suc, ◌<◌, Bool, true, false, cond, List, [], ◌∷◌, ◌++◌, reverse, length, Option, None, Some, is_some, refl, sym, ap, subst, ◌∙◌, arith, append-nil, append_assoc, get_or, slice_get, unwrap_or, true≢false, Bor}
 use Rattle.std.proofs.lemmas.List.{reverse-append}
 use Rattle.std.proofs.lemmas.Grind.{flat_map-append}
 use Rattle.std.specs.List.{flat_map, find, AllByRecursion}
+use Rattle.std.specs.Option.{option_copied}
 use Rattle.rhd_value.specs.Tree.{Bytes}
 use Rattle.rhd_func.specs.declared.access.ManifestId.{ManifestId}
 use Rattle.rhd_manifest.specs.Entry.{Entry}
@@ -77,11 +78,6 @@ pub all_at : {X : Type 0} (P : X → Type 0) (front : List X) (x : X) (others : 
 all_at P [] x others a = a.0
 all_at P (y ∷ front) x others a = all_at P front x others a.1
 
-pub all_get : {X : Type 0} (P : X → Type 0) (xs : List X) (i : ℕ) (x : X) → AllByRecursion P xs → slice_get xs i ≡ Some x → P x
-all_get P [] i x a e = absurd cc
-all_get P (y ∷ xs) zero x a e = let s : y ≡ x = cc in subst P s a.0
-all_get P (y ∷ xs) (suc i) x a e = all_get P xs i x a.1 e
-
 -- What is found first in two lists.
 pub find_found : {A : Type 0} (t : A → Bool) (xs ys : List A) (o : Option A) → o ≡ find t xs → is_some o ≡ true → o ≡ find t (xs ++ ys)
 find_found t [] ys o e h = absurd (true≢false (sym h ∙ ap is_some e))
@@ -98,3 +94,39 @@ find_past t (x ∷ xs) ys o e h = by (t x) (find_past t xs ys o) e
     by : (b : Bool) → (o ≡ find t xs → is_some o ≡ false → find t (xs ++ ys) ≡ find t ys) → o ≡ cond b (Some x) (find t xs) → cond b (Some x) (find t (xs ++ ys)) ≡ find t ys
     by true ih e = absurd (true≢false (sym (ap is_some e) ∙ h))
     by false ih e = ih e h
+
+-- what was found is there, and so is its copy
+pub copied_is : {A : Type 0} (o : Option (Bor A)) (b : Bool) → b ≡ is_some o → is_some (option_copied o) ≡ b
+copied_is None b e = sym e
+copied_is (Some x) b e = sym e
+
+-- the parts of a flattened manifest that is held
+pub of_held : (table : List ManifestLists) → AreLower table → (id : ManifestId) (m : ManifestLists) → Some m ≡ slice_get table id.0 → flattened table id ≡ rank_of table m true
+of_held table lower id m e = flattened-is table lower id ∙ ap (λ k. rank_of table k true) (at table id m e)
+
+pub rising_held : (table : List ManifestLists) → AreLower table → (id : ManifestId) (m : ManifestLists) → Some m ≡ slice_get table id.0 → reverse (flattened table id) ≡ m.entries ++ flat_map (λ s. reverse (flattened table s.1)) m.subs
+rising_held table lower id m e = ap reverse (of_held table lower id m e) ∙ rising (flattened table) m
+
+-- the part of the last of a list, and what comes after it
+pub last_part : {X A : Type 0} (f : X → List A) (xs front : List X) (x : X) (others : List A) → xs ≡ front ++ x ∷ [] → flat_map f (reverse xs) ++ others ≡ f x ++ (flat_map f (reverse front) ++ others)
+last_part f xs front x others e = ap (λ t. flat_map f (reverse t) ++ others) e ∙ ap (λ t. t ++ others) (flat_last f front x) ∙ append_assoc (f x) (flat_map f (reverse front)) others
+
+pub all_front : {X : Type 0} (P : X → Type 0) (xs front : List X) (x : X) → xs ≡ front ++ x ∷ [] → AllByRecursion P xs → AllByRecursion P front
+all_front {X} P xs front x e a = by front (let Q : _ → Type 0 = λ ys. AllByRecursion P ys in subst Q e a)
+  where
+    by : (ys : List X) → AllByRecursion P (ys ++ x ∷ []) → AllByRecursion P ys
+    by [] b = tt
+    by (y ∷ ys) b = (b.0, by ys b.1)
+
+pub all_end : {X : Type 0} (P : X → Type 0) (xs front : List X) (x : X) → xs ≡ front ++ x ∷ [] → AllByRecursion P xs → P x
+all_end P xs front x e a = all_at P front x [] (let Q : _ → Type 0 = λ ys. AllByRecursion P ys in subst Q e a)
+
+pub all_index : {X : Type 0} (P : X → Type 0) (xs : List X) (i : ℕ) (d : X) → AllByRecursion P xs → i < length xs → P (get_or xs i d)
+all_index P [] i d a h = absurd (omega (arith, h))
+all_index P (x ∷ xs) zero d a h = a.0
+all_index P (x ∷ xs) (suc i) d a h = all_index P xs i d a.1 (omega (arith, h))
+
+-- nothing is left of an empty list
+pub no_more : {X A : Type 0} (f : X → List A) (xs : List X) (others : List A) → length xs ≡ 0 → flat_map f (reverse xs) ++ others ≡ others
+no_more f [] others e = refl
+no_more f (x ∷ xs) others e = absurd (omega (arith, e))

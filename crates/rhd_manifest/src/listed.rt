@@ -21,7 +21,9 @@ fn find_flattened_key<'m>(
     requires { hash ≡ index_hash key.now }
     ensures { option_copied result ≡ find_entry key.now (flattened manifests.now id) }
 {
-    let manifest = manifests.get(id)?;
+    let Some(manifest) = manifests.get(id) else {
+        return None;
+    };
     for sub in manifest.sub_modules().iter().rev() {
         let found = find_flattened_key(manifests, sub.1, hash, key);
         if found.is_some() {
@@ -42,13 +44,13 @@ fn find_ranked<'m>(
     ensures { option_copied result ≡ find_entry key.now (rank manifests.now listed.0 listed.1) }
 {
     let (id, flatten) = listed;
+    let Some(manifest) = manifests.get(id) else {
+        return None;
+    };
     if flatten {
         return find_flattened_key(manifests, id, hash, key);
     }
-    match manifests.get(id) {
-        Some(manifest) => manifest.find_key(hash, key),
-        None => None,
-    }
+    manifest.find_key(hash, key)
 }
 
 impl Manifests {

@@ -190,9 +190,11 @@ impl ModuleManifest {
         ensures err { OnErr result (self.new ≡ self.old) }
     {
         let place = self.entries.len();
-        let hash = index_hash(entry.key());
+        let key = entry.key();
+        let hash = index_hash(key);
         let before = self.places.get(&hash).copied();
-        let clashes = self.clashes || has_other(self.entries.as_slice(), entry.key(), before);
+        let other = has_other(self.entries.as_slice(), key, before);
+        let clashes = self.clashes | other;
         self.entries.push(entry)?;
         match self.places.insert(hash, place) {
             Ok(_) => {

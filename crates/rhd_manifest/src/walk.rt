@@ -41,7 +41,9 @@ fn find_flattened<'m, F: Fn(&FnManifestEntry) -> bool>(
     requires { F.IsAlwaysCallable f.now }
     ensures { IsFirstThatMeets (λ e r. FnReturnsAt F.Fn f.now e r) (flattened manifests.now id) (option_copied result) }
 {
-    let manifest = manifests.get(id)?;
+    let Some(manifest) = manifests.get(id) else {
+        return None;
+    };
     for sub in manifest.sub_modules().iter().rev() {
         let found = find_flattened(manifests, sub.1, f);
         if found.is_some() {

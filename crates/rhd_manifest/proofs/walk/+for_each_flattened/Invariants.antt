@@ -11,4 +11,4 @@ abbrev pub invariant-loop-sub : goal.invariant-loop-sub
 invariant-loop-sub g l =
     goal.F-IsAlwaysCallable g l.f
     × ((last : _) → FoldsTo (λ p e q. CalledAt g.F.FnMut p e tt q) l.f (flat_map (λ s. reverse (flattened l.manifests s.1)) (drop l.sub-index l.sub-items)) last
-    → FoldsTo (λ p e q. CalledAt g.F.FnMut p e tt q) l.fn.f (reverse (flattened l.manifests l.id)) last)
+    → FoldsTo (λ p e q. CalledAt g.F.FnMut p e tt q) l.fn.f (reverse (flattened l.manifests l.fn.id)) last)
