@@ -3,3 +3,5 @@ mod Places
 mod Folds
 mod Tables
 mod Fitting
+mod Changes
+mod Held

@@ -64,6 +64,20 @@ fn manifest_fits(natives: &Natives, manifest: &ModuleManifest) -> bool
     true
 }
 
+/// An entry for a native, whose number this is.
+fn entry_for(
+    alloc: Global,
+    native: &Box<dyn PluginFunc>,
+    name: Text,
+    namespace: FnNamespace,
+    func: FnId,
+) -> Result<FnManifestEntry, OutOfMemory>
+    ensures { IfOk result (λ e. e ≡ record { name = name; namespace = namespace; func = func; param_types = (info native.now).types; is_method = (info native.now).is_method }) }
+{
+    let types = Types::from_slice(alloc, native.param_types())?;
+    FnManifestEntry::new(alloc, name, namespace, func, types, native.is_method_call())
+}
+
 /// An entry for the native of a number.
 fn entry_of(
     alloc: Global,
@@ -75,10 +89,7 @@ fn entry_of(
     ensures { IfOk result (λ e. e ≡ entry_of (infos_of info natives.now) name namespace func) }
 {
     match natives.get(func) {
-        Some(native) => {
-            let types = Types::from_slice(alloc, native.param_types())?;
-            FnManifestEntry::new(alloc, name, namespace, func, types, native.is_method_call())
-        }
+        Some(native) => entry_for(alloc, native, name, namespace, func),
         None => FnManifestEntry::new(alloc, name, namespace, func, Types::new(alloc), false),
     }
 }

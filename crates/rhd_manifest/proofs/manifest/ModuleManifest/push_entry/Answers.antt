@@ -19,8 +19,8 @@ invariant_of-self-in-Ok c =
     let before : c.copied-before.result ≡ old c.index_hash-hash.result = search rules in
     let notes : (c.self.inside.clashes || c.has_other-other.result) ≡ (c.self.inside.clashes || has_other (entry_key e) es (old (index_hash (entry_key e)))) =
     ap (λ b. c.self.inside.clashes || b) (c.has_other-other.ensures ∙ (λ i. has_other (c.key-key.ensures i) (slice i) ((before ∙ ap old hash) i))) in
-    let P : List Entry → Type 0 = λ xs. IsIndex new _ xs in
-    subst P (sym c.in_ok-push.ensures.items) (index_push old c.self.inside.clashes es c.self.invariant e new _ puts notes)
+    let P : List Entry → Type 0 = λ xs. IsIndex new (c.self.inside.clashes || c.has_other-other.result) xs in
+    subst P (sym c.in_ok-push.ensures.items) (index_push old c.self.inside.clashes es c.self.invariant e new (c.self.inside.clashes || c.has_other-other.result) puts notes)
 
 pub invariant_of-self-in-Err : goal.invariant_of-self-in-Err
 invariant_of-self-in-Err c =
