@@ -84,7 +84,13 @@ fn entry_at<'a>(
     ensures { option_copied result ≡ entry_at key.now entries.now (Some place) }
 {
     match entries.get(place) {
-        Some(entry) => { if *key == *entry.key() { Some(entry) } else { None } }
+        Some(entry) => {
+            if *key == *entry.key() {
+                Some(entry)
+            } else {
+                None
+            }
+        }
         None => None,
     }
 }

@@ -14,11 +14,7 @@ use rhd_func::ManifestId;
 
 /// Calls a function on each entry of a manifest and of those below it, from the lowest precedence to
 /// the highest.
-fn for_each_flattened<F: FnMut(&FnManifestEntry)>(
-    manifests: &Manifests,
-    id: ManifestId,
-    f: &mut F,
-)
+fn for_each_flattened<F: FnMut(&FnManifestEntry)>(manifests: &Manifests, id: ManifestId, f: &mut F)
     requires { F.IsAlwaysCallable f.old }
     ensures called { FoldsTo (λ p e q. CalledAt F.FnMut p e tt q) f.old (reverse (flattened manifests.now id)) f.new }
     ensures callable { F.IsAlwaysCallable f.new }

@@ -43,6 +43,6 @@ loop-sub-preserved t c =
     let none = copied_is c.find_flattened_key-found.result c.is_some.result c.is_some.ensures ∙ c.if-is_some.false in (
       all_front (λ s. s.1.0 < c.args.id.0) c.loop-sub.sub-iterator.iter.rest.now front x c.in-Some-sub.ensures.steps c.loop-sub.invariant.0,
       sym (ap (find_entry c.args.key.now) (last_part f c.loop-sub.sub-iterator.iter.rest.now front x others c.in-Some-sub.ensures.steps)
-      ∙ find_past (λ e. key_eq c.args.key.now (entry_key e)) (f x) (flat_map f (reverse front) ++ others) (option_copied c.find_flattened_key-found.result) c.find_flattened_key-found.ensures none)
-      ∙ c.loop-sub.invariant.1,
+          ∙ find_past (λ e. key_eq c.args.key.now (entry_key e)) (f x) (flat_map f (reverse front) ++ others) (option_copied c.find_flattened_key-found.result) c.find_flattened_key-found.ensures none)
+          ∙ c.loop-sub.invariant.1,
     )

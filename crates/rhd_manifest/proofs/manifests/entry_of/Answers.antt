@@ -15,6 +15,6 @@ pub returns-in-None : goal.returns-in-None
 unfolding infos_of
 returns-in-None g c =
     let ns = c.args.natives.now.items.items in
-    ok_is c.new-in-None-2.result _ _
-    (entry_is _ c.args.name _ c.args.namespace c.args.func _ _ _ refl (unheld_info (λ b. (goal.PluginFunc-dyn g (b.vtable, b.value)).info b.value) ns c.args.func.0 c.in-None.ensures) c.new-in-None.ensures refl)
-    c.new-in-None-2.ensures
+    ok_is c.new-in-None.result _ _
+    (entry_is _ c.args.name _ c.args.namespace c.args.func _ _ _ refl (unheld_info (λ b. (goal.PluginFunc-dyn g (b.vtable, b.value)).info b.value) ns c.args.func.0 c.in-None.ensures) c.new.ensures refl)
+    c.new-in-None.ensures

@@ -52,8 +52,8 @@ loop-sub-preserved g t c =
     let none = copied_is c.find_flattened-found.result c.is_some.result c.is_some.ensures ∙ c.if-is_some.false in (
       all_front (λ s. s.1.0 < c.args.id.0) c.loop-sub.sub-iterator.iter.rest.now front x c.in-Some-sub.ensures.steps c.loop-sub.invariant.0,
       λ found h.
-      let Q : List Entry → Type 0 = λ es. IsFirstThatMeets R es found in
-      c.loop-sub.invariant.1 found (subst Q (sym (last_part f c.loop-sub.sub-iterator.iter.rest.now front x others c.in-Some-sub.ensures.steps)) (meets_past R (f x) (flat_map f (reverse front) ++ others) o found none c.find_flattened-found.ensures h)),
+          let Q : List Entry → Type 0 = λ es. IsFirstThatMeets R es found in
+          c.loop-sub.invariant.1 found (subst Q (sym (last_part f c.loop-sub.sub-iterator.iter.rest.now front x others c.in-Some-sub.ensures.steps)) (meets_past R (f x) (flat_map f (reverse front) ++ others) o found none c.find_flattened-found.ensures h)),
     )
 
 pub returns : goal.returns
