@@ -1,15 +1,14 @@
 -- Which natives a table fits after one of its manifests has changed.
-use Rattle.std.proofs.Common.{◌≡◌, ℕ, zero, suc, ◌<◌, ◌&&◌, Bool, true, false, List, [], ◌∷◌, ◌++◌, map, length, Option, None, Some, refl, sym, ap, subst, ◌∙◌, slice_get, slice_set, unwrap_or, arith}
-use Rattle.std.specs.Bool.{beq}
+use Rattle.std.proofs.Common.{◌≡◌, ℕ, zero, suc, ◌<◌, ◌&&◌, Bool, true, false, List, [], ◌∷◌, ◌++◌, length, Option, None, Some, refl, ap, ◌∙◌, slice_get, slice_set, unwrap_or, arith}
 use Rattle.std.specs.Cmp.{booleans_Decides}
 use Rattle.std.specs.List.{list_all}
 use Rattle.std.specs.Option.{option_map_or}
 use Rattle.rhd_value.specs.Tree.{Bytes}
-use Rattle.rhd_value.specs.Same.{types_eq, types_eq-Decides}
+use Rattle.rhd_value.specs.Same.{types_eq-Decides}
 use Rattle.rhd_value.specs.declared.tag.FnId.{FnId}
 use Rattle.rhd_func.specs.Natives.{NativeInfo}
 use Rattle.rhd_func.specs.declared.access.FnNamespace.{FnNamespace}
-use Rattle.rhd_manifest.specs.Entry.{Entry, entry_of}
+use Rattle.rhd_manifest.specs.Entry.{entry_of}
 use Rattle.rhd_manifest.specs.Fits.{native_fits, entry_fits, manifest_fits, fits}
 use Rattle.rhd_manifest.specs.Manifest.{ManifestLists, no_lists, with_entry}
 

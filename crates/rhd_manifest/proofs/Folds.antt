@@ -1,5 +1,5 @@
 -- Calls on each of two lists one after the other, and the first that a test passes in two lists.
-use Rattle.std.proofs.Common.{◌≡◌, Bool, true, false, List, [], ◌∷◌, ◌++◌, Option, None, Some, is_some, refl, sym, ap, subst, ◌∙◌, inl, inr, true≢false}
+use Rattle.std.proofs.Common.{◌≡◌, Bool, true, false, List, [], ◌∷◌, ◌++◌, Option, is_some, sym, ap, subst, ◌∙◌, inl, inr, true≢false}
 use Rattle.std.specs.List.{FoldsTo}
 use Rattle.rhd_manifest.specs.Entry.{Entry}
 use Rattle.rhd_manifest.specs.Meets.{IsFirstThatMeets}

@@ -1,10 +1,9 @@
 -- The places under the hashes of keys, after one more entry.
-use Rattle.std.proofs.Common.{◌≡◌, ℕ, zero, suc, ◌+◌, ◌<◌, ◌&&◌, ◌||◌, Bool, true, false, cond, List, [], ◌∷◌, ◌++◌, reverse, length, Option, None, Some, is_some, is_none, take, refl, sym, ap, subst, ◌∙◌, arith, slice_get, nat_eq, true≢false, eqb-true, eq-eqb}
+use Rattle.std.proofs.Common.{◌≡◌, ℕ, zero, suc, ◌+◌, ◌<◌, ◌||◌, Bool, true, false, cond, List, [], ◌∷◌, ◌++◌, reverse, length, Option, None, Some, is_none, take, refl, sym, ap, ◌∙◌, arith, slice_get, nat_eq, true≢false, eqb-true, eq-eqb}
 use Rattle.std.proofs.lemmas.List.{reverse-append, length-append}
 use Rattle.std.proofs.Math.Seq.{take-append_seam}
 use Rattle.std.proofs.lemmas.Bool.{cond-true, cond-false}
 use Rattle.std.specs.Option.{option_and_then, option_to_list, IsSome}
-use Rattle.std.specs.List.{find}
 use Rattle.rhd_hash.specs.declared.key.Key.{Key}
 use Rattle.rhd_hash.specs.declared.key.Key.TheVariants.{Script, Typed, Native}
 use Rattle.rhd_hash.specs.Keys.{key_eq, key_eq-Decides, is_script_key}

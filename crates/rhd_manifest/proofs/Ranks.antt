@@ -4,7 +4,6 @@ use Rattle.std.proofs.lemmas.List.{reverse-append}
 use Rattle.std.proofs.lemmas.Grind.{flat_map-append}
 use Rattle.std.specs.List.{flat_map, find, AllByRecursion}
 use Rattle.std.specs.Option.{option_copied}
-use Rattle.rhd_value.specs.Tree.{Bytes}
 use Rattle.rhd_func.specs.declared.access.ManifestId.{ManifestId}
 use Rattle.rhd_manifest.specs.Entry.{Entry}
 use Rattle.rhd_manifest.specs.Manifest.{ManifestLists, manifest_at, no_lists, AreLower}

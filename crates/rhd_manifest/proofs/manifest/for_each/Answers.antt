@@ -1,4 +1,4 @@
-use Rattle.std.proofs.Common.{of_calls, ap, sym, subst, List}
+use Rattle.std.proofs.Common.{of_calls, sym, subst, List}
 use Rattle.std.proofs.lemmas.List.{drop_more}
 use Rattle.std.specs.Fn.{CalledAt}
 use Rattle.std.specs.List.{FoldsTo}

@@ -1,5 +1,5 @@
-use Rattle.std.proofs.Common.{None, Some, sym, ap, ◌∙◌}
-use Rattle.rhd_func.specs.Infos.{infos_in, infos_of}
+use Rattle.std.proofs.Common.{sym, ◌∙◌}
+use Rattle.rhd_func.specs.Infos.{infos_of}
 use Rattle.rhd_manifest.proofs.Held.{held_info, unheld_info, fits_held}
 use Rattle.rhd_manifest.proofs.manifests.entry_fits.Goals as goal
 

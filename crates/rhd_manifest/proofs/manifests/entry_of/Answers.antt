@@ -1,4 +1,4 @@
-use Rattle.std.proofs.Common.{refl, sym, ◌∙◌}
+use Rattle.std.proofs.Common.{refl}
 use Rattle.rhd_func.specs.Infos.{infos_of}
 use Rattle.rhd_manifest.proofs.Held.{held_info, unheld_info, entry_is, ok_is}
 use Rattle.rhd_manifest.proofs.manifests.entry_of.Goals as goal

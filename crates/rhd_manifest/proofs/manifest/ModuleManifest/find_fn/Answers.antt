@@ -1,4 +1,4 @@
-use Rattle.std.proofs.Common.{◌≡◌, Bool, List, ◌++◌, reverse, Option, sym, ap, subst, ◌∙◌, rules}
+use Rattle.std.proofs.Common.{Bool, List, ◌++◌, reverse, sym, ap, subst, ◌∙◌}
 use Rattle.std.specs.Fn.{FnReturnsAt}
 use Rattle.std.specs.List.{flat_map}
 use Rattle.std.specs.Option.{option_copied}

@@ -1,4 +1,4 @@
-use Rattle.std.proofs.Common.{◌≡◌, ◌<◌, ℕ, length, slice_set, refl, sym, subst}
+use Rattle.std.proofs.Common.{◌≡◌, ◌<◌, ℕ, slice_set, refl, sym, subst}
 use Rattle.std.specs.Result.{OnOk}
 use Rattle.rhd_func.specs.Infos.{infos_of}
 use Rattle.rhd_manifest.specs.Entry.{Entry}
