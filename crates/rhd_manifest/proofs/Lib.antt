@@ -1,0 +1,7 @@
+mod Ranks
+mod Places
+mod Folds
+mod Tables
+mod Fitting
+mod Changes
+mod Held
