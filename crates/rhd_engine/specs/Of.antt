@@ -6,4 +6,13 @@ use Rattle.rhd_engine.specs.Engine.{EngineLists}
 
 -- its lists, by what its natives say of themselves
 unfoldable pub lists_of : {X : Type 0} {F : X → Type 0} → ((x : X) × F x → NativeInfo) → Engine X F → EngineLists
-lists_of info engine = record { globals = engine.globals; statics = engine.statics; natives = infos_of info engine.natives; iterators = 0; builtins = engine.builtins; seeds = engine.seeds; limits = engine.limits; printers = engine.printers }
+lists_of info engine = record {
+  globals = engine.globals;
+  statics = engine.statics;
+  natives = infos_of info engine.natives;
+  iterators = 0;
+  builtins = engine.builtins;
+  seeds = engine.seeds;
+  limits = engine.limits;
+  printers = engine.printers;
+}
