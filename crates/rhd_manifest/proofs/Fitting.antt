@@ -43,7 +43,8 @@ all_at p (x ∷ xs) (suc n) none h e = all_at p xs n none (both (p x) (list_all 
 fits_itself : (n : NativeInfo) (name : Bytes) (namespace : FnNamespace) (func : FnId) → native_fits n (record { name = name; namespace = namespace; func = func; param_types = n.types; is_method = n.is_method }) ≡ true
 fits_itself n name namespace func = same_and _ true ((types_eq-Decides n.types n.types).1 refl) _ true ((booleans_Decides n.is_method n.is_method).1 refl)
 
-entry_fits-of : (natives : List NativeInfo) (name : Bytes) (namespace : FnNamespace) (func : FnId) (o : Option NativeInfo) → slice_get natives func.0 ≡ o → func.0 < length natives → entry_fits natives (entry_of natives name namespace func) ≡ true
+entry_fits-of : (natives : List NativeInfo) (name : Bytes) (namespace : FnNamespace) (func : FnId) (o : Option NativeInfo) → slice_get natives func.0 ≡ o
+    → func.0 < length natives → entry_fits natives (entry_of natives name namespace func) ≡ true
 entry_fits-of natives name namespace func None e h = absurd (held natives func.0 h e)
   where
     held : (xs : List NativeInfo) (n : ℕ) → n < length xs → slice_get xs n ≡ None → ⊥
@@ -51,7 +52,8 @@ entry_fits-of natives name namespace func None e h = absurd (held natives func.0
     held (x ∷ xs) zero h e = cc
     held (x ∷ xs) (suc n) h e = held xs n (omega (arith, h)) e
 entry_fits-of natives name namespace func (Some n) e h =
-    let P : Option NativeInfo → Bool = λ o. option_map_or (λ k. native_fits k (record { name = name; namespace = namespace; func = func; param_types = option_map_or (λ m. m.types) o []; is_method = option_map_or (λ m. m.is_method) o false })) o false in
+    let P : Option NativeInfo → Bool =
+    λ o. option_map_or (λ k. native_fits k (record { name = name; namespace = namespace; func = func; param_types = option_map_or (λ m. m.types) o []; is_method = option_map_or (λ m. m.is_method) o false })) o false in
     ap P e ∙ fits_itself n name namespace func
 
 -- a table that fits still fits with an entry for a native that is held

@@ -50,7 +50,10 @@ module _ (places : ℕ → Option ℕ) (clashes : Bool) (es : List Entry) (index
   before q None h = refl
   before q (Some i) h = ap (λ o. option_and_then (λ d. where_holds (key_eq q (entry_key d)) d) o) (slice_before es e i (h i refl))
 
-  module _ (news : ℕ → Option ℕ) (after : Bool) (puts : (h : ℕ) → news h ≡ cond (nat_eq (index_hash (entry_key e)) h) (Some (length es)) (places h)) (notes : after ≡ clashes || has_other (entry_key e) es (places (index_hash (entry_key e)))) where
+  abbrev hash_of : ℕ
+  hash_of = index_hash (entry_key e)
+
+  module _ (news : ℕ → Option ℕ) (after : Bool) (puts : (h : ℕ) → news h ≡ cond (nat_eq hash_of h) (Some (length es)) (places h)) (notes : after ≡ clashes || has_other (entry_key e) es (places hash_of)) where
     within : (hash place : ℕ) → news hash ≡ Some place → place < length (es ++ e ∷ [])
     within hash place at = by (nat_eq (index_hash (entry_key e)) hash) (sym (puts hash) ∙ at)
       where

@@ -53,7 +53,8 @@ loop-sub-preserved g t c =
       all_front (λ s. s.1.0 < c.args.id.0) c.loop-sub.sub-iterator.iter.rest.now front x c.in-Some-sub.ensures.steps c.loop-sub.invariant.0,
       λ found h.
           let Q : List Entry → Type 0 = λ es. IsFirstThatMeets R es found in
-          c.loop-sub.invariant.1 found (subst Q (sym (last_part f c.loop-sub.sub-iterator.iter.rest.now front x others c.in-Some-sub.ensures.steps)) (meets_past R (f x) (flat_map f (reverse front) ++ others) o found none c.find_flattened-found.ensures h)),
+          c.loop-sub.invariant.1 found
+          (subst Q (sym (last_part f c.loop-sub.sub-iterator.iter.rest.now front x others c.in-Some-sub.ensures.steps)) (meets_past R (f x) (flat_map f (reverse front) ++ others) o found none c.find_flattened-found.ensures h)),
     )
 
 pub returns : goal.returns

@@ -35,7 +35,8 @@ loop-sub-preserved g c = λ found h.
     let o = option_copied c.find_flattened-found.result in
     let none = copied_is c.find_flattened-found.result c.is_some.result c.is_some.ensures ∙ c.if-is_some.false in
     let Q : List Entry → Type 0 = λ es. IsFirstThatMeets R es found in
-    c.loop-sub.invariant found (subst Q (sym (last_part f c.loop-sub.sub-iterator.iter.rest.now front x others c.in-Some.ensures.steps)) (meets_past R (f x) (flat_map f (reverse front) ++ others) o found none c.find_flattened-found.ensures h))
+    c.loop-sub.invariant found
+    (subst Q (sym (last_part f c.loop-sub.sub-iterator.iter.rest.now front x others c.in-Some.ensures.steps)) (meets_past R (f x) (flat_map f (reverse front) ++ others) o found none c.find_flattened-found.ensures h))
 
 pub returns : goal.returns
 returns g c =
