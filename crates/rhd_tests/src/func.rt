@@ -2,17 +2,13 @@
 
 ghost use Rattle.std.specs.Prelude.{◌<◌, length};
 
-use crate::given::{
-    answered, carry_of, context, holds, int, is_done, must, one, plain, script, text, texts,
-};
+use crate::given::{answered, context, holds, int, must, one, plain, script, text, texts};
 use rhd_func::{
-    BodyId, CallRequest, CallShape, Carry, FnAccess, FnNamespace, HostAnswer, IterId, Natives,
-    PluginFunc, RhaiFunc, ScriptFuncDef, SharedDef, SharedText,
+    BodyId, CallRequest, CallShape, Carry, FnAccess, FnNamespace, HostAnswer, IterId, RhaiFunc,
+    ScriptFuncDef, SharedDef, SharedText,
 };
-use rhd_tool::kit;
-use rhd_value::{Dynamic, FnId, Position, Value};
+use rhd_value::{FnId, Position, Value};
 use std::alloc::Global;
-use std::process::Abort;
 
 /// A native that takes its arguments by value.
 fn by_value() -> RhaiFunc {
@@ -117,26 +113,6 @@ fn definitions_are_shared(rt: HostRuntime) {
     holds(&rt, other.text().as_str() == "a", "of the same");
 }
 
-/// What a function says of itself where natives are asked.
-fn check_manner(rt: &impl Abort, natives: &Natives) {
-    let method = by_reference();
-    holds(
-        rt,
-        method.is_pure(natives) && method.is_method(natives),
-        "a method",
-    );
-    holds(rt, method.has_context(natives), "that is told its context");
-    holds(rt, method.is_volatile(natives), "and may answer otherwise");
-    let plugin = RhaiFunc::plugin(FnId(8));
-    holds(
-        rt,
-        !plugin.is_pure(natives) && plugin.is_method(natives),
-        "a plugin",
-    );
-    holds(rt, !plugin.has_context(natives), "without a context");
-    holds(rt, !plugin.is_volatile(natives), "that answers the same");
-}
-
 #[test]
 fn functions_are_read(rt: HostRuntime) {
     let plugin = RhaiFunc::plugin(FnId(1));
@@ -176,64 +152,6 @@ fn scripts_are_read(rt: HostRuntime) {
         None => false,
     };
     holds(&rt, name, "its definition");
-}
-
-/// What the table says of its natives.
-fn check_natives(rt: &impl Abort, natives: &Natives) {
-    holds(rt, natives.get(FnId(0)).is_some(), "one that is held");
-    holds(rt, natives.get(FnId(20)).is_none(), "one that isn't");
-    holds(
-        rt,
-        natives.is_pure(FnId(7)) && natives.is_method(FnId(7)),
-        "its add",
-    );
-    holds(rt, natives.has_context(FnId(12)), "one with a context");
-    holds(
-        rt,
-        !natives.is_volatile(FnId(7)),
-        "one that answers the same",
-    );
-}
-
-/// Begins a native that answers the sum of its arguments.
-fn check_start(rt: &impl Abort, alloc: Global, natives: &Natives)
-    requires { 12 < length natives.now.items.items }
-{
-    let args = one(alloc, int(2));
-    let made = natives.start(alloc, FnId(7), None, Some(int(1)), args);
-    let step = must(rt, made, "a native is begun");
-    holds(rt, is_done(&step, 3), "a sum");
-    let dup = must(rt, step.dup(alloc), "a step is copied");
-    holds(rt, is_done(&dup, 3), "the same step");
-}
-
-/// Begins a native that asks for a call, and goes on with an answer.
-fn check_resume(rt: &impl Abort, alloc: Global, natives: &Natives)
-    requires { 12 < length natives.now.items.items }
-{
-    let word = Value::Text(text(alloc, "g"));
-    let args = one(alloc, Dynamic::from(word));
-    let ctx = context(alloc);
-    let made = natives.start(alloc, FnId(12), Some(&ctx), None, args);
-    let Some(carry) = carry_of(must(rt, made, "begun")) else {
-        panic!(rt; "a call is asked for");
-    };
-    let made = natives.resume(alloc, FnId(12), Some(&ctx), carry, answered(4));
-    let step = must(rt, made, "a native goes on");
-    holds(rt, is_done(&step, 4), "what the call answered");
-}
-
-#[test]
-fn natives_are_called(rt: HostRuntime) {
-    let alloc = rt.alloc();
-    let mut natives = Natives::new(alloc);
-    kit!(alloc, natives, panic!(&rt; "natives"));
-    check_natives(&rt, &natives);
-    check_manner(&rt, &natives);
-    if natives.len() == 20 {
-        check_start(&rt, alloc, &natives);
-        check_resume(&rt, alloc, &natives);
-    }
 }
 
 /// Whether a request is a call of `f`.

@@ -3,10 +3,8 @@
 ghost use Rattle.std.specs.Prelude.{◌≡◌, None, Ok};
 ghost use Rattle.rhd_module.specs.Tree.{empty_module};
 
-use rhd_decl::{DeclFault, FuncMetadata};
 use rhd_func::{
-    BodyId, CallDone, CallShape, Carry, FnAccess, NativeCallContext, NativeStep, ScriptFuncDef,
-    SharedDef,
+    BodyId, CallDone, CallShape, FnAccess, NativeCallContext, ScriptFuncDef, SharedDef,
 };
 use rhd_hash::{Key, Seeds};
 use rhd_module::{FuncRegistration, Module, SharedModule};
@@ -171,39 +169,5 @@ pub fn answered(number: i64) -> CallDone {
     CallDone {
         answer: Ok(int(number)),
         first: None,
-    }
-}
-
-/// Whether a step is the end with this number.
-pub fn is_done(step: &NativeStep, number: i64) -> bool {
-    match step {
-        NativeStep::Done { answer, .. } => answer.as_int() == Some(number),
-        _ => false,
-    }
-}
-
-/// What a function keeps that asks for a call.
-pub fn carry_of(step: NativeStep) -> Option<Carry> {
-    match step {
-        NativeStep::Ask {
-            request: _request,
-            carry,
-        } => Some(carry),
-        NativeStep::Done {
-            answer: _answer,
-            first: _first,
-        } => None,
-        NativeStep::Failed {
-            fault: _fault,
-            first: _first,
-        } => None,
-    }
-}
-
-/// Whether a native was registered with so many parameters.
-pub fn is_told(told: Result<FuncMetadata, DeclFault>, params: u64) -> bool {
-    match told {
-        Ok(metadata) => metadata.num_params == params,
-        Err(_) => false,
     }
 }

@@ -9,8 +9,6 @@ mod dispatch;
 #[cfg(test)]
 mod engine;
 #[cfg(test)]
-mod foreign;
-#[cfg(test)]
 mod func;
 #[cfg(test)]
 mod given;
@@ -20,11 +18,5 @@ mod hash;
 mod module;
 #[cfg(test)]
 mod names;
-#[cfg(test)]
-mod session;
-#[cfg(test)]
-mod text;
-#[cfg(test)]
-mod tool;
 #[cfg(test)]
 mod value;

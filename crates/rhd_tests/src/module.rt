@@ -3,15 +3,14 @@
 ghost use Rattle.std.specs.Prelude.{◌≡◌, true};
 
 use crate::given::{
-    SEEDS, empty, for_all, holds, int, is_int, is_text, is_told, must, native_key, script,
-    script_key, shared, shared_script, text, texts,
+    SEEDS, empty, for_all, holds, int, is_int, is_text, must, native_key, script, script_key,
+    shared, shared_script, text, texts,
 };
-use rhd_decl::{CustomTypeInfo, DeclFault};
-use rhd_func::{FnAccess, FnNamespace, Natives, PluginFunc, RhaiFunc, SharedDef};
+use rhd_decl::CustomTypeInfo;
+use rhd_func::{FnAccess, FnNamespace, RhaiFunc, SharedDef};
 use rhd_hash::{HashedKey, Key, Steps};
 use rhd_module::{FuncRegistration, Module, is_pure_by_name, script_declaration};
-use rhd_tool::kit;
-use rhd_value::{FnId, Texts, TypeTag};
+use rhd_value::TypeTag;
 use std::alloc::Global;
 use std::process::Abort;
 use std::rc::Rc;
@@ -206,6 +205,41 @@ fn scripts_are_declared(rt: HostRuntime) {
     }
 }
 
+/// What an indexed module answers of a script below it.
+fn check_index(rt: &impl Abort, root: &Module, pathed: &Key)
+    requires { root.now.own.indexed ≡ true }
+{
+    let mut steps = Steps::new();
+    let func = root.get_qualified_fn(pathed, &mut steps);
+    holds(rt, func.is_some() && steps.count() == 1, "by its path");
+    let hashed = HashedKey::new(pathed, SEEDS);
+    let func = root.get_qualified_hashed_fn(&hashed, &mut steps);
+    holds(rt, func.is_some() && steps.count() == 2, "by its hash");
+    holds(rt, root.contains_qualified_fn(pathed), "it is there");
+    let global = root.contains_indexed_global_functions();
+    holds(rt, !global, "not found by all");
+    let hash = pathed.untyped(SEEDS);
+    holds(rt, !root.may_contain_dynamic_fn(hash), "of no type");
+}
+
+/// Indexes a module in whose sub-module `a` a script stands, and asks it.
+fn check_tree(rt: &impl Abort, alloc: Global) {
+    let child = must(rt, Rc::new(alloc, with_script(rt, alloc)), "shared");
+    let mut root = empty(rt, alloc, SEEDS);
+    let set = root.set_sub_module(alloc, text(alloc, "a"), child);
+    holds(rt, set.is_ok(), "a sub-module");
+    let pathed = script_key(alloc, "s").dup_at(alloc, &texts(alloc, "a"));
+    let pathed = must(rt, pathed, "a key with a path");
+    holds(rt, root.build_index(alloc).is_ok(), "indexed");
+    assert!(rt; root.is_indexed(), "indexed");
+    check_index(rt, &root, &pathed);
+}
+
+#[test]
+fn trees_are_indexed(rt: HostRuntime) {
+    check_tree(&rt, rt.alloc());
+}
+
 #[test]
 fn modules_are_copied(rt: HostRuntime) {
     let alloc = rt.alloc();
@@ -304,154 +338,6 @@ fn natives_have_keys(rt: HostRuntime) {
         key == native_key(alloc, "f", TypeTag::Str),
         "of a method",
     );
-}
-
-/// Registers natives under a name and as functions of a property.
-fn check_natives(rt: &impl Abort, alloc: Global, natives: &Natives) {
-    let mut module = empty(rt, alloc, SEEDS);
-    let set = module.set_native_fn(alloc, natives, text(alloc, "n"), FnId(1));
-    let key = native_key(alloc, "n", TypeTag::Int);
-    let hash = must(rt, set, "set_native_fn");
-    holds(rt, hash == key.mixed(SEEDS), "its hash");
-    let n = text(alloc, "n");
-    holds(rt, module.may_match(0, &n, &[TypeTag::Int]), "may_match");
-    let x = text(alloc, "x");
-    let set = module.set_getter_fn(alloc, natives, &x, FnId(15));
-    let key = native_key(alloc, "get$x", TypeTag::Custom(1));
-    holds(rt, set.is_ok() && module.contains_fn(&key), "set_getter_fn");
-}
-
-/// Registers natives as setters and indexers.
-fn check_setters(rt: &impl Abort, alloc: Global, natives: &Natives) {
-    let mut module = empty(rt, alloc, SEEDS);
-    let x = text(alloc, "x");
-    let set = module.set_setter_fn(alloc, natives, &x, FnId(17));
-    holds(rt, set.is_ok(), "set_setter_fn");
-    let set = module.set_indexer_get_fn(alloc, natives, FnId(17));
-    holds(rt, set.is_ok(), "set_indexer_get_fn");
-    let set = module.set_indexer_set_fn(alloc, natives, FnId(17));
-    holds(rt, set.is_ok() && module.count() == (0, 3, 0), "three");
-}
-
-/// Registers pairs of natives.
-fn check_pairs(rt: &impl Abort, alloc: Global, natives: &Natives) {
-    let mut module = empty(rt, alloc, SEEDS);
-    let x = text(alloc, "x");
-    let set = module.set_getter_setter_fn(alloc, natives, &x, FnId(15), FnId(17));
-    holds(rt, set.is_ok(), "set_getter_setter_fn");
-    let set = module.set_indexer_get_set_fn(alloc, natives, FnId(17), FnId(17));
-    holds(rt, set.is_ok() && module.count() == (0, 4, 0), "four");
-}
-
-/// Natives that aren't registered: an indexer of integers, and one that isn't held.
-fn check_refused(rt: &impl Abort, alloc: Global, natives: &Natives) {
-    let mut module = empty(rt, alloc, SEEDS);
-    let set = module.set_indexer_get_fn(alloc, natives, FnId(7));
-    let refused = matches!(set, Err(DeclFault::IndexerNotAllowed { .. }));
-    holds(rt, refused, "an indexer of integers");
-    let set = module.set_native_fn(alloc, natives, text(alloc, "n"), FnId(20));
-    let refused = matches!(set, Err(DeclFault::UnknownNumber { .. }));
-    holds(rt, refused && module.is_empty(), "a number that isn't held");
-}
-
-/// Registers natives as registrations tell.
-fn check_registered(rt: &impl Abort, alloc: Global, natives: &Natives) {
-    let mut module = empty(rt, alloc, SEEDS);
-    let reg = for_all(rt, alloc, "f");
-    let made = reg.set_into_module(alloc, &mut module, natives, FnId(1));
-    let metadata = must(rt, made, "a native");
-    holds(rt, metadata.num_params == 1, "of one parameter");
-    let func = RhaiFunc::plugin(FnId(1));
-    let types = [TypeTag::Int, TypeTag::Int];
-    let reg = for_all(rt, alloc, "f");
-    let made = reg.set_into_module_raw(alloc, &mut module, natives, &types, func);
-    holds(rt, is_told(made, 2), "raw");
-    let func = RhaiFunc::plugin(FnId(1));
-    let reg = for_all(rt, alloc, "g");
-    let made = module.set_fn_raw_with_options(alloc, reg, natives, &[], func);
-    holds(
-        rt,
-        made.is_ok() && module.count() == (0, 3, 0),
-        "by the module",
-    );
-}
-
-/// A module whose sub-module `a` has a native `f` of any type that all calls find.
-fn tree(rt: &impl Abort, alloc: Global, natives: &Natives) -> Module {
-    let mut child = empty(rt, alloc, SEEDS);
-    let reg = for_all(rt, alloc, "f");
-    let set = reg.set_into_module(alloc, &mut child, natives, FnId(3));
-    holds(rt, set.is_ok(), "a native");
-    let child = must(rt, Rc::new(alloc, child), "shared");
-    let mut root = empty(rt, alloc, SEEDS);
-    let set = root.set_sub_module(alloc, text(alloc, "a"), child);
-    holds(rt, set.is_ok(), "a sub-module");
-    root
-}
-
-/// What an indexed module answers of the native.
-fn check_index(rt: &impl Abort, root: &Module, plain: &Key, pathed: &Key)
-    requires { root.now.own.indexed ≡ true }
-{
-    let mut steps = Steps::new();
-    let func = root.get_qualified_fn(plain, &mut steps);
-    holds(rt, func.is_some() && steps.count() == 1, "without its path");
-    let hashed = HashedKey::new(plain, SEEDS);
-    let func = root.get_qualified_hashed_fn(&hashed, &mut steps);
-    holds(rt, func.is_some() && steps.count() == 2, "by its hash");
-    holds(rt, root.contains_qualified_fn(pathed), "by its path");
-    holds(rt, root.contains_indexed_global_functions(), "found by all");
-    let hash = plain.untyped(SEEDS);
-    holds(rt, root.may_contain_dynamic_fn(hash), "of any type");
-}
-
-/// Indexes a module with a sub-module, and asks it.
-fn check_tree(rt: &impl Abort, alloc: Global, natives: &Natives) {
-    let mut root = tree(rt, alloc, natives);
-    let plain = native_key(alloc, "f", TypeTag::Dynamic);
-    let hash = plain.untyped(SEEDS);
-    holds(rt, !root.may_contain_dynamic_fn(hash), "not its own");
-    let pathed = plain.dup_at(alloc, &texts(alloc, "a"));
-    let pathed = must(rt, pathed, "a key with a path");
-    holds(rt, root.build_index(alloc).is_ok(), "indexed");
-    assert!(rt; root.is_indexed(), "indexed");
-    check_index(rt, &root, &plain, &pathed);
-}
-
-#[test]
-fn natives_are_declared(rt: HostRuntime) {
-    let alloc = rt.alloc();
-    let mut natives = Natives::new(alloc);
-    kit!(alloc, natives, panic!(&rt; "natives"));
-    check_natives(&rt, alloc, &natives);
-    check_setters(&rt, alloc, &natives);
-    check_pairs(&rt, alloc, &natives);
-    check_refused(&rt, alloc, &natives);
-    check_registered(&rt, alloc, &natives);
-    check_tree(&rt, alloc, &natives);
-    check_shared_natives(&rt, alloc, &natives);
-}
-
-/// Registers natives in a module with several owners.
-fn check_shared_natives(rt: &impl Abort, alloc: Global, natives: &Natives) {
-    let mut owner = shared(rt, alloc, SEEDS);
-    let reg = for_all(rt, alloc, "f");
-    let set = owner.register(alloc, reg, natives, FnId(0));
-    holds(rt, set.is_ok(), "register");
-    let reg = for_all(rt, alloc, "f");
-    let told = owner.register_told(alloc, reg, natives, FnId(1));
-    holds(rt, is_told(told, 1), "register_told");
-    let func = RhaiFunc::plugin(FnId(1));
-    let types = [TypeTag::Int, TypeTag::Int];
-    let reg = for_all(rt, alloc, "f");
-    let set = owner.register_raw(alloc, reg, natives, &types, func);
-    let three = owner.module().count() == (0, 3, 0);
-    holds(rt, set.is_ok() && three, "register_raw");
-    let get = for_all(rt, alloc, "g");
-    let put = for_all(rt, alloc, "h");
-    let set = owner.register_both(alloc, natives, get, FnId(1), put, FnId(1));
-    let five = owner.module().count() == (0, 5, 0);
-    holds(rt, set.is_ok() && five, "register_both");
 }
 
 #[test]

@@ -9,6 +9,8 @@ mod reading;
 mod sink;
 mod source;
 mod table_host;
+#[cfg(test)]
+mod tests;
 mod tool;
 mod values;
 mod writing;

@@ -1,12 +1,13 @@
-//! Values.
+//! Values, and how the fault of a text is shown.
 
 use crate::tests::{holds, int, one, text_of};
-use rhd_text::{print_value, read_value};
+use rhd_text::{TextFault, print_value, read_value};
 use rhd_value::{
     Dynamic, Entries, EvalAltResult, FnPtr, FnPtrType, Text, Texts, TypeTag, Types, Value, Values,
 };
 use std::alloc::Global;
 use std::process::Abort;
+use std::test::Fail;
 
 #[test]
 fn texts_and_types_are_made(rt: HostRuntime) {
@@ -77,4 +78,17 @@ fn values_are_copied_named_and_printed(rt: HostRuntime) {
     holds(&rt, matches!(read, Ok(Some(_))), "a value is read");
     let fault = EvalAltResult::ErrorRuntime(text_of(alloc, "no"), rhd_value::Position::NONE);
     holds(&rt, fault.dup(alloc).is_ok(), "a fault is copied");
+}
+
+#[test]
+fn faults_of_texts_are_shown(rt: HostRuntime) -> Result<(), Fail> {
+    let alloc = rt.alloc();
+    let bad = format!(in alloc; "{}", TextFault::BadLine(4294967295))?;
+    assert_eq!(rt;
+        bad.as_str(),
+        "line 4294967295 is no line of a session text"
+    );
+    let full = format!(in alloc; "{}", TextFault::OutOfMemory)?;
+    assert_eq!(rt; full.as_str(), "out of memory");
+    Ok(())
 }
