@@ -3,12 +3,10 @@
 ghost use Rattle.std.specs.Prelude.{◌≡◌, None, Ok};
 ghost use Rattle.rhd_module.specs.Tree.{empty_module};
 
-use rhd_func::{
-    BodyId, CallDone, CallShape, FnAccess, NativeCallContext, ScriptFuncDef, SharedDef,
-};
+use rhd_func::{BodyId, CallShape, FnAccess, ScriptFuncDef, SharedDef};
 use rhd_hash::{Key, Seeds};
 use rhd_module::{FuncRegistration, Module, SharedModule};
-use rhd_value::{Dynamic, Position, Text, Texts, TypeTag, Types, Value, Values};
+use rhd_value::{Dynamic, Text, Texts, TypeTag, Types, Value, Values};
 use std::alloc::Global;
 use std::process::Abort;
 
@@ -150,24 +148,4 @@ pub fn for_all(rt: &impl Abort, alloc: Global, name: &str) -> FuncRegistration
 {
     let made = FuncRegistration::new(alloc, text(alloc, name));
     must(rt, made, "a registration").in_global_namespace()
-}
-
-/// What a function is told.
-pub fn context(alloc: Global) -> NativeCallContext {
-    NativeCallContext {
-        name: text(alloc, "f"),
-        source: None,
-        call_source: None,
-        pos: Position::NONE,
-        level: 1,
-        tag: int(0),
-    }
-}
-
-/// The answer of a call that a function asked for.
-pub fn answered(number: i64) -> CallDone {
-    CallDone {
-        answer: Ok(int(number)),
-        first: None,
-    }
 }

@@ -18,5 +18,3 @@ mod hash;
 mod module;
 #[cfg(test)]
 mod names;
-#[cfg(test)]
-mod value;
