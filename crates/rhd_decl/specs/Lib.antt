@@ -1,3 +1,4 @@
 pub mod Collisions
 pub mod CustomTypes
 pub mod Flags
+pub mod NativeKeys

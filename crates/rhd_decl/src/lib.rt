@@ -1,5 +1,5 @@
-//! What modules hold: declarations with what is said of them, custom types, flags; and why a declaration
-//! is refused.
+//! What modules hold: declarations with what is said of them, the keys of natives, custom types, flags;
+//! and why a declaration is refused.
 #![tactic(auto)]
 
 mod custom_types;
@@ -7,9 +7,11 @@ mod declaration;
 mod fault;
 mod flags;
 mod metadata;
+mod native_keys;
 
 pub use custom_types::{CustomTypeInfo, CustomTypesCollection};
 pub use declaration::Declaration;
 pub use fault::DeclFault;
 pub use flags::{ModuleFlags, Switches};
 pub use metadata::FuncMetadata;
+pub use native_keys::{mapped_types, native_key};

@@ -7,7 +7,7 @@ use Rattle.rhd_value.specs.Same.{tag_eq, text_eq}
 use Rattle.rhd_value.specs.declared.tag.TypeTag.{TypeTag}
 use Rattle.rhd_value.specs.declared.tag.TypeTag.TheVariants.{Dynamic}
 use Rattle.rhd_hash.specs.declared.key.Key.{Key}
-use Rattle.rhd_hash.specs.declared.key.Key.TheVariants.{Script, Typed, Native}
+use Rattle.rhd_hash.specs.declared.key.Key.TheVariants.{Native}
 use Rattle.rhd_hash.specs.Parts.{untyped}
 use Rattle.rhd_func.specs.declared.func.RhaiFunc.{RhaiFunc}
 use Rattle.rhd_module.specs.Below.{may_contain}
@@ -95,9 +95,3 @@ named_at layer name y = if text_eq name y.1.0 then Some (place_of_tree layer y) 
 -- what the first pattern gives that gives something, where some types are chosen and n of the others may change
 abbrev pub first_match : (List TypeTag → Option Pick) → List TypeTag → ℕ → List TypeTag → Option Pick
 first_match look chosen n rest = first_of (λ types. look (chosen ++ types)) (patterns_to n rest)
-
--- the types of the key of a native
-abbrev pub key_types : Key → List TypeTag
-key_types (Script path name params) = []
-key_types (Typed path name params this_type) = []
-key_types (Native path name types) = types

@@ -114,8 +114,7 @@ fn find_pattern(
     let natives = NativesOf {
         engine,
         state,
-        name,
-        hashed: HashedName::new(name, kinds.len() as u64, engine.seeds()),
+        name: HashedName::new(name, kinds.len() as u64, engine.seeds()),
     };
     match find_others(alloc, &natives, &mut types, 0, steps)? {
         Some(pick) => Ok(Some(pick)),

@@ -3,10 +3,9 @@
 ghost use Rattle.std.specs.Prelude.{◌≡◌, ◌++◌, IfOk, OnOk, map, None};
 ghost use Rattle.rhd_value.specs.Kinds.{tag_of};
 ghost use Rattle.rhd_func.specs.Shapes.{all_args};
-ghost use Rattle.rhd_hash.specs.Keys.{key_name};
+ghost use Rattle.rhd_hash.specs.Keys.{key_name, key_types};
 ghost use Rattle.rhd_hash.specs.declared.key.Key.TheVariants as keys;
 ghost use Rattle.rhd_dispatch.specs.Asks.{params_of};
-ghost use Rattle.rhd_dispatch.specs.Walks.{key_types};
 
 use rhd_func::CallShape;
 use rhd_hash::Key;

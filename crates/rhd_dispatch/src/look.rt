@@ -47,10 +47,8 @@ pub(crate) trait Look {
 pub(crate) struct NativesOf<'a> {
     pub engine: &'a Engine,
     pub state: &'a GlobalRuntimeState,
-    pub name: &'a Text,
     /// The name with a number of parameters, hashed for the filters.
-    pub hashed: HashedName<'a>,
-    ghost is_name: { hashed.name.now ≡ name.now },
+    pub name: HashedName<'a>,
 }
 
 /// Whether some module may have a native of this name for these kinds, where the types before a place
@@ -67,7 +65,7 @@ fn any_may_match(modules: &[SharedModule], place: usize, name: &Text, kinds: &[T
 }
 
 impl Look for NativesOf<'_> {
-    ghost look = { λ s types. native_in s.state.now.lib s.engine.now.globals s.state.now.imports s.engine.now.statics s.name.now types };
+    ghost look = { λ s types. native_in s.state.now.lib s.engine.now.globals s.state.now.imports s.engine.now.statics s.name.name.now types };
 
     ghost modules = { λ s. length s.state.now.lib + length s.engine.now.globals + length s.state.now.imports + length s.engine.now.statics };
 
@@ -77,23 +75,26 @@ impl Look for NativesOf<'_> {
         types: &[TypeTag],
         steps: &mut Steps,
     ) -> Result<Option<Pick>, OutOfMemory> {
-        let key = native_key_of(self.name.dup(alloc)?, Types::from_slice(alloc, types)?);
+        let key = native_key_of(
+            self.name.name().dup(alloc)?,
+            Types::from_slice(alloc, types)?,
+        );
         pick_found(alloc, find(self.engine, self.state, &key, steps))
     }
 
     fn may_match(&self, place: usize, kinds: &[TypeTag]) -> bool {
-        if kinds.len() as u64 != self.hashed.params() {
+        if kinds.len() as u64 != self.name.params() {
             return true;
         }
-        if any_may_match(self.engine.global_modules(), place, self.name, kinds) {
+        if any_may_match(self.engine.global_modules(), place, self.name.name(), kinds) {
             return true;
         }
-        if any_may_match(self.state.lib.as_slice(), place, self.name, kinds) {
+        if any_may_match(self.state.lib.as_slice(), place, self.name.name(), kinds) {
             return true;
         }
-        if any_import_may_have(self.state.imports.as_slice(), self.hashed) {
+        if any_import_may_have(self.state.imports.as_slice(), self.name) {
             return true;
         }
-        any_static_may_have(self.engine.static_modules(), self.hashed)
+        any_static_may_have(self.engine.static_modules(), self.name)
     }
 }

@@ -25,9 +25,6 @@ all_of test es = list_all (λ e. test e.1) es
 pub all_pushed : (test : ModuleTree → Bool) (es : Imports) (name : Bytes) (m : ModuleTree) → test m ≡ true → all_of test es ≡ true → all_of test (es ++ (name, m) ∷ []) ≡ true
 all_pushed test es name m h all = list_all-append (λ e. test e.1) es ((name, m) ∷ []) ∙ both (all_of test es) (test m && true) all (both (test m) true h refl)
 
-pub all_popped : (test : ModuleTree → Bool) (es : Imports) (name : Bytes) (m : ModuleTree) → all_of test (es ++ (name, m) ∷ []) ≡ true → all_of test es ≡ true
-all_popped test es name m all = (parts (all_of test es) (test m && true) (sym (list_all-append (λ e. test e.1) es ((name, m) ∷ [])) ∙ all)).0
-
 pub all_put : (test : ModuleTree → Bool) (es : Imports) (name : Bytes) (m : ModuleTree) → test m ≡ true → all_of test es ≡ true → all_of test (put_module name m es) ≡ true
 all_put test [] name m h all = both (test m) true h refl
 all_put test (e ∷ es) name m h all = by (parts (test e.1) (all_of test es) all) (all_put test es name m h (parts (test e.1) (all_of test es) all).1) (slice_cmp nat_cmp name e.0)
@@ -51,9 +48,6 @@ all_reversed test [] all = refl
 all_reversed test (e ∷ es) all =
     let p = parts (test e.1) (all_of test es) all in
     ap (all_of test) (reverse-append (e ∷ []) es) ∙ all_pushed test (reverse es) e.0 e.1 p.0 (all_reversed test es p.1)
-
-pub all_latest : (test : ModuleTree → Bool) (es : Imports) (name : Bytes) (m : ModuleTree) → all_of test es ≡ true → latest_of name es ≡ Some m → test m ≡ true
-all_latest test es name m all is = all_found test (reverse es) name m (all_reversed test es all) is
 
 -- The same of indexed modules.
 pub pushed : (es : Imports) (name : Bytes) (m : ModuleTree) → m.own.indexed ≡ true → all_indexed es ≡ true → all_indexed (es ++ (name, m) ∷ []) ≡ true

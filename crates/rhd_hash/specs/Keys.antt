@@ -1,5 +1,5 @@
 -- When two keys are the same: the test that the code makes, and that it decides equality.
-use Rattle.std.specs.Prelude.{◌≡◌, ℕ, Bool, true, false, ◌==◌, ◌&&◌, ◌++◌, List, length, is_none, if◌then◌else◌, refl}
+use Rattle.std.specs.Prelude.{◌≡◌, ℕ, Bool, true, false, ◌==◌, ◌&&◌, ◌++◌, List, [], length, is_none, if◌then◌else◌, refl}
 use Rattle.std.specs.declared.option.Option.{Option}
 use Rattle.std.specs.declared.option.Option.TheVariants.{None, Some}
 use Rattle.std.specs.Bool.{Decides}
@@ -9,6 +9,7 @@ use Rattle.std.specs.List.{list_any}
 use Rattle.std.proofs.Common.{ap}
 use Rattle.std.proofs.lemmas.Slice.Eq.{bytes_eq-Decides}
 use Rattle.std.proofs.lemmas.Bool.Decides.{Decides-eqb, Decides-and, Decides-like}
+use Rattle.rhd_value.specs.declared.tag.TypeTag.{TypeTag}
 use Rattle.rhd_value.specs.declared.tag.TypeTag.TheVariants.{Dynamic}
 use Rattle.rhd_value.specs.Same.{tag_eq, text_eq, texts_eq, types_eq, texts_eq-Decides, types_eq-Decides}
 use Rattle.rhd_hash.specs.declared.key.Key.{Key}
@@ -93,6 +94,12 @@ abbrev pub with_path : List (List ℕ) → Key → Key
 with_path names (Script path name params) = Script (Some names) name params
 with_path names (Typed path name params this_type) = Typed (Some names) name params this_type
 with_path names (Native path name types) = Native (Some names) name types
+
+-- the types that a native's key has
+abbrev pub key_types : Key → List TypeTag
+key_types (Script path name params) = []
+key_types (Typed path name params this_type) = []
+key_types (Native path name types) = types
 
 -- a native's key with a parameter of any type
 abbrev pub has_dynamic : Key → Bool

@@ -1,5 +1,5 @@
 -- The rows of bytes that the parts of a key are mixed from, and the hash of a key.
-use Rattle.std.specs.Prelude.{ℕ, ◌+◌, List, [], ◌∷◌, ◌++◌, length, bit_xor, Option, None, Some}
+use Rattle.std.specs.Prelude.{ℕ, ◌+◌, List, [], ◌∷◌, ◌++◌, length, bit_xor, if◌then◌else◌, Option, None, Some}
 use Rattle.std.proofs.Common.{w32, w64}
 use Rattle.std.specs.List.{flat_map}
 use Rattle.std.specs.Int.{to_le_bytes}
@@ -8,7 +8,7 @@ use Rattle.rhd_value.specs.declared.tag.TypeTag.TheVariants as tag
 use Rattle.rhd_hash.specs.declared.mixer.Seeds.{Seeds}
 use Rattle.rhd_hash.specs.declared.key.Key.{Key}
 use Rattle.rhd_hash.specs.declared.key.Key.TheVariants.{Script, Typed, Native}
-use Rattle.rhd_hash.specs.Keys.{key_name, key_params}
+use Rattle.rhd_hash.specs.Keys.{key_name, key_params, has_dynamic}
 use Rattle.rhd_hash.specs.Mix.{mix}
 
 -- a number in eight bytes, and in four, the lowest first
@@ -92,3 +92,7 @@ untyped s name params = mix s (fn_part None name params)
 -- the same of a key, whatever its path and its types
 abbrev pub untyped_key : Seeds → Key → ℕ
 untyped_key s k = untyped s (key_name k) (key_params k)
+
+-- that hash, where a key has a parameter of any type
+abbrev pub dynamic_hash : Seeds → Key → Option ℕ
+dynamic_hash s k = if has_dynamic k then Some (untyped_key s k) else None

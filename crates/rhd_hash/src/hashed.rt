@@ -86,6 +86,13 @@ impl<'a> HashedName<'a> {
         }
     }
 
+    /// The name.
+    pub fn name(self) -> &'a Text
+        ensures { result.now ≡ self.entry.name.now }
+    {
+        self.name
+    }
+
     /// The number of parameters.
     pub fn params(self) -> u64
         ensures { result ≡ self.entry.params }

@@ -4,7 +4,7 @@ ghost use Rattle.std.specs.Prelude.{◌≡◌, bit_xor};
 ghost use Rattle.std.specs.List.{flat_map};
 ghost use Rattle.rhd_hash.specs.declared.key.Key.TheVariants.{Script, Native};
 ghost use Rattle.rhd_hash.specs.Mix.{mix, after};
-ghost use Rattle.rhd_hash.specs.Parts.{tag_bytes, texts_bytes, path_bytes, path_of, path_names, path_count, fn_bytes, var_part, types_part, this_part, mixed, untyped, untyped_key};
+ghost use Rattle.rhd_hash.specs.Parts.{tag_bytes, texts_bytes, path_bytes, path_of, path_names, path_count, fn_bytes, var_part, types_part, this_part, mixed, untyped, untyped_key, dynamic_hash};
 
 use crate::key::Key;
 use crate::mixer::{Mixer, Seeds, get_hasher};
@@ -178,6 +178,17 @@ impl Key {
         ensures { result ≡ untyped_key seeds self.now }
     {
         calc_untyped_fn_hash(seeds, self.name(), self.num_params())
+    }
+
+    /// The hash of its name and its number of parameters alone, where it has a parameter of any type.
+    pub fn dynamic_hash(&self, seeds: Seeds) -> Option<u64>
+        ensures { result ≡ dynamic_hash seeds self.now }
+    {
+        if self.has_dynamic() {
+            Some(self.untyped(seeds))
+        } else {
+            None
+        }
     }
 
     /// The hash of the key.

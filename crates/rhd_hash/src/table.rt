@@ -143,10 +143,11 @@ impl<V> KeyTable<V> {
         ensures apart { OnOk result (HasOwnHashes self.new.seeds (keys_of self.new.pairs)) }
         ensures refuses { (held : _) → Contains (keys_of self.old.pairs) held → Clashes self.old.seeds held key → IsErr result }
     {
-        if let Some(held) = self.clash_with(&key)? {
+        let hash = key.mixed(self.seeds);
+        if let Some(held) = self.clash_with(&key, hash)? {
             return Err(TableFault::Clash { held, new: key });
         }
-        self.put(key, value)
+        self.put(key, hash, value)
     }
 
     /// Keeps the first pairs alone.
@@ -158,15 +159,16 @@ impl<V> KeyTable<V> {
         self.slots.truncate(len);
     }
 
-    /// A copy of the key that clashes with this one.
-    fn clash_with(&self, key: &Key) -> Result<Option<Key>, OutOfMemory>
+    /// A copy of the key that clashes with this one, which has this hash.
+    fn clash_with(&self, key: &Key, hash: u64) -> Result<Option<Key>, OutOfMemory>
+        requires { hash ≡ mixed self.now.seeds key.now }
         ensures apart { HasOwnHashes self.now.seeds (keys_of self.now.pairs) }
         ensures free { IfOk result (λ r. IfNone r (IsFree self.now key.now)) }
         ensures held { IfOk result (λ r. IfSome r (λ held. Contains (keys_of self.now.pairs) held × Clashes self.now.seeds held key.now)) }
         ensures absent { IfOk result (λ r. IfSome r (λ _. lookup (key_eq key.now) self.now.pairs ≡ None)) }
         ensures err { OnErr result (lookup (key_eq key.now) self.now.pairs ≡ None) }
     {
-        match self.get_by_hash(key.mixed(self.seeds)) {
+        match self.get_by_hash(hash) {
             Some((held, _value)) => {
                 if *held == *key {
                     Ok(None)
@@ -178,11 +180,12 @@ impl<V> KeyTable<V> {
         }
     }
 
-    /// Puts a value under a key that clashes with none.
-    fn put(&mut self, key: Key, value: V) -> Result<Option<V>, TableFault>
+    /// Puts a value under a key that has this hash and clashes with none.
+    fn put(&mut self, key: Key, hash: u64, value: V) -> Result<Option<V>, TableFault>
     where
         V: Drop,
-        requires { IsFree self.old key }
+        requires hash { hash ≡ mixed self.old.seeds key }
+        requires free { IsFree self.old key }
         ensures old { IfOk result (λ old. old ≡ lookup (key_eq key) self.old.pairs) }
         ensures pairs { OnOk result (self.new ≡ record self.old { pairs = put_in key_eq key value self.old.pairs }) }
         ensures unchanged { OnErr result (self.new ≡ self.old) }
@@ -190,7 +193,6 @@ impl<V> KeyTable<V> {
         ensures refused { IfErr result (λ fault. fault ≡ no_memory) }
         ensures apart { OnOk result (HasOwnHashes self.new.seeds (keys_of self.new.pairs)) }
     {
-        let hash = key.mixed(self.seeds);
         match self.slots.insert(hash, (key, value)) {
             Ok(old) => Ok(value_of(old)),
             Err(_) => Err(TableFault::OutOfMemory),

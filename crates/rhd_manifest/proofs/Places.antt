@@ -99,13 +99,6 @@ module _ (places : ℕ → Option ℕ) (clashes : Bool) (es : List Entry) (index
     pub index_push : IsIndex news after (es ++ e ∷ [])
     index_push = record { within = within; finds = finds }
 
--- without entries nothing is found
-pub index_new : (places : ℕ → Option ℕ) (clashes : Bool) → ((h : ℕ) → places h ≡ None) → IsIndex places clashes []
-index_new places clashes none = record {
-  within = λ hash place at. let bad : None ≡ Some place = sym (none hash) ∙ at in absurd cc;
-  finds = λ _ key. sym (ap (entry_at key []) (none (index_hash key)));
-}
-
 -- the key of a script finds no entry
 pub no_script : (key : Key) (es : List Entry) → is_script_key key ≡ true → find_entry key es ≡ None
 no_script (Script path name params) [] h = refl

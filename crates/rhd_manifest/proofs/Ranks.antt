@@ -65,10 +65,6 @@ rising_own f m = twice m.entries
 pub at : (table : List ManifestLists) (id : ManifestId) (m : ManifestLists) → Some m ≡ slice_get table id.0 → manifest_at table id ≡ m
 at table id m e = ap (λ o. unwrap_or o no_lists) (sym e)
 
--- and of one that isn't
-pub not_at : (table : List ManifestLists) (id : ManifestId) → None ≡ slice_get table id.0 → flattened table id ≡ []
-not_at table id e = ap (λ o. rank_by (flattened_to id.0 table) (unwrap_or o no_lists) true) (sym e)
-
 -- a sub-manifest's number is lower
 pub lower_than : (table : List ManifestLists) → AreLower table → (id : ManifestId) (m : ManifestLists) → Some m ≡ slice_get table id.0 → AllByRecursion (λ s. s.1.0 < id.0) m.subs
 unfolding AreLower

@@ -1,23 +1,21 @@
 -- A function that a manifest lists, as a declaration under its key.
-use Rattle.std.specs.Prelude.{ℕ, Bool, true, not, List, [], ◌∷◌, length, map, refl, if◌then◌else◌, Option, None, Some}
+use Rattle.std.specs.Prelude.{ℕ, Bool, List, [], length, refl, Option, None}
 use Rattle.std.specs.Option.{option_map_or}
 use Rattle.std.specs.Coded.{Coded, code_by, coded×, coded_ℕ, coded_bool, coded_list}
 use Rattle.rhd_value.specs.Tree.{Bytes}
-use Rattle.rhd_value.specs.Kinds.{map_type}
 use Rattle.rhd_value.specs.declared.tag.FnId.{FnId}
 use Rattle.rhd_value.specs.declared.tag.TypeTag.{TypeTag}
 use Rattle.rhd_value.specs.contracts.tag.FnId as number
 use Rattle.rhd_value.specs.contracts.tag.TypeTag as tag
 use Rattle.rhd_hash.specs.declared.key.Key.{Key}
-use Rattle.rhd_hash.specs.declared.key.Key.TheVariants.{Script, Typed, Native}
 use Rattle.rhd_hash.specs.declared.mixer.Seeds.{Seeds}
-use Rattle.rhd_hash.specs.Keys.{has_dynamic}
-use Rattle.rhd_hash.specs.Parts.{mixed, untyped_key}
+use Rattle.rhd_hash.specs.Parts.{mixed}
 use Rattle.rhd_func.specs.Natives.{NativeInfo, info_of, says}
 use Rattle.rhd_func.specs.declared.access.FnNamespace.{FnNamespace}
 use Rattle.rhd_func.specs.contracts.access.FnNamespace as namespaces
 use Rattle.rhd_func.specs.declared.access.FnAccess.TheVariants.{Public}
 use Rattle.rhd_func.specs.declared.func.RhaiFunc.TheVariants.{StaticPlugin}
+use Rattle.rhd_decl.specs.NativeKeys.{mapped_types, native_key_at}
 use Rattle.rhd_decl.specs.declared.declaration.Declaration.{Declaration}
 
 -- a native under a name, with what it says of its parameters
@@ -38,34 +36,12 @@ entry_of natives name namespace func = record {
   is_method = says (λ n. n.is_method) natives func;
 }
 
--- the types of a native as keys have them; the first type of a method stays
-abbrev pub mapped_types : Bool → List TypeTag → List TypeTag
-mapped_types is_method [] = []
-mapped_types is_method (t ∷ ts) = map_type (not is_method) t ∷ map (map_type true) ts
-
--- the key of a native under a name, at a path
-abbrev pub native_key_at : Option (List Bytes) → Bool → Bytes → List TypeTag → Key
-native_key_at path is_method name types = Native path name (mapped_types is_method types)
-
-abbrev pub native_key : Bool → Bytes → List TypeTag → Key
-native_key is_method name types = native_key_at None is_method name types
-
 -- the key of an entry at a path, and in its module
 abbrev pub entry_key_at : Option (List Bytes) → Entry → Key
 entry_key_at path e = native_key_at path e.is_method e.name e.param_types
 
 abbrev pub entry_key : Entry → Key
 entry_key e = entry_key_at None e
-
--- the types that a native's key has
-abbrev pub key_types : Key → List TypeTag
-key_types (Script path name params) = []
-key_types (Typed path name params this_type) = []
-key_types (Native path name types) = types
-
--- the hash of its name and its number of parameters, where it has a parameter of any type
-abbrev pub dynamic_hash : Seeds → Key → Option ℕ
-dynamic_hash seeds key = if has_dynamic key then Some (untyped_key seeds key) else None
 
 -- as a declaration: public, and nothing is said of its parameters but their types
 abbrev pub entry_decl : Seeds → Entry → Declaration
@@ -83,9 +59,6 @@ entry_decl seeds e = record {
     comments = [];
   };
 }
-
-abbrev pub entry_pair : Seeds → Entry → Key × Declaration
-entry_pair seeds e = (entry_key e, entry_decl seeds e)
 
 -- how the logic stores an entry
 abbrev pub coded_entry : Coded Entry

@@ -1,12 +1,10 @@
 -- Which entries a manifest lists, from the highest precedence to the lowest.
-use Rattle.std.specs.Prelude.{ℕ, zero, suc, Bool, true, List, [], ◌∷◌, ◌++◌, map, reverse, if◌then◌else◌, Option}
+use Rattle.std.specs.Prelude.{ℕ, zero, suc, Bool, true, List, [], ◌∷◌, ◌++◌, reverse, if◌then◌else◌, Option}
 use Rattle.std.specs.List.{flat_map, find}
 use Rattle.rhd_hash.specs.declared.key.Key.{Key}
-use Rattle.rhd_hash.specs.declared.mixer.Seeds.{Seeds}
 use Rattle.rhd_hash.specs.Keys.{key_eq}
 use Rattle.rhd_func.specs.declared.access.ManifestId.{ManifestId}
-use Rattle.rhd_decl.specs.declared.declaration.Declaration.{Declaration}
-use Rattle.rhd_manifest.specs.Entry.{Entry, entry_key, entry_pair}
+use Rattle.rhd_manifest.specs.Entry.{Entry, entry_key}
 use Rattle.rhd_manifest.specs.Manifest.{ManifestLists, manifest_at}
 
 -- the ranks of sub-manifests from the last to the first, each flattened, if this one is; then its entries from the last to the first
@@ -33,18 +31,6 @@ rank table id flat = rank_of table (manifest_at table id) flat
 abbrev pub listed : List ManifestLists → List (ManifestId × Bool) → List Entry
 listed table manifests = flat_map (λ m. rank table m.0 m.1) (reverse manifests)
 
--- the same as declarations under their keys
-abbrev pub lazy : Seeds → List ManifestLists → List (ManifestId × Bool) → List (Key × Declaration)
-lazy seeds table manifests = map (entry_pair seeds) (listed table manifests)
-
 -- the first of some entries under a key
 abbrev pub find_entry : Key → List Entry → Option Entry
 find_entry key es = find (λ e. key_eq key (entry_key e)) es
-
--- a manifest and all below it: each before its sub-manifests, these in order
-abbrev pub walk_to : ℕ → List ManifestLists → ManifestId → List ManifestLists
-walk_to zero table id = []
-walk_to (suc depth) table id = manifest_at table id ∷ flat_map (λ s. walk_to depth table s.1) (manifest_at table id).subs
-
-abbrev pub walk : List ManifestLists → ManifestId → List ManifestLists
-walk table id = walk_to (suc id.0) table id

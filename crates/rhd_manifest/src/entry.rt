@@ -2,15 +2,14 @@
 
 ghost use Rattle.std.specs.Prelude.{◌≡◌, IfOk, length};
 ghost use Rattle.std.specs.Fn.{FnOnceReturnsAt};
-ghost use Rattle.rhd_value.specs.Kinds.{map_type};
 ghost use Rattle.rhd_value.specs.Same.{types_eq};
-ghost use Rattle.rhd_hash.specs.Parts.{mixed, path_of};
-ghost use Rattle.rhd_manifest.specs.Entry.{mapped_types, key_types, entry_key, entry_key_at, entry_decl, dynamic_hash};
+ghost use Rattle.rhd_hash.specs.Parts.{mixed, path_of, dynamic_hash};
+ghost use Rattle.rhd_manifest.specs.Entry.{entry_key, entry_key_at, entry_decl};
 
-use rhd_decl::{Declaration, FuncMetadata};
+use rhd_decl::{Declaration, FuncMetadata, mapped_types};
 use rhd_func::{FnAccess, FnNamespace, RhaiFunc};
 use rhd_hash::{Key, Seeds, calc_native_fn_hash};
-use rhd_value::{FnId, OutOfMemory, Text, Texts, TypeTag, Types, map_type};
+use rhd_value::{FnId, OutOfMemory, Text, Texts, TypeTag, Types};
 use std::alloc::Global;
 use std::marker::Model;
 
@@ -29,7 +28,8 @@ pub struct FnManifestEntry {
 impl Model for FnManifestEntry {
     ghost use Rattle.std.specs.Prelude.{◌≡◌};
     ghost use Rattle.rhd_hash.specs.Keys.{key_name};
-    ghost use Rattle.rhd_manifest.specs.Entry.{Entry, coded_entry, native_key};
+    ghost use Rattle.rhd_decl.specs.NativeKeys.{native_key};
+    ghost use Rattle.rhd_manifest.specs.Entry.{Entry, coded_entry};
 
     ghost Value = { Entry };
 
@@ -44,32 +44,6 @@ impl Model for FnManifestEntry {
     } };
 
     ghost invariant = { λ e. e.key ≡ native_key e.is_method (key_name e.key) e.param_types };
-}
-
-/// The types of a native as keys have them.
-fn mapped_types(alloc: Global, types: &[TypeTag], is_method: bool) -> Result<Types, OutOfMemory>
-    ensures { IfOk result (λ mapped. mapped ≡ mapped_types is_method types.now) }
-{
-    let mut mapped = Types::new(alloc);
-    let [first, others @ ..] = types else {
-        return Ok(mapped);
-    };
-    mapped.push(map_type(!is_method, *first))?;
-    for tag in others {
-        mapped.push(map_type(true, *tag))?;
-    }
-    Ok(mapped)
-}
-
-/// The types that a key has.
-fn types_of(key: &Key) -> &[TypeTag]
-    ensures { result.now ≡ key_types key.now }
-{
-    match key {
-        Key::Script { .. } => &[],
-        Key::Typed { .. } => &[],
-        Key::Native { types, .. } => types.as_slice(),
-    }
 }
 
 impl FnManifestEntry {
@@ -174,18 +148,14 @@ impl FnManifestEntry {
     pub fn calc_hash(&self, seeds: Seeds, path: &[Text]) -> u64
         ensures { result ≡ mixed seeds (entry_key_at (path_of path.now) self.now) }
     {
-        calc_native_fn_hash(seeds, path, self.key.name(), types_of(&self.key))
+        calc_native_fn_hash(seeds, path, self.key.name(), self.key.types())
     }
 
     /// The hash of its name and its number of parameters alone, where it has a parameter of any type.
     pub fn calc_dynamic_hash(&self, seeds: Seeds) -> Option<u64>
         ensures { result ≡ dynamic_hash seeds (entry_key self.now) }
     {
-        if self.key.has_dynamic() {
-            Some(self.key.untyped(seeds))
-        } else {
-            None
-        }
+        self.key.dynamic_hash(seeds)
     }
 
     /// As a declaration: public, a native that is listed, and nothing is said of its parameters but
@@ -201,7 +171,7 @@ impl FnManifestEntry {
                 access: FnAccess::Public,
                 name: self.key.name().dup(alloc)?,
                 num_params: self.param_types.len() as u64,
-                param_types: Types::from_slice(alloc, types_of(&self.key))?,
+                param_types: Types::from_slice(alloc, self.key.types())?,
                 params_info: Texts::new(alloc),
                 return_type: Text::new(alloc),
                 comments: Texts::new(alloc),

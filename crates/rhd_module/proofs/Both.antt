@@ -12,7 +12,8 @@ use Rattle.rhd_decl.specs.declared.fault.DeclFault.{DeclFault}
 use Rattle.rhd_decl.specs.declared.fault.DeclFault.TheVariants.{HashCollision, IndexerNotAllowed, NotCallable, UnknownNumber, OutOfMemory}
 use Rattle.rhd_module.specs.Tree.{ModuleTree}
 use Rattle.rhd_module.specs.declared.registration.FuncRegistration.{FuncRegistration}
-use Rattle.rhd_module.specs.Registered.{put, Puts, PutsBoth, Registers, RegistersBoth, Refuses, banned, no_info, native_at, native_key, registered_decl, registration_cause, pair_cause}
+use Rattle.rhd_decl.specs.NativeKeys.{native_key}
+use Rattle.rhd_module.specs.Registered.{put, Puts, PutsBoth, Registers, RegistersBoth, Refuses, banned, no_info, native_at, registered_decl, registration_cause, pair_cause}
 use Rattle.rhd_module.proofs.Puts.{kept}
 
 -- where nothing refuses a pair, nothing refuses its first half

@@ -16,7 +16,8 @@ use Rattle.rhd_module.specs.Tree.{ModuleTree, Lists, Pairs}
 use Rattle.rhd_module.specs.Contents.{commented, comment_on}
 use Rattle.rhd_module.specs.Registered.{put}
 use Rattle.rhd_module.specs.Walk.{unpathed, pathed, pairs_at, below, tree}
-use Rattle.rhd_module.specs.Below.{dynamic_hash, has_slot, some_below, declares_global, may_be_dynamic, declares_dynamic}
+use Rattle.rhd_hash.specs.Parts.{dynamic_hash}
+use Rattle.rhd_module.specs.Below.{has_slot, some_below, declares_global, may_be_dynamic, declares_dynamic}
 use Rattle.rhd_module.specs.Index.{Indexed, IsFilter, IsIndexOf, NoneClash}
 
 or_false : (b : Bool) → (b || false) ≡ b

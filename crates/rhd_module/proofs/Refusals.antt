@@ -19,7 +19,8 @@ use Rattle.rhd_decl.specs.declared.fault.DeclFault.{DeclFault}
 use Rattle.rhd_decl.specs.declared.fault.DeclFault.TheVariants.{NotCallable, UnknownNumber}
 use Rattle.rhd_module.specs.declared.registration.FuncRegistration.{FuncRegistration}
 use Rattle.rhd_module.specs.Tree.{ModuleTree}
-use Rattle.rhd_module.specs.Registered.{Puts, Registers, RegistersRaw, unheld, banned, no_info, native_at, native_key, native_decl, registered_decl}
+use Rattle.rhd_decl.specs.NativeKeys.{native_key}
+use Rattle.rhd_module.specs.Registered.{Puts, Registers, RegistersRaw, unheld, banned, no_info, native_at, native_decl, registered_decl}
 
 or_none : {A : Type 0} (o : Option A) → option_or o None ≡ o
 or_none None = refl

@@ -27,10 +27,6 @@ some_in has m = has m.own || some_below has m.subs
 abbrev pub declares_global : Lists → Bool
 declares_global own = list_any (λ p. is_global_namespace p.1.metadata.namespace) (shown own)
 
--- the hash of the name and the number of parameters of a key that has a parameter of any type
-abbrev pub dynamic_hash : Seeds → Key → Option ℕ
-dynamic_hash seeds key = if has_dynamic key then Some (untyped_key seeds key) else None
-
 -- a number is this one modulo 64, if there is one
 abbrev pub has_slot : Option ℕ → ℕ → Bool
 has_slot None v = false

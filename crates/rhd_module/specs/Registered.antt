@@ -6,7 +6,7 @@ use Rattle.std.specs.Map.{keys_of}
 use Rattle.rhd_value.specs.Tree.{Bytes}
 use Rattle.rhd_value.specs.Firsts.{first_some, where_holds}
 use Rattle.rhd_value.specs.Same.{text_eq, tag_eq}
-use Rattle.rhd_value.specs.Kinds.{map_type, type_text}
+use Rattle.rhd_value.specs.Kinds.{type_text}
 use Rattle.rhd_value.specs.declared.tag.FnId.{FnId}
 use Rattle.rhd_value.specs.declared.tag.TypeTag.{TypeTag}
 use Rattle.rhd_value.specs.declared.tag.TypeTag.TheVariants as tags
@@ -26,6 +26,7 @@ use Rattle.rhd_func.specs.declared.access.FnNamespace.TheVariants.{Internal, Glo
 use Rattle.rhd_func.specs.declared.func.ScriptFuncDef.{ScriptFuncDef}
 use Rattle.rhd_func.specs.declared.func.RhaiFunc.{RhaiFunc}
 use Rattle.rhd_func.specs.declared.func.RhaiFunc.TheVariants as funcs
+use Rattle.rhd_decl.specs.NativeKeys.{mapped_types, native_key}
 use Rattle.rhd_decl.specs.declared.declaration.Declaration.{Declaration}
 use Rattle.rhd_decl.specs.declared.fault.DeclFault.{DeclFault}
 use Rattle.rhd_decl.specs.declared.fault.DeclFault.TheVariants.{HashCollision, IndexerNotAllowed, NotCallable, UnknownNumber, OutOfMemory}
@@ -39,15 +40,6 @@ put k d ps = put_in key_eq k d ps
 -- the module with a declaration put in; it isn't indexed any more
 abbrev pub with_decl : Key → Declaration → ModuleTree → ModuleTree
 with_decl k d m = record m { own = record m.own { eager = put k d m.own.eager; indexed = false } }
-
--- the types of a native as keys have them; the first type of a method stays
-abbrev pub mapped_types : Bool → List TypeTag → List TypeTag
-mapped_types is_method [] = []
-mapped_types is_method (t ∷ ts) = map_type (not is_method) t ∷ map (map_type true) ts
-
--- the key of a native under a name
-abbrev pub native_key : Bool → Bytes → List TypeTag → Key
-native_key is_method name types = keys.Native None name (mapped_types is_method types)
 
 -- whether a native of this name and number of parameters is pure where nothing else is said
 abbrev pub pure_by_name : Bytes → ℕ → Bool

@@ -14,8 +14,6 @@ mod shared;
 
 pub use law::{a_declaration_leaves_the_others, a_key_finds_its_first_declaration};
 pub use module::Module;
-pub use registration::{
-    FuncRegistration, is_pure_by_name, native_key, script_declaration, script_key,
-};
+pub use registration::{FuncRegistration, is_pure_by_name, script_declaration, script_key};
 pub use rhd_decl::{CustomTypeInfo, CustomTypesCollection, DeclFault, Declaration, FuncMetadata};
 pub use shared::SharedModule;

@@ -13,7 +13,7 @@ ghost use Rattle.rhd_hash.specs.Refusal.{IsRefusal};
 ghost use Rattle.rhd_hash.specs.declared.fault.TableFault.{TableFault};
 ghost use Rattle.rhd_decl.specs.Collisions.{collision};
 ghost use Rattle.rhd_module.specs.Tree.{empty_module};
-ghost use Rattle.rhd_module.specs.Below.{dynamic_hash, has_slot};
+ghost use Rattle.rhd_module.specs.Below.{has_slot};
 ghost use Rattle.rhd_module.specs.Shown.{own_decl};
 ghost use Rattle.rhd_module.specs.Registered.{put, with_decl, Puts};
 ghost use Rattle.rhd_module.specs.Contents.{commented, comment_on, with_comments};
@@ -158,18 +158,7 @@ fn put_pair(
     }
 }
 
-/// The hash of a key's name and number of parameters, where it has a parameter of any type.
-fn dynamic_hash(key: &Key, seeds: Seeds) -> Option<u64>
-    ensures { result ≡ dynamic_hash seeds key.now }
-{
-    if key.has_dynamic() {
-        Some(key.untyped(seeds))
-    } else {
-        None
-    }
-}
-
-/// Marks such a hash.
+/// Marks the hash of a key's name and number of parameters, if there is one.
 fn mark_dynamic(filter: &mut BloomFilterU64<8>, hash: Option<u64>)
     ensures { (v : _) → is_marked 8 filter.new v ≡ (is_marked 8 filter.old v || has_slot hash v) }
 {
@@ -222,7 +211,7 @@ impl Module {
         ensures { Puts None key declaration self.old result self.new }
     {
         let place = self.eager.len();
-        let dynamic = dynamic_hash(&key, self.eager.seeds());
+        let dynamic = key.dynamic_hash(self.eager.seeds());
         self.scripts |= key.is_script();
         match put_pair(&mut self.eager, key, declaration) {
             Err(fault) => return Err(fault),

@@ -2,20 +2,20 @@
 
 ghost use Rattle.std.specs.Prelude.{◌≡◌, ◌++◌, ◌∷◌, [], IfOk, Some, None, length, not, true, false, map, codes};
 ghost use Rattle.std.specs.List.{list_any};
-ghost use Rattle.rhd_value.specs.Kinds.{map_type};
 ghost use Rattle.rhd_value.specs.Same.{tag_eq};
 ghost use Rattle.rhd_value.specs.declared.tag.TypeTag.TheVariants as tags;
 ghost use Rattle.rhd_hash.specs.Parts.{mixed};
 ghost use Rattle.rhd_func.specs.Infos.{infos_of};
 ghost use Rattle.rhd_func.specs.declared.func.RhaiFunc.TheVariants.{Pure, Method};
 ghost use Rattle.rhd_func.specs.declared.access.FnNamespace.TheVariants.{Internal as internal, Global as global};
-ghost use Rattle.rhd_module.specs.Registered.{mapped_types, native_key, native_decl, registered_func, registered_decl, pure_by_name, is_banned, params_of, return_of, script_key, script_namespace, script_decl};
+ghost use Rattle.rhd_decl.specs.NativeKeys.{native_key};
+ghost use Rattle.rhd_module.specs.Registered.{native_decl, registered_func, registered_decl, pure_by_name, is_banned, params_of, return_of, script_key, script_namespace, script_decl};
 ghost use Rattle.rhd_module.specs.Registered.{new_registration, global_registration, setter_registration, getter_name, setter_name};
 
-use rhd_decl::{Declaration, FuncMetadata};
+use rhd_decl::{Declaration, FuncMetadata, native_key};
 use rhd_func::{EnvId, FnAccess, FnNamespace, PluginFunc, RhaiFunc, ScriptFuncDef, SharedDef};
 use rhd_hash::{Key, Seeds};
-use rhd_value::{FnId, OutOfMemory, Text, Texts, TypeTag, Types, map_type};
+use rhd_value::{FnId, OutOfMemory, Text, Texts, TypeTag, Types};
 use std::alloc::Global;
 
 /// How a native is to be registered: under which name, and what is said of it.
@@ -180,34 +180,33 @@ impl FuncRegistration {
         native_func(native, id, pure, volatile)
     }
 
-    /// What is said of a native of these types under this registration.
-    pub(crate) fn into_declaration(
+    /// The key of a native of these types under this registration, and what is said of it.
+    pub(crate) fn into_pair(
         self,
         alloc: Global,
         seeds: Seeds,
         is_method: bool,
         types: &[TypeTag],
         func: RhaiFunc,
-    ) -> Result<Declaration, OutOfMemory>
-        ensures { IfOk result (λ d. d ≡ native_decl seeds self is_method types.now func) }
+    ) -> Result<(Key, Declaration), OutOfMemory>
+        ensures key { IfOk result (λ p. p.0 ≡ native_key is_method self.name types.now) }
+        ensures declaration { IfOk result (λ p. p.1 ≡ native_decl seeds self is_method types.now func) }
     {
         let key = native_key(alloc, &self.name, is_method, types)?;
         let mut params_info = self.params_info;
         let return_type = take_return_type(alloc, &mut params_info, types.len());
-        Ok(Declaration {
-            func,
-            metadata: FuncMetadata {
-                hash: key.mixed(seeds),
-                namespace: self.namespace,
-                access: FnAccess::Public,
-                name: self.name,
-                num_params: types.len() as u64,
-                param_types: mapped_types(alloc, types, is_method)?,
-                params_info,
-                return_type,
-                comments: self.comments,
-            },
-        })
+        let metadata = FuncMetadata {
+            hash: key.mixed(seeds),
+            namespace: self.namespace,
+            access: FnAccess::Public,
+            name: self.name,
+            num_params: types.len() as u64,
+            param_types: Types::from_slice(alloc, key.types())?,
+            params_info,
+            return_type,
+            comments: self.comments,
+        };
+        Ok((key, Declaration { func, metadata }))
     }
 }
 
@@ -248,21 +247,6 @@ fn take_return_type(alloc: Global, params_info: &mut Texts, params: usize) -> Te
     }
 }
 
-/// The types of a native as keys have them.
-fn mapped_types(alloc: Global, types: &[TypeTag], is_method: bool) -> Result<Types, OutOfMemory>
-    ensures { IfOk result (λ mapped. mapped ≡ mapped_types is_method types.now) }
-{
-    let mut mapped = Types::new(alloc);
-    let [first, others @ ..] = types else {
-        return Ok(mapped);
-    };
-    mapped.push(map_type(!is_method, *first))?;
-    for tag in others {
-        mapped.push(map_type(true, *tag))?;
-    }
-    Ok(mapped)
-}
-
 /// Whether a native of this name and number of parameters is pure where nothing else is said.
 pub fn is_pure_by_name(name: &Text, params: usize) -> bool
     ensures { result ≡ pure_by_name name.now params }
@@ -299,22 +283,6 @@ pub(crate) fn is_banned(name: &Text, types: &[TypeTag]) -> bool
                 && is_indexed_type(*first)
         }
     }
-}
-
-/// The key of a native of these types under a name. The first type of a method stays.
-pub fn native_key(
-    alloc: Global,
-    name: &Text,
-    is_method: bool,
-    types: &[TypeTag],
-) -> Result<Key, OutOfMemory>
-    ensures { IfOk result (λ key. key ≡ native_key is_method name.now types.now) }
-{
-    Ok(Key::Native {
-        path: None,
-        name: name.dup(alloc)?,
-        types: mapped_types(alloc, types, is_method)?,
-    })
 }
 
 /// The key of a script: by its number of parameters, and by the type of its object if it has one.

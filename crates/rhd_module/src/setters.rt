@@ -8,15 +8,14 @@ ghost use Rattle.rhd_hash.specs.Parts.{mixed};
 ghost use Rattle.rhd_func.specs.Infos.{infos_of};
 ghost use Rattle.rhd_value.specs.Firsts.{first_some, where_holds};
 ghost use Rattle.rhd_func.specs.Funcs.{is_method, is_iter, is_script, native_of};
+ghost use Rattle.rhd_decl.specs.NativeKeys.{native_key};
 ghost use Rattle.rhd_decl.specs.declared.fault.DeclFault.TheVariants.{NotCallable, UnknownNumber};
-ghost use Rattle.rhd_module.specs.Registered.{Puts, Registers, RegistersRaw, RegistersBoth, Refuses, unheld, banned, pair_cause, native_at, native_key, native_decl, registered_decl, registered_hash, raw_cause};
+ghost use Rattle.rhd_module.specs.Registered.{Puts, Registers, RegistersRaw, RegistersBoth, Refuses, unheld, banned, pair_cause, native_at, native_decl, registered_decl, registered_hash, raw_cause};
 ghost use Rattle.rhd_module.specs.Registered.{script_key, script_decl, new_registration, global_registration, setter_registration, pure_registration, getter_name, setter_name};
 
 use crate::module::Module;
-use crate::registration::{
-    FuncRegistration, is_banned, native_key, script_declaration, script_key,
-};
-use rhd_decl::{DeclFault, FuncMetadata};
+use crate::registration::{FuncRegistration, is_banned, script_declaration, script_key};
+use rhd_decl::{DeclFault, FuncMetadata, native_key};
 use rhd_func::{EnvId, Natives, PluginFunc, RhaiFunc, SharedDef};
 use rhd_hash::Key;
 use rhd_value::{FnId, Text, Texts, TypeTag};
@@ -151,8 +150,7 @@ impl Module {
         ensures puts { Puts None (native_key is_method reg.name types.now) (native_decl self.old.own.seeds reg is_method types.now func) self.old result self.new }
         ensures metadata { IfOk result (λ metadata. metadata ≡ (native_decl self.old.own.seeds reg is_method types.now func).metadata) }
     {
-        let key = native_key(alloc, &reg.name, is_method, types)?;
-        let declaration = reg.into_declaration(alloc, self.seeds(), is_method, types, func)?;
+        let (key, declaration) = reg.into_pair(alloc, self.seeds(), is_method, types, func)?;
         let metadata = declaration.metadata.dup(alloc)?;
         self.put_fn(alloc, key, declaration)?;
         Ok(metadata)

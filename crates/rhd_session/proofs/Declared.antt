@@ -63,10 +63,6 @@ goes_refused {w2} {f2} w f command fault number held is d = subst (λ (x : DeclF
 pub told_refused : {w2 : World} {f2 : Frame} (w : World) (f : Frame) (command : Command) (fault : DeclFault) (number held : ℕ) → fault ≡ UnknownNumber number held → Declares w f command (Refused (UnknownNumber number held)) w2 f2 → Declares w f command (Refused fault) w2 f2
 told_refused {w2} {f2} w f command fault number held is d = subst (λ (x : DeclFault). Declares w f command (Refused x) w2 f2) (sym is) d
 
--- want of memory, as an answer
-pub goes_failed : {w2 : World} {f2 : Frame} (w : World) (f : Frame) (command : Command) (fault : DeclFault) → fault ≡ no_memory → w2 ≡ w → f2 ≡ f → Goes w f command (Err fault) w2 f2
-goes_failed {w2} {f2} w f command fault is ew ef = subst (λ (x : DeclFault). Goes w f command (Err x) w2 f2) (sym is) (ew, ef)
-
 -- Numbers that aren't held.
 
 -- an unknown number is the cause

@@ -27,7 +27,8 @@ use Rattle.rhd_module.specs.declared.registration.FuncRegistration.{FuncRegistra
 use Rattle.rhd_module.specs.Index.{Indexes}
 use Rattle.rhd_module.proofs.Fills.{none_clash}
 use Rattle.std.specs.Map.{keys_of}
-use Rattle.rhd_module.specs.Registered.{put, with_decl, unheld, banned, native_at, native_key, native_decl, registered_func, registered_decl, registration_cause, raw_cause, script_key, script_decl, Puts, Registers, RegistersRaw}
+use Rattle.rhd_decl.specs.NativeKeys.{native_key}
+use Rattle.rhd_module.specs.Registered.{put, with_decl, unheld, banned, native_at, native_decl, registered_func, registered_decl, registration_cause, raw_cause, script_key, script_decl, Puts, Registers, RegistersRaw}
 use Rattle.rhd_engine.specs.Engine.{Frame}
 use Rattle.rhd_engine.specs.Held.{names_held}
 use Rattle.rhd_call.specs.declared.command.Command.{Command}

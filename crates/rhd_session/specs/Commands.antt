@@ -23,7 +23,8 @@ use Rattle.rhd_module.specs.Shown.{own_decl}
 use Rattle.rhd_module.specs.Walk.{tree}
 use Rattle.rhd_module.specs.Index.{indexed}
 use Rattle.rhd_module.specs.Contents.{with_id, with_doc, with_var, with_type, with_sub, cleared, counts}
-use Rattle.rhd_module.specs.Registered.{with_decl, native_at, native_key, native_decl, registered_decl, new_registration, script_key, script_decl, banned}
+use Rattle.rhd_decl.specs.NativeKeys.{native_key}
+use Rattle.rhd_module.specs.Registered.{with_decl, native_at, native_decl, registered_decl, new_registration, script_key, script_decl, banned}
 use Rattle.rhd_engine.specs.Registered.{in_first, fn_registration, raw_func}
 use Rattle.rhd_engine.specs.Engine.{Frame, Imports}
 use Rattle.rhd_engine.specs.Lists.{second}

@@ -13,7 +13,7 @@ pub returns-in_ok-dup-in-Some-clause-held : goal.returns-in_ok-dup-in-Some-claus
 returns-in_ok-dup-in-Some-clause-held g c =
     let s = c.args.self.now in
     let key = c.args.key.now in
-    let e : c.mixed.result ≡ mixed s.seeds key = c.mixed.ensures ∙ ap (λ t. mixed t.seeds key) c.self.view_is in
+    let e : c.args.hash ≡ mixed s.seeds key = c.requires in
     let found = ap (λ h. first_hashed (mixed s.seeds) h s.pairs) (sym e) ∙ sym c.in-Some.ensures.pair in
     let P : Key → Type 0 = λ q. Contains (keys_of s.pairs) q × Clashes s.seeds q key in
     subst P (sym c.in_ok-dup-in-Some.ensures) (
@@ -28,7 +28,7 @@ pub returns-in_ok-dup-in-Some-clause-absent : goal.returns-in_ok-dup-in-Some-cla
 unfolding HasOwnHashes
 returns-in_ok-dup-in-Some-clause-absent g c =
     let s = c.args.self.now in
-    let e : c.mixed.result ≡ mixed s.seeds c.args.key.now = c.mixed.ensures ∙ ap (λ t. mixed t.seeds c.args.key.now) c.self.view_is in
+    let e : c.args.hash ≡ mixed s.seeds c.args.key.now = c.requires in
     let found = ap (λ h. first_hashed (mixed s.seeds) h s.pairs) (sym e) ∙ sym c.in-Some.ensures.pair in
     lookup-clash (mixed s.seeds) key_eq key_eq-Decides c.args.key.now _ _ s.pairs c.in-Some.ensures.apart found (sym c.eq.ensures ∙ c.if-eq.false)
 
@@ -36,6 +36,6 @@ pub returns-in_err-dup-in-Some-clause-err : goal.returns-in_err-dup-in-Some-clau
 unfolding HasOwnHashes
 returns-in_err-dup-in-Some-clause-err g c =
     let s = c.args.self.now in
-    let e : c.mixed.result ≡ mixed s.seeds c.args.key.now = c.mixed.ensures ∙ ap (λ t. mixed t.seeds c.args.key.now) c.self.view_is in
+    let e : c.args.hash ≡ mixed s.seeds c.args.key.now = c.requires in
     let found = ap (λ h. first_hashed (mixed s.seeds) h s.pairs) (sym e) ∙ sym c.in-Some.ensures.pair in
     on_err _ (lookup-clash (mixed s.seeds) key_eq key_eq-Decides c.args.key.now _ _ s.pairs c.in-Some.ensures.apart found (sym c.eq.ensures ∙ c.if-eq.false))

@@ -12,13 +12,17 @@ use Rattle.rhd_hash.proofs.Tables.{lookup-hashed, lookup-none, lookup-free, inse
 use Rattle.rhd_hash.proofs.table.KeyTable.put.Goals as goal
 use Rattle.rhd_hash.proofs.table.KeyTable.put.Goals.{After-value_of}
 
+-- the hash at hand is that of the key
+hashed_by : (g : _) (c : After-value_of g) → c.args.hash ≡ mixed c.self.inside.seeds c.args.key
+hashed_by g c = c.requires.hash ∙ ap (λ t. mixed t.seeds c.args.key) (sym c.self.view_is)
+
 -- what the slots are after the insert
 slots_after : (g : _) (c : After-value_of g) → c.insert.new.self.entries ≡ hashed (mixed c.self.inside.seeds) (put_in key_eq c.args.key c.args.value (map (λ e. e.1) c.self.inside.slots.entries))
 slots_after g c =
     let hash = mixed c.self.inside.seeds in
     let P : Table g.row.V.Denot → Type 0 = λ t. IsFree t c.args.key in
-    let free = subst P (sym c.self.view_is) c.requires in
-    c.in-Ok.ensures.entries ∙ (λ i. insert_entry nat_eq (c.self.invariant.behind i) (c.mixed-hash.ensures i) (c.args.key, c.args.value))
+    let free = subst P (sym c.self.view_is) c.requires.free in
+    c.in-Ok.ensures.entries ∙ (λ i. insert_entry nat_eq (c.self.invariant.behind i) (hashed_by g c i) (c.args.key, c.args.value))
     ∙ insert-hashed hash key_eq key_eq-Decides c.args.key c.args.value _ free
 
 pub invariant_of-self : goal.invariant_of-self
@@ -32,9 +36,9 @@ pub returns-in-Ok-clause-old : goal.returns-in-Ok-clause-old
 returns-in-Ok-clause-old g c =
     let hash = mixed c.self.inside.seeds in
     let P : Table g.row.V.Denot → Type 0 = λ t. IsFree t c.args.key in
-    let free = subst P (sym c.self.view_is) c.requires in
+    let free = subst P (sym c.self.view_is) c.requires.free in
     c.value_of.ensures
-    ∙ ap (option_map (λ p. p.1)) (c.in-Ok.ensures.old ∙ (λ i. lookup (nat_eq (c.mixed-hash.ensures i)) (c.self.invariant.behind i)) ∙ lookup-hashed hash (hash c.args.key) _)
+    ∙ ap (option_map (λ p. p.1)) (c.in-Ok.ensures.old ∙ (λ i. lookup (nat_eq (hashed_by g c i)) (c.self.invariant.behind i)) ∙ lookup-hashed hash (hash c.args.key) _)
     ∙ lookup-free hash key_eq key_eq-Decides c.args.key _ free ∙ ap (λ t. lookup (key_eq c.args.key) t.pairs) c.self.view_is
 
 pub returns-in-Ok-clause-pairs : goal.returns-in-Ok-clause-pairs
@@ -47,8 +51,9 @@ returns-in-Ok-clause-pairs g c =
 pub returns-clause-absent : goal.returns-clause-absent
 returns-clause-absent g c =
     let hash = mixed c.self.inside.seeds in
+    let by : c.args.hash ≡ hash c.args.key = c.requires.hash ∙ ap (λ t. mixed t.seeds c.args.key) (sym c.self.view_is) in
     let ps = map (λ e. e.1) c.self.inside.slots.entries in
-    let unfound = sym (lookup-hashed hash (hash c.args.key) ps) ∙ sym (λ i. lookup (nat_eq (c.mixed-hash.ensures i)) (c.self.invariant.behind i)) ∙ c.in-Err.ensures.absent in
+    let unfound = sym (lookup-hashed hash (hash c.args.key) ps) ∙ sym (λ i. lookup (nat_eq (by i)) (c.self.invariant.behind i)) ∙ c.in-Err.ensures.absent in
     ap (λ t. lookup (key_eq c.args.key) t.pairs) (sym c.self.view_is) ∙ lookup-none hash key_eq key_eq-Decides c.args.key ps unfound
 
 pub returns-in-Ok-clause-apart : goal.returns-in-Ok-clause-apart

@@ -5,7 +5,7 @@ use Rattle.rhd_hash.specs.Keys.{key_eq}
 use Rattle.rhd_hash.specs.Table.{Table}
 use Rattle.rhd_hash.specs.declared.mixer.Seeds.{Seeds}
 use Rattle.rhd_decl.specs.Flags.{Flagged}
-use Rattle.rhd_module.specs.Below.{dynamic_hash}
+use Rattle.rhd_hash.specs.Parts.{dynamic_hash}
 use Rattle.rhd_module.specs.Index.{IsFilter, IsKept}
 use Rattle.rhd_module.proofs.Kept.{filter_there, filter_last}
 use Rattle.rhd_decl.specs.declared.declaration.Declaration.{Declaration}
