@@ -5,3 +5,4 @@ mod Tables
 mod Fitting
 mod Changes
 mod Held
+pub mod Firsts

@@ -1,8 +1,10 @@
 -- The places under the hashes of keys, after one more entry.
-use Rattle.std.proofs.Common.{◌≡◌, ℕ, zero, suc, ◌+◌, ◌<◌, ◌||◌, Bool, true, false, cond, List, [], ◌∷◌, ◌++◌, reverse, length, Option, None, Some, is_none, take, refl, sym, ap, ◌∙◌, arith, slice_get, nat_eq, true≢false, eqb-true, eq-eqb}
+use Rattle.std.proofs.Common.{◌≡◌, ℕ, zero, suc, ◌+◌, ◌<◌, ◌≤◌, ◌||◌, drop, Bool, true, false, cond, List, [], ◌∷◌, ◌++◌, reverse, length, Option, None, Some, is_none, is_some, take, refl, sym, ap, ◌∙◌, arith, slice_get, nat_eq, nat_lt, true≢false, eqb-true, eq-eqb}
 use Rattle.std.proofs.lemmas.List.{reverse-append, length-append}
 use Rattle.std.proofs.Math.Seq.{take-append_seam}
-use Rattle.std.proofs.lemmas.Bool.{cond-true, cond-false}
+use Rattle.std.proofs.lemmas.Bool.{cond-true, cond-false, ltb-true}
+use Rattle.std.proofs.lemmas.List.Folds.{list_any-append}
+use Rattle.std.specs.List.{list_any}
 use Rattle.std.specs.Option.{option_and_then, option_to_list, IsSome}
 use Rattle.rhd_hash.specs.declared.key.Key.{Key}
 use Rattle.rhd_hash.specs.declared.key.Key.TheVariants.{Script, Typed, Native}
@@ -10,6 +12,7 @@ use Rattle.rhd_hash.specs.Keys.{key_eq, key_eq-Decides, is_script_key}
 use Rattle.rhd_value.specs.Firsts.{where_holds}
 use Rattle.rhd_manifest.specs.Entry.{Entry, entry_key}
 use Rattle.rhd_manifest.specs.Rank.{find_entry}
+use Rattle.rhd_manifest.proofs.Firsts.{under, any_found, any_reverse, any_drop, any_further, any_at, any_less}
 use Rattle.rhd_manifest.specs.Index.{IsIndex, index_hash, entry_at, has_other}
 
 slice_before : {A : Type 0} (xs : List A) (x : A) (i : ℕ) → i < length xs → slice_get (xs ++ x ∷ []) i ≡ slice_get xs i
@@ -20,6 +23,15 @@ slice_before (y ∷ xs) x (suc i) h = slice_before xs x i (omega (arith, h))
 slice_new : {A : Type 0} (xs : List A) (x : A) → slice_get (xs ++ x ∷ []) (length xs) ≡ Some x
 slice_new [] x = refl
 slice_new (y ∷ xs) x = slice_new xs x
+
+drop_past : {A : Type 0} (xs : List A) (x : A) → drop (suc (length xs)) (xs ++ x ∷ []) ≡ []
+drop_past [] x = refl
+drop_past (y ∷ xs) x = drop_past xs x
+
+drop_before : {A : Type 0} (xs : List A) (x : A) (n : ℕ) → n ≤ length xs → drop n (xs ++ x ∷ []) ≡ drop n xs ++ x ∷ []
+drop_before xs x zero h = refl
+drop_before [] x (suc n) h = absurd (omega (arith, h))
+drop_before (y ∷ xs) x (suc n) h = drop_before xs x n (omega (arith, h))
 
 find_more : (key : Key) (es : List Entry) (e : Entry) → find_entry key (reverse (es ++ e ∷ [])) ≡ cond (key_eq key (entry_key e)) (Some e) (find_entry key (reverse es))
 find_more key es e = ap (find_entry key) (reverse-append es (e ∷ []))
@@ -64,6 +76,18 @@ module _ (places : ℕ → Option ℕ) (clashes : Bool) (es : List Entry) (index
         by true h = let s : length es ≡ place = cc in omega (arith, s, more)
         by false h = omega (arith, index.within hash place h, more)
 
+    last : (hash place : ℕ) → news hash ≡ Some place → list_any (λ d. nat_eq (index_hash (entry_key d)) hash) (drop (suc place) (es ++ e ∷ [])) ≡ false
+    last hash place at = by (nat_eq (index_hash (entry_key e)) hash) refl (sym (puts hash) ∙ at)
+      where
+        t : Entry → Bool
+        t d = nat_eq (index_hash (entry_key d)) hash
+
+        by : (b : Bool) → nat_eq (index_hash (entry_key e)) hash ≡ b → cond b (Some (length es)) (places hash) ≡ Some place → list_any t (drop (suc place) (es ++ e ∷ [])) ≡ false
+        by true eb h = let s : length es ≡ place = cc in ap (list_any t) (ap (λ n. drop (suc n) (es ++ e ∷ [])) (sym s) ∙ drop_past es e)
+        by false eb h =
+            ap (list_any t) (drop_before es e (suc place) (omega (arith, index.within hash place h))) ∙ list_any-append t (drop (suc place) es) (e ∷ [])
+            ∙ (λ i. index.last hash place h i || (eb i || false))
+
     neither : (a b : Bool) → (a || b) ≡ false → (a ≡ false) × (b ≡ false)
     neither true b h = absurd (true≢false h)
     neither false b h = (refl, h)
@@ -97,7 +121,45 @@ module _ (places : ℕ → Option ℕ) (clashes : Bool) (es : List Entry) (index
 
     -- the places with the new one are the index of the entries with the new one
     pub index_push : IsIndex news after (es ++ e ∷ [])
-    index_push = record { within = within; finds = finds }
+    index_push = record { within = within; last = last; finds = finds }
+
+pub not_less : (m n : ℕ) → n ≤ m → nat_lt m n ≡ false
+not_less m n h = by (nat_lt m n) refl
+  where
+    by : (b : Bool) → nat_lt m n ≡ b → b ≡ false
+    by true e = absurd (omega (arith, h, ltb-true m n e))
+    by false e = refl
+
+-- Whether a key has an entry behind a place, by the place of the last one under its hash.
+module _ (places : ℕ → Option ℕ) (clashes : Bool) (es : List Entry) (index : IsIndex places clashes es) (none : clashes ≡ false) (key : Key) (hash place : ℕ) (is_hash : hash ≡ index_hash key) where
+  none_of : entry_at key es (places (index_hash key)) ≡ None → list_any (under key) es ≡ false
+  none_of e = sym (any_reverse (under key) es) ∙ sym (any_found (under key) (reverse es)) ∙ ap is_some (index.finds none key ∙ e)
+
+  at_it : places (index_hash key) ≡ places hash
+  at_it = ap places (sym is_hash)
+
+  pub behind_nothing : places hash ≡ None → list_any (under key) (drop (suc place) es) ≡ false
+  behind_nothing e = any_drop (under key) (suc place) es (none_of (ap (entry_at key es) (at_it ∙ e)))
+
+  pub behind_last : (last : ℕ) → places hash ≡ Some last → last ≤ place → list_any (under key) (drop (suc place) es) ≡ false
+  behind_last last e l =
+      any_further (under key) (suc last) (suc place) es (omega (arith, l))
+      (any_less (under key) (λ d. nat_eq (index_hash (entry_key d)) hash) (λ d h. eq-eqb (index_hash (entry_key d)) hash (ap index_hash (sym ((key_eq-Decides key (entry_key d)).0 h)) ∙ sym is_hash))
+      (drop (suc last) es) (index.last hash last e))
+
+  pub before_last : (last : ℕ) → places hash ≡ Some last → place < last → is_some (entry_at key es (Some last)) ≡ list_any (under key) (drop (suc place) es)
+  before_last last e l = by_entry (slice_get es last) refl
+    where
+      at_last : (o : Option Entry) → slice_get es last ≡ o → entry_at key es (places (index_hash key)) ≡ option_and_then (λ d. where_holds (key_eq key (entry_key d)) d) o
+      at_last o s = ap (entry_at key es) (at_it ∙ e) ∙ ap (λ k. option_and_then (λ d. where_holds (key_eq key (entry_key d)) d) k) s
+
+      by_key : (d : Entry) → slice_get es last ≡ Some d → (b : Bool) → key_eq key (entry_key d) ≡ b → is_some (where_holds b d) ≡ list_any (under key) (drop (suc place) es)
+      by_key d s true h = sym (any_at (under key) (suc place) last d es s h (omega (arith, l)))
+      by_key d s false h = sym (any_drop (under key) (suc place) es (none_of (at_last (Some d) s ∙ ap (λ b. where_holds b d) h)))
+
+      by_entry : (o : Option Entry) → slice_get es last ≡ o → is_some (option_and_then (λ d. where_holds (key_eq key (entry_key d)) d) o) ≡ list_any (under key) (drop (suc place) es)
+      by_entry None s = sym (any_drop (under key) (suc place) es (none_of (at_last None s)))
+      by_entry (Some d) s = by_key d s (key_eq key (entry_key d)) refl
 
 -- the key of a script finds no entry
 pub no_script : (key : Key) (es : List Entry) → is_script_key key ≡ true → find_entry key es ≡ None

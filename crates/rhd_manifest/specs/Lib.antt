@@ -4,3 +4,4 @@ pub mod Rank
 pub mod Index
 pub mod Meets
 pub mod Fits
+pub mod Listing

@@ -1,6 +1,6 @@
 -- Which entries a manifest lists, from the highest precedence to the lowest.
-use Rattle.std.specs.Prelude.{ℕ, zero, suc, Bool, true, List, [], ◌∷◌, ◌++◌, reverse, if◌then◌else◌, Option}
-use Rattle.std.specs.List.{flat_map, find}
+use Rattle.std.specs.Prelude.{ℕ, zero, suc, Bool, true, not, List, [], ◌∷◌, ◌++◌, reverse, if◌then◌else◌, Option}
+use Rattle.std.specs.List.{flat_map, find, filter}
 use Rattle.rhd_hash.specs.declared.key.Key.{Key}
 use Rattle.rhd_hash.specs.Keys.{key_eq}
 use Rattle.rhd_func.specs.declared.access.ManifestId.{ManifestId}
@@ -27,10 +27,11 @@ rank_of table m flat = rank_by (flattened table) m flat
 abbrev pub rank : List ManifestLists → ManifestId → Bool → List Entry
 rank table id flat = rank_of table (manifest_at table id) flat
 
--- the entries of manifests, each with whether it is flattened: a later one goes before an earlier one
-abbrev pub listed : List ManifestLists → List (ManifestId × Bool) → List Entry
-listed table manifests = flat_map (λ m. rank table m.0 m.1) (reverse manifests)
-
 -- the first of some entries under a key
 abbrev pub find_entry : Key → List Entry → Option Entry
 find_entry key es = find (λ e. key_eq key (entry_key e)) es
+
+-- the first under each key: one whose key stands before it is hidden
+abbrev pub firsts : List Entry → List Entry
+firsts [] = []
+firsts (e ∷ es) = e ∷ filter (λ d. not (key_eq (entry_key d) (entry_key e))) (firsts es)

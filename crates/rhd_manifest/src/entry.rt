@@ -4,6 +4,7 @@ ghost use Rattle.std.specs.Prelude.{◌≡◌, IfOk, length};
 ghost use Rattle.std.specs.Fn.{FnOnceReturnsAt};
 ghost use Rattle.rhd_value.specs.Same.{types_eq};
 ghost use Rattle.rhd_hash.specs.Parts.{mixed, path_of, dynamic_hash};
+ghost use Rattle.rhd_func.specs.declared.func.RhaiFunc.TheVariants.{StaticPlugin};
 ghost use Rattle.rhd_manifest.specs.Entry.{entry_key, entry_key_at, entry_decl};
 
 use rhd_decl::{Declaration, FuncMetadata, mapped_types};
@@ -21,6 +22,8 @@ pub struct FnManifestEntry {
     key: Key,
     namespace: FnNamespace,
     func: FnId,
+    /// The function that it is where it is called.
+    plugin: RhaiFunc,
     param_types: Types,
     is_method: bool,
 }
@@ -28,6 +31,7 @@ pub struct FnManifestEntry {
 impl Model for FnManifestEntry {
     ghost use Rattle.std.specs.Prelude.{◌≡◌};
     ghost use Rattle.rhd_hash.specs.Keys.{key_name};
+    ghost use Rattle.rhd_func.specs.declared.func.RhaiFunc.TheVariants.{StaticPlugin};
     ghost use Rattle.rhd_decl.specs.NativeKeys.{native_key};
     ghost use Rattle.rhd_manifest.specs.Entry.{Entry, coded_entry};
 
@@ -43,7 +47,7 @@ impl Model for FnManifestEntry {
       is_method = e.is_method;
     } };
 
-    ghost invariant = { λ e. e.key ≡ native_key e.is_method (key_name e.key) e.param_types };
+    ghost invariant = { λ e. (e.key ≡ native_key e.is_method (key_name e.key) e.param_types) × (e.plugin ≡ StaticPlugin e.func) };
 }
 
 impl FnManifestEntry {
@@ -68,6 +72,7 @@ impl FnManifestEntry {
             },
             namespace,
             func,
+            plugin: RhaiFunc::StaticPlugin { func },
             param_types,
             is_method,
         })
@@ -81,6 +86,7 @@ impl FnManifestEntry {
             key: self.key.dup(alloc)?,
             namespace: self.namespace,
             func: self.func,
+            plugin: RhaiFunc::StaticPlugin { func: self.func },
             param_types: self.param_types.dup(alloc)?,
             is_method: self.is_method,
         })
@@ -105,6 +111,13 @@ impl FnManifestEntry {
         ensures { result ≡ self.now.func }
     {
         self.func
+    }
+
+    /// The function that it is where it is called: a native that is listed.
+    pub fn plugin(&self) -> &RhaiFunc
+        ensures { result.now ≡ StaticPlugin self.now.func }
+    {
+        &self.plugin
     }
 
     /// Whether its native takes its first argument by reference.

@@ -2,11 +2,14 @@
 #![tactic(auto)]
 
 mod entry;
-mod listed;
+mod entry_list;
+mod listing;
 mod manifest;
 mod manifests;
 mod walk;
 
 pub use entry::FnManifestEntry;
+pub use entry_list::EntryList;
+pub use listing::Listing;
 pub use manifest::ModuleManifest;
 pub use manifests::Manifests;

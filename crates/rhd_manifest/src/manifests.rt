@@ -113,7 +113,7 @@ impl Manifests {
         ensures fits { FitsAlike self.old self.new }
     {
         let id = ManifestId(self.items.len() as u32);
-        self.items.push(ModuleManifest::new(alloc))?;
+        self.items.push(ModuleManifest::new(alloc)?)?;
         Ok(id)
     }
 

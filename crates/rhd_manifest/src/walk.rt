@@ -8,7 +8,8 @@ ghost use Rattle.rhd_manifest.specs.Meets.{IsFirstThatMeets};
 ghost use Rattle.rhd_manifest.specs.Rank.{flattened, rank_of};
 
 use crate::entry::FnManifestEntry;
-use crate::manifest::{ModuleManifest, find_last_that, for_each};
+use crate::entry_list::{find_last_that, for_each};
+use crate::manifest::ModuleManifest;
 use crate::manifests::Manifests;
 use rhd_func::ManifestId;
 

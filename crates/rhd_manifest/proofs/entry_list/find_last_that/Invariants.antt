@@ -2,7 +2,7 @@ use Rattle.std.proofs.Common.{reverse, Option}
 use Rattle.std.specs.Fn.{FnReturnsAt}
 use Rattle.rhd_manifest.specs.Entry.{Entry}
 use Rattle.rhd_manifest.specs.Meets.{IsFirstThatMeets}
-use Rattle.rhd_manifest.proofs.manifest.find_last_that.Given as goal
+use Rattle.rhd_manifest.proofs.entry_list.find_last_that.Given as goal
 
 abbrev pub invariant-loop-entry : goal.invariant-loop-entry
 invariant-loop-entry g l =

@@ -3,7 +3,7 @@ use Rattle.std.proofs.lemmas.List.{drop_more}
 use Rattle.std.specs.Fn.{CalledAt}
 use Rattle.std.specs.List.{FoldsTo}
 use Rattle.rhd_manifest.specs.Entry.{Entry}
-use Rattle.rhd_manifest.proofs.manifest.for_each.Goals as goal
+use Rattle.rhd_manifest.proofs.entry_list.for_each.Goals as goal
 
 pub loop-entry-preserved : goal.loop-entry-preserved
 loop-entry-preserved g c = (

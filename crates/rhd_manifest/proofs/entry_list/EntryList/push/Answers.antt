@@ -4,7 +4,7 @@ use Rattle.std.specs.Map.{lookup}
 use Rattle.rhd_manifest.specs.Entry.{Entry, entry_key}
 use Rattle.rhd_manifest.specs.Index.{IsIndex, index_hash, has_other}
 use Rattle.rhd_manifest.proofs.Places.{index_push, popped}
-use Rattle.rhd_manifest.proofs.manifest.ModuleManifest.push_entry.Goals as goal
+use Rattle.rhd_manifest.proofs.entry_list.EntryList.push.Goals as goal
 
 pub invariant_of-self-in-Ok : goal.invariant_of-self-in-Ok
 invariant_of-self-in-Ok c =
