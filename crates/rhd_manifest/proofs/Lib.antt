@@ -1,5 +1,5 @@
 mod Ranks
-mod Places
+pub mod Places
 mod Folds
 mod Tables
 mod Fitting

@@ -60,6 +60,9 @@ entry_decl seeds e = record {
   };
 }
 
+abbrev pub entry_pair : Seeds → Entry → Key × Declaration
+entry_pair seeds e = (entry_key e, entry_decl seeds e)
+
 -- how the logic stores an entry
 abbrev pub coded_entry : Coded Entry
 coded_entry =

@@ -1,6 +1,6 @@
 //! The functions that manifests list, in their order.
 
-ghost use Rattle.std.specs.Prelude.{◌≡◌, ◌<◌, ◌+◌, ◌++◌, [], map, length, drop, reverse, IfOk, OnOk, OnErr};
+ghost use Rattle.std.specs.Prelude.{◌≡◌, ◌<◌, ◌+◌, ◌++◌, [], true, map, length, drop, reverse, IfOk, OnOk, OnErr};
 ghost use Rattle.std.specs.List.{list_any};
 ghost use Rattle.std.specs.Option.{option_copied};
 ghost use Rattle.rhd_hash.specs.Keys.{key_eq};
@@ -148,6 +148,13 @@ impl Listing {
         let mut parts = others.parts;
         self.parts.append(&mut parts)?;
         Ok(())
+    }
+
+    /// Whether it consists of no lists.
+    pub fn is_empty(&self) -> bool
+        ensures { result ≡ true → self.now ≡ [] }
+    {
+        self.parts.is_empty()
     }
 
     /// The lists of which it consists, from the lowest precedence to the highest.

@@ -13,6 +13,7 @@ use Rattle.rhd_hash.specs.Filter.{slot}
 use Rattle.rhd_func.specs.Access.{is_private, is_global_namespace}
 use Rattle.rhd_decl.specs.declared.declaration.Declaration.{Declaration}
 use Rattle.rhd_module.specs.Tree.{ModuleTree, Subs, no_subs, sub, Pairs}
+use Rattle.rhd_module.specs.Shown.{shown}
 use Rattle.rhd_module.specs.Walk.{unpathed, pathed, pairs_at, below, tree}
 use Rattle.rhd_module.specs.Below.{some_below, some_in, may_be_dynamic, declares_dynamic, may_contain}
 
@@ -77,14 +78,14 @@ module _ (seeds : Seeds) (hash : ℕ) (key : Key) (dynamic : has_dynamic key ≡
       let here = left_false (declares_dynamic seeds hash own) (deeper || others) none in
       let rest = right_false (declares_dynamic seeds hash own) (deeper || others) none in
       let path' = path ++ name ∷ [] in
-      append_none (key_eq key) (below path later) (pairs_at path' own.eager ++ below path' inner) (below_none path later (right_false deeper others rest))
-      (append_none (key_eq key) (pairs_at path' own.eager) (below path' inner) (pairs_none path' own.eager here) (below_none path' inner (left_false deeper others rest)))
+      append_none (key_eq key) (below path later) (pairs_at path' (shown own) ++ below path' inner) (below_none path later (right_false deeper others rest))
+      (append_none (key_eq key) (pairs_at path' (shown own)) (below path' inner) (pairs_none path' (shown own) here) (below_none path' inner (left_false deeper others rest)))
 
   tree_none : (m : ModuleTree) → some_in (declares_dynamic seeds hash) m ≡ false → lookup (key_eq key) (tree m) ≡ None
   tree_none m none =
       let here = left_false (declares_dynamic seeds hash m.own) (some_below (declares_dynamic seeds hash) m.subs) none in
       let rest = right_false (declares_dynamic seeds hash m.own) (some_below (declares_dynamic seeds hash) m.subs) none in
-      append_none (key_eq key) (pairs_at [] m.own.eager) (below [] m.subs) (pairs_none [] m.own.eager here) (below_none [] m.subs rest)
+      append_none (key_eq key) (pairs_at [] (shown m.own)) (below [] m.subs) (pairs_none [] (shown m.own) here) (below_none [] m.subs rest)
 
 pub absent_qualified : (m : ModuleTree) (key : Key) (hash : ℕ) → m.own.indexed ≡ true → may_contain m hash ≡ false → has_dynamic key ≡ true → untyped_key m.own.seeds key ≡ hash → lookup (key_eq key) (tree m) ≡ None
 absent_qualified m key hash indexed none dynamic is =

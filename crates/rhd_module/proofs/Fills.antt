@@ -1,5 +1,5 @@
 -- How an index is filled with one module after the other, and what it is then.
-use Rattle.std.proofs.Common.{◌≡◌, ℕ, Bool, true, false, ◌||◌, List, [], ◌∷◌, ◌++◌, length, Some, slice_get, Result, Ok, Err, refl, sym, ap, subst, ◌∙◌, append_assoc, append-nil, arith, inl, inr}
+use Rattle.std.proofs.Common.{◌≡◌, ℕ, Bool, true, false, ◌||◌, List, [], ◌∷◌, ◌++◌, map, length, is_none, Some, slice_get, Result, Ok, Err, refl, sym, ap, subst, ◌∙◌, append_assoc, append-nil, arith, inl, inr, Bor}
 use Rattle.std.specs.Map.{lookup, keys_of}
 use Rattle.std.specs.List.{IsDistinct, list_any}
 use Rattle.std.proofs.lemmas.List.Folds.{list_any-append}
@@ -7,7 +7,7 @@ use Rattle.std.specs.Result.{IsErr, IsErrAnd, IfErr, OnOk}
 use Rattle.std.specs.declared.rc.Rc.{Rc}
 use Rattle.std.proofs.lemmas.Bool.Decides.{eqb_tells, leb_tells}
 use Rattle.std.proofs.lemmas.Grind.{flat_map-append}
-use Rattle.std.proofs.lemmas.List.Elements.{Contains-append_right}
+use Rattle.std.proofs.lemmas.List.Elements.{Contains-append_right, filter-append}
 use Rattle.std.proofs.lemmas.Option.{slice_get_read}
 use Rattle.rhd_value.specs.Tree.{Bytes}
 use Rattle.rhd_hash.specs.declared.mixer.Seeds.{Seeds}
@@ -25,10 +25,14 @@ use Rattle.rhd_decl.specs.declared.declaration.Declaration.{Declaration}
 use Rattle.rhd_decl.specs.declared.fault.DeclFault.{DeclFault}
 use Rattle.rhd_decl.specs.declared.fault.DeclFault.TheVariants.{HashCollision, IndexerNotAllowed, NotCallable, UnknownNumber, OutOfMemory}
 use Rattle.rhd_module.specs.Tree.{ModuleTree, Lists, Pairs, subs_of}
-use Rattle.rhd_module.specs.Shown.{shown}
+use Rattle.rhd_func.specs.Access.{is_global_namespace}
+use Rattle.rhd_manifest.specs.Entry.{Entry, entry_key, entry_pair}
+use Rattle.rhd_manifest.specs.Rank.{firsts}
+use Rattle.rhd_module.specs.Shown.{without, shown}
 use Rattle.rhd_module.specs.Walk.{unpathed, pathed, pairs_at, below, walk, tree}
-use Rattle.rhd_module.specs.Below.{some_below, some_in, declares_global, declares_dynamic}
+use Rattle.rhd_module.specs.Below.{some_below, some_in, declares_global, may_be_dynamic, declares_dynamic, lists_dynamic}
 use Rattle.rhd_module.specs.Index.{Indexed, Fills, IsClash, IsIndexOf, NoneClash, Indexes, filled}
+use Rattle.rhd_module.proofs.Listed.{any_firsts, any_shown, any_lent, pairs_lent, without_more}
 use Rattle.rhd_module.proofs.Filled.{Funcs, has_key, has_filled, filled_append, first_filled_empty, clash_among, clash_before, clash_filled}
 
 pub or_false : (b : Bool) → (b || false) ≡ b
@@ -155,21 +159,120 @@ module _ {Z : Type 0} where
       (λ v. (λ i. some_below (declares_dynamic o.seeds v) (subs_of done) || some_in (declares_dynamic (a.same_seeds i) v) x.1.value) ∙ tells (declares_dynamic o.seeds v)) (tells declares_global)
       (fills_then o m n (below path (subs_of done)) (walk (path ++ x.0 ∷ []) x.1.value) _ _ _ _ a b)
 
--- what is below a module, then the marks of its own filter, then its own
-pub fills_module : (o a j n : Indexed) (path : List Bytes) (m : ModuleTree)
-    → Fills o a (below path m.subs) (λ v. some_below (declares_dynamic o.seeds v) m.subs) (some_below declares_global m.subs) → Fills a j [] (λ v. declares_dynamic a.seeds v m.own) false
-    → Fills j n (pairs_at path (shown m.own)) (λ _. false) (declares_global m.own) → Fills o n (walk path m) (λ v. some_in (declares_dynamic o.seeds v) m) (some_in declares_global m)
-fills_module o a j n path m lower marks own =
-    let lowers : Bool = some_below declares_global m.subs in
-    fills_as o n (walk path m) (walk path m) (λ v. (some_below (declares_dynamic o.seeds v) m.subs || declares_dynamic a.seeds v m.own) || false) (λ v. some_in (declares_dynamic o.seeds v) m) ((lowers || false) || declares_global m.own) (some_in declares_global m) refl
-    (λ v. or_false (some_below (declares_dynamic o.seeds v) m.subs || declares_dynamic a.seeds v m.own) ∙ (λ i. some_below (declares_dynamic o.seeds v) m.subs || declares_dynamic (lower.same_seeds i) v m.own)
-    ∙ or_turned (some_below (declares_dynamic o.seeds v) m.subs) (declares_dynamic o.seeds v m.own))
-    (ap (λ (b : Bool). b || declares_global m.own) (or_false lowers) ∙ or_turned lowers (declares_global m.own))
-    (fills_then o j n (below path m.subs) (pairs_at path (shown m.own)) _ _ _ _ (fills_then o a j (below path m.subs) [] _ _ _ _ lower marks) own)
+-- nothing is put in
+pub fills_nothing : (o : Indexed) → Fills o o [] (λ _. false) false
+fills_nothing o = record { same_seeds = refl; puts = refl; marks = λ v. sym (or_false (is_marked 8 o.marks v)); tells = sym (or_false o.has_global); apart = λ own. own }
 
-pub clash_module : (o a j : Indexed) (path : List Bytes) (m : ModuleTree) (d e : ℕ → Bool) (g h : Bool) (fault : DeclFault) → Fills o a (below path m.subs) d g → Fills a j [] e h
-    → IsClash j.seeds (keys_of (pairs_at path (shown m.own)) ++ keys_of j.pairs) fault → IsClash o.seeds (keys_of (walk path m) ++ keys_of o.pairs) fault
-clash_module o a j path m d e g h fault lower marks c = clash_then o j (below path m.subs) (pairs_at path (shown m.own)) _ _ fault (fills_then o a j (below path m.subs) [] d e g h lower marks) c
+-- What is found in a module itself: the marks, then what is listed, then its declarations.
+module _ (o j l n : Indexed) (path : List Bytes) (own : Lists) where
+  abbrev others : Pairs
+  others = without own.eager (map (entry_pair own.seeds) (firsts own.listed))
+
+  abbrev global : Pairs → Bool
+  global ps = list_any (λ p. is_global_namespace p.1.metadata.namespace) ps
+
+  abbrev dynamic : ℕ → Bool
+  dynamic v = list_any (λ p. may_be_dynamic o.seeds v p.0) own.eager || lists_dynamic o.seeds v (firsts own.listed)
+
+  pairs_both : (ps : Pairs) → pairs_at path ps ++ (pairs_at path others ++ []) ≡ pairs_at path (ps ++ others)
+  pairs_both ps = ap (λ (qs : Pairs). pairs_at path ps ++ qs) (append-nil (pairs_at path others)) ∙ sym (flat_map-append (λ (q : Key × Declaration). unpathed q ++ pathed path q) ps others)
+
+  shown_dynamic : (v : ℕ) → dynamic v ≡ declares_dynamic o.seeds v own
+  shown_dynamic v =
+      ap (λ b. list_any (λ p. may_be_dynamic o.seeds v p.0) own.eager || b) (any_firsts (may_be_dynamic o.seeds v) own.listed) ∙ sym (any_shown (may_be_dynamic o.seeds v) own.seeds own.eager own.listed)
+
+  pub fills_own : Fills o j [] dynamic false → Fills j l (pairs_at path others) (λ _. false) (global others) → Fills l n (pairs_at path own.eager) (λ _. false) (global own.eager)
+      → Fills o n (pairs_at path (shown own)) (λ v. declares_dynamic o.seeds v own) (declares_global own)
+  fills_own marks listed eager =
+      fills_as o n (pairs_at path own.eager ++ (pairs_at path others ++ [])) (pairs_at path (shown own)) (λ v. (dynamic v || false) || false) (λ v. declares_dynamic o.seeds v own) ((false || global others) || global own.eager) (declares_global own)
+      (pairs_both own.eager) (λ v. or_false (dynamic v || false) ∙ or_false (dynamic v) ∙ shown_dynamic v)
+      (or_turned (global others) (global own.eager) ∙ sym (list_any-append (λ p. is_global_namespace p.1.metadata.namespace) own.eager others))
+      (fills_then o l n (pairs_at path others ++ []) (pairs_at path own.eager) _ _ _ _ (fills_then o j l [] (pairs_at path others) _ _ _ _ marks listed) eager)
+
+  pub clash_listed : (fault : DeclFault) → Fills o j [] dynamic false → IsClash j.seeds (keys_of (pairs_at path others) ++ keys_of j.pairs) fault → IsClash o.seeds (keys_of (pairs_at path (shown own)) ++ keys_of o.pairs) fault
+  clash_listed fault marks c =
+      let P : Pairs → Type 0 = λ ps. IsClash o.seeds (keys_of ps ++ keys_of o.pairs) fault in
+      let here : P (pairs_at path others ++ []) = clash_then o j [] (pairs_at path others) dynamic false fault marks c in
+      subst P (pairs_both own.eager) (clash_before o.seeds (pairs_at path own.eager) (pairs_at path others ++ []) (keys_of o.pairs) fault here)
+
+  pub clash_eager : (fault : DeclFault) → Fills o j [] dynamic false → Fills j l (pairs_at path others) (λ _. false) (global others) → IsClash l.seeds (keys_of (pairs_at path own.eager) ++ keys_of l.pairs) fault
+      → IsClash o.seeds (keys_of (pairs_at path (shown own)) ++ keys_of o.pairs) fault
+  clash_eager fault marks listed c =
+      let P : Pairs → Type 0 = λ ps. IsClash o.seeds (keys_of ps ++ keys_of o.pairs) fault in
+      subst P (pairs_both own.eager) (clash_then o l (pairs_at path others ++ []) (pairs_at path own.eager) _ _ fault (fills_then o j l [] (pairs_at path others) _ _ _ _ marks listed) c)
+
+-- The same of listed functions that are lent.
+module _ (o j l n : Indexed) (path : List Bytes) (own : Lists) (one two : List (Bor Entry)) (first : map (λ e. e.now) one ≡ firsts own.listed) (second : map (λ e. e.now) two ≡ firsts own.listed) where
+  abbrev lent_global : Pairs → Bool
+  lent_global ps = list_any (λ p. is_global_namespace p.1.metadata.namespace) ps
+
+  abbrev lent_pairs : Pairs
+  lent_pairs = map (λ e. entry_pair own.seeds e.now) two
+
+  lent_are : lent_pairs ≡ map (entry_pair own.seeds) (firsts own.listed)
+  lent_are = pairs_lent own.seeds two ∙ ap (map (entry_pair own.seeds)) second
+
+  marks_are : Fills o j [] (λ v. list_any (λ p. may_be_dynamic o.seeds v p.0) own.eager || list_any (λ e. may_be_dynamic o.seeds v (entry_key e.now)) one) false
+      → Fills o j [] (λ v. list_any (λ p. may_be_dynamic o.seeds v p.0) own.eager || lists_dynamic o.seeds v (firsts own.listed)) false
+  marks_are marks =
+      fills_as o j [] [] _ _ false false refl
+      (λ v. ap (λ b. list_any (λ p. may_be_dynamic o.seeds v p.0) own.eager || b) (any_lent (may_be_dynamic o.seeds v) one ∙ ap (list_any (λ e. may_be_dynamic o.seeds v (entry_key e))) first)) refl marks
+
+  listed_are : Fills j l (pairs_at path (without own.eager lent_pairs)) (λ _. false) (lent_global (without own.eager lent_pairs))
+      → Fills j l (pairs_at path (without own.eager (map (entry_pair own.seeds) (firsts own.listed)))) (λ _. false) (lent_global (without own.eager (map (entry_pair own.seeds) (firsts own.listed))))
+  listed_are listed = subst (λ (ps : Pairs). Fills j l (pairs_at path (without own.eager ps)) (λ _. false) (lent_global (without own.eager ps))) lent_are listed
+
+  pub fills_lent : Fills o j [] (λ v. list_any (λ p. may_be_dynamic o.seeds v p.0) own.eager || list_any (λ e. may_be_dynamic o.seeds v (entry_key e.now)) one) false
+      → Fills j l (pairs_at path (without own.eager lent_pairs)) (λ _. false) (lent_global (without own.eager lent_pairs)) → Fills l n (pairs_at path own.eager) (λ _. false) (lent_global own.eager)
+      → Fills o n (pairs_at path (shown own)) (λ v. declares_dynamic o.seeds v own) (declares_global own)
+  fills_lent marks listed eager = fills_own o j l n path own (marks_are marks) (listed_are listed) eager
+
+  pub clash_lent : (fault : DeclFault) → Fills o j [] (λ v. list_any (λ p. may_be_dynamic o.seeds v p.0) own.eager || list_any (λ e. may_be_dynamic o.seeds v (entry_key e.now)) one) false
+      → IsClash j.seeds (keys_of (pairs_at path (without own.eager lent_pairs)) ++ keys_of j.pairs) fault → IsClash o.seeds (keys_of (pairs_at path (shown own)) ++ keys_of o.pairs) fault
+  clash_lent fault marks c = clash_listed o j l n path own fault (marks_are marks) (subst (λ (ps : Pairs). IsClash j.seeds (keys_of (pairs_at path (without own.eager ps)) ++ keys_of j.pairs) fault) lent_are c)
+
+  pub clash_last : (fault : DeclFault) → Fills o j [] (λ v. list_any (λ p. may_be_dynamic o.seeds v p.0) own.eager || list_any (λ e. may_be_dynamic o.seeds v (entry_key e.now)) one) false
+      → Fills j l (pairs_at path (without own.eager lent_pairs)) (λ _. false) (lent_global (without own.eager lent_pairs)) → IsClash l.seeds (keys_of (pairs_at path own.eager) ++ keys_of l.pairs) fault
+      → IsClash o.seeds (keys_of (pairs_at path (shown own)) ++ keys_of o.pairs) fault
+  clash_last fault marks listed c = clash_eager o j l n path own fault (marks_are marks) (listed_are listed) c
+
+-- One listed function more, before those that were put in.
+module _ (o m n : Indexed) (path : List Bytes) (eager : Pairs) (p : Key × Declaration) (done : Pairs) where
+  abbrev all_global : Pairs → Bool
+  all_global ps = list_any (λ p. is_global_namespace p.1.metadata.namespace) ps
+
+  joined_pairs : pairs_at path (without eager (p ∷ [])) ++ pairs_at path (without eager done) ≡ pairs_at path (without eager (p ∷ done))
+  joined_pairs = sym (ap (pairs_at path) (without_more eager p done) ∙ flat_map-append (λ (q : Key × Declaration). unpathed q ++ pathed path q) (without eager (p ∷ [])) (without eager done))
+
+  pub fills_listed : Fills o m (pairs_at path (without eager done)) (λ _. false) (all_global (without eager done)) → Fills m n (pairs_at path (without eager (p ∷ []))) (λ _. false) (all_global (without eager (p ∷ [])))
+      → Fills o n (pairs_at path (without eager (p ∷ done))) (λ _. false) (all_global (without eager (p ∷ done)))
+  fills_listed a b =
+      fills_as o n (pairs_at path (without eager (p ∷ [])) ++ pairs_at path (without eager done)) (pairs_at path (without eager (p ∷ done))) (λ v. false || false) (λ _. false) (all_global (without eager done) || all_global (without eager (p ∷ [])))
+      (all_global (without eager (p ∷ done))) joined_pairs (λ v. refl)
+      (or_turned (all_global (without eager done)) (all_global (without eager (p ∷ []))) ∙ sym (ap all_global (without_more eager p done) ∙ list_any-append (λ p. is_global_namespace p.1.metadata.namespace) (without eager (p ∷ [])) (without eager done)))
+      (fills_then o m n (pairs_at path (without eager done)) (pairs_at path (without eager (p ∷ []))) _ _ _ _ a b)
+
+  pub clash_entry : (front : Pairs) (fault : DeclFault) → Fills o m (pairs_at path (without eager done)) (λ _. false) (all_global (without eager done)) → IsClash m.seeds (keys_of (pairs_at path (without eager (p ∷ []))) ++ keys_of m.pairs) fault
+      → IsClash o.seeds (keys_of (pairs_at path (without eager (front ++ p ∷ done))) ++ keys_of o.pairs) fault
+  clash_entry front fault fills c =
+      let P : Pairs → Type 0 = λ ps. IsClash o.seeds (keys_of ps ++ keys_of o.pairs) fault in
+      let here : P (pairs_at path (without eager (p ∷ done))) = subst P joined_pairs (clash_then o m (pairs_at path (without eager done)) (pairs_at path (without eager (p ∷ []))) _ _ fault fills c) in
+      subst P (sym (ap (pairs_at path) (filter-append (λ p. is_none (lookup (key_eq p.0) eager)) front (p ∷ done)) ∙ flat_map-append (λ (q : Key × Declaration). unpathed q ++ pathed path q) (without eager front) (without eager (p ∷ done))))
+      (clash_before o.seeds (pairs_at path (without eager front)) (pairs_at path (without eager (p ∷ done))) (keys_of o.pairs) fault here)
+
+-- what is below a module, then its own
+pub fills_module : (o a n : Indexed) (path : List Bytes) (m : ModuleTree)
+    → Fills o a (below path m.subs) (λ v. some_below (declares_dynamic o.seeds v) m.subs) (some_below declares_global m.subs) → Fills a n (pairs_at path (shown m.own)) (λ v. declares_dynamic a.seeds v m.own) (declares_global m.own)
+    → Fills o n (walk path m) (λ v. some_in (declares_dynamic o.seeds v) m) (some_in declares_global m)
+fills_module o a n path m lower own =
+    fills_as o n (walk path m) (walk path m) (λ v. some_below (declares_dynamic o.seeds v) m.subs || declares_dynamic a.seeds v m.own) (λ v. some_in (declares_dynamic o.seeds v) m) (some_below declares_global m.subs || declares_global m.own) (some_in declares_global m) refl
+    (λ v. (λ i. some_below (declares_dynamic o.seeds v) m.subs || declares_dynamic (lower.same_seeds i) v m.own) ∙ or_turned (some_below (declares_dynamic o.seeds v) m.subs) (declares_dynamic o.seeds v m.own))
+    (or_turned (some_below declares_global m.subs) (declares_global m.own))
+    (fills_then o a n (below path m.subs) (pairs_at path (shown m.own)) _ _ _ _ lower own)
+
+pub clash_module : (o a : Indexed) (path : List Bytes) (m : ModuleTree) (d : ℕ → Bool) (g : Bool) (fault : DeclFault) → Fills o a (below path m.subs) d g
+    → IsClash a.seeds (keys_of (pairs_at path (shown m.own)) ++ keys_of a.pairs) fault → IsClash o.seeds (keys_of (walk path m) ++ keys_of o.pairs) fault
+clash_module o a path m d g fault lower c = clash_then o a (below path m.subs) (pairs_at path (shown m.own)) d g fault lower c
 
 -- keys of hashes of their own don't clash
 pub none_clash : (seeds : Seeds) (keys : List Key) → HasOwnHashes seeds keys → NoneClash seeds keys
@@ -188,7 +291,7 @@ none_clash seeds keys own held new c =
     ]
 
 -- marks of one key more, and by a filter of other declarations of the same seeds
-pub marks_more : (o m n : Indexed) (test : Seeds → ℕ → Key × Declaration → Bool) (p : Key × Declaration) (front : Pairs) → Fills o m [] (λ v. list_any (test o.seeds v) front) false → Fills m n [] (λ v. test m.seeds v p) false
+pub marks_more : {X : Type 0} (o m n : Indexed) (test : Seeds → ℕ → X → Bool) (p : X) (front : List X) → Fills o m [] (λ v. list_any (test o.seeds v) front) false → Fills m n [] (λ v. test m.seeds v p) false
     → Fills o n [] (λ v. list_any (test o.seeds v) (front ++ p ∷ [])) false
 marks_more o m n test p front a b =
     fills_as o n [] [] (λ v. list_any (test o.seeds v) front || test m.seeds v p) (λ v. list_any (test o.seeds v) (front ++ p ∷ [])) (false || false) false refl

@@ -1,7 +1,9 @@
 -- What a module keeps of its own declarations and of its tree, after a declaration is put or its comments are set.
-use Rattle.std.proofs.Common.{◌≡◌, ℕ, ◌==◌, ◌&&◌, ◌||◌, not, Bool, true, false, cond, List, [], ◌∷◌, ◌++◌, Option, None, Some, is_none, refl, sym, ap, subst, ◌∙◌, true≢false}
+use Rattle.std.proofs.Common.{◌≡◌, ℕ, ◌==◌, ◌&&◌, ◌||◌, not, Bool, true, false, cond, List, [], ◌∷◌, ◌++◌, map, Option, None, Some, is_none, refl, sym, ap, subst, ◌∙◌, true≢false}
 use Rattle.std.specs.Option.{option_map}
-use Rattle.std.specs.List.{list_any}
+use Rattle.std.specs.List.{list_any, filter}
+use Rattle.std.proofs.lemmas.List.Folds.{list_any-append}
+use Rattle.std.proofs.lemmas.Grind.{flat_map-append}
 use Rattle.std.specs.Map.{lookup, keys_of}
 use Rattle.rhd_value.specs.Tree.{Bytes}
 use Rattle.rhd_hash.specs.declared.key.Key.{Key}
@@ -12,12 +14,15 @@ use Rattle.rhd_hash.specs.Filter.{slot, is_marked}
 use Rattle.rhd_func.specs.declared.func.RhaiFunc.{RhaiFunc}
 use Rattle.rhd_func.specs.Access.{is_private, is_global_namespace}
 use Rattle.rhd_decl.specs.declared.declaration.Declaration.{Declaration}
+use Rattle.rhd_manifest.specs.Entry.{Entry, entry_pair}
+use Rattle.rhd_manifest.specs.Rank.{firsts}
 use Rattle.rhd_module.specs.Tree.{ModuleTree, Lists, Pairs}
+use Rattle.rhd_module.specs.Shown.{without, shown_of, shown}
 use Rattle.rhd_module.specs.Contents.{commented, comment_on}
 use Rattle.rhd_module.specs.Registered.{put}
 use Rattle.rhd_module.specs.Walk.{unpathed, pathed, pairs_at, below, tree}
 use Rattle.rhd_hash.specs.Parts.{dynamic_hash}
-use Rattle.rhd_module.specs.Below.{has_slot, some_below, declares_global, may_be_dynamic, declares_dynamic}
+use Rattle.rhd_module.specs.Below.{has_slot, some_below, declares_global, may_be_dynamic, declares_dynamic, lists_dynamic}
 use Rattle.rhd_module.specs.Index.{Indexed, IsFilter, IsIndexOf, NoneClash}
 
 or_false : (b : Bool) → (b || false) ≡ b
@@ -59,19 +64,28 @@ slot_step seeds v k true = refl
 slot_step seeds v k false = refl
 
 -- the filter, where a key was put in the place of an equal one
-pub filter_there : (marks : List ℕ) (s t : Seeds) (k : Key) (d : Declaration) (old new : Pairs) → ((v : ℕ) → is_marked 8 marks v ≡ list_any (λ p. may_be_dynamic s v p.0) old) → is_none (lookup (key_eq k) old) ≡ false
-    → t ≡ s → new ≡ put k d old → (v : ℕ) → is_marked 8 marks v ≡ list_any (λ p. may_be_dynamic t v p.0) new
-filter_there marks s t k d old new right there same is v = right v ∙ sym (any_put_there (may_be_dynamic s v) k d old there) ∙ (λ i. list_any (λ p. may_be_dynamic (sym same i) v p.0) (sym is i))
+pub filter_there : (marks : List ℕ) (s t : Seeds) (k : Key) (d : Declaration) (old new : Pairs) (es : List Entry) → ((v : ℕ) → is_marked 8 marks v ≡ (list_any (λ p. may_be_dynamic s v p.0) old || lists_dynamic s v es)) → is_none (lookup (key_eq k) old) ≡ false
+    → t ≡ s → new ≡ put k d old → (v : ℕ) → is_marked 8 marks v ≡ (list_any (λ p. may_be_dynamic t v p.0) new || lists_dynamic t v es)
+filter_there marks s t k d old new es right there same is v =
+    right v ∙ ap (λ b. b || lists_dynamic s v es) (sym (any_put_there (may_be_dynamic s v) k d old there)) ∙ (λ i. list_any (λ p. may_be_dynamic (sym same i) v p.0) (sym is i) || lists_dynamic (sym same i) v es)
+
+or_between : (a b c : Bool) → ((a || b) || c) ≡ ((a || c) || b)
+or_between true b c = refl
+or_between false true true = refl
+or_between false true false = refl
+or_between false false true = refl
+or_between false false false = refl
 
 -- and where it was put last, and its hash was marked
-pub filter_last : (marks marks2 : List ℕ) (s t : Seeds) (k : Key) (d : Declaration) (old new : Pairs) (dynamic : Option ℕ) → ((v : ℕ) → is_marked 8 marks v ≡ list_any (λ p. may_be_dynamic s v p.0) old)
+pub filter_last : (marks marks2 : List ℕ) (s t : Seeds) (k : Key) (d : Declaration) (old new : Pairs) (es : List Entry) (dynamic : Option ℕ) → ((v : ℕ) → is_marked 8 marks v ≡ (list_any (λ p. may_be_dynamic s v p.0) old || lists_dynamic s v es))
     → dynamic ≡ dynamic_hash s k → ((v : ℕ) → is_marked 8 marks2 v ≡ (is_marked 8 marks v || has_slot dynamic v)) → t ≡ s → new ≡ put k d old
-    → (v : ℕ) → is_marked 8 marks2 v ≡ list_any (λ p. may_be_dynamic t v p.0) new
-filter_last marks marks2 s t k d old new dynamic right hash more same is v =
+    → (v : ℕ) → is_marked 8 marks2 v ≡ (list_any (λ p. may_be_dynamic t v p.0) new || lists_dynamic t v es)
+filter_last marks marks2 s t k d old new es dynamic right hash more same is v =
     more v
     ∙ (λ i. right v i || (ap (λ (o : Option ℕ). has_slot o v) hash ∙ slot_step s v k (has_dynamic k)) i)
-    ∙ sym (any_put (may_be_dynamic s v) k d old)
-    ∙ (λ i. list_any (λ p. may_be_dynamic (sym same i) v p.0) (sym is i))
+    ∙ or_between (list_any (λ p. may_be_dynamic s v p.0) old) (lists_dynamic s v es) (may_be_dynamic s v k)
+    ∙ ap (λ b. b || lists_dynamic s v es) (sym (any_put (may_be_dynamic s v) k d old))
+    ∙ (λ i. list_any (λ p. may_be_dynamic (sym same i) v p.0) (sym is i) || lists_dynamic (sym same i) v es)
 
 -- the functions of declarations
 abbrev funcs : Pairs → List (Key × RhaiFunc)
@@ -134,32 +148,69 @@ module _ (k : Key) (comments : List Bytes) where
   any_commented test still [] = refl
   any_commented test still (p ∷ ps) = any_step test still p ps (key_eq k p.0) (any_commented test still ps)
 
-  dynamic_commented : (v : ℕ) (old new : Lists) → new.eager ≡ comment_on k comments old.eager → new.seeds ≡ old.seeds → declares_dynamic new.seeds v new ≡ declares_dynamic old.seeds v old
-  dynamic_commented v old new is same =
-      (λ i. list_any (λ p. may_be_dynamic (same i) v p.0) (is i)) ∙ any_commented (λ p. may_be_dynamic old.seeds v p.0) (λ p. refl) old.eager
+  -- what is hidden stays so
+  hidden_commented : (q : Key) (ps : Pairs) → is_none (lookup (key_eq q) (comment_on k comments ps)) ≡ is_none (lookup (key_eq q) ps)
+  hidden_commented q [] = refl
+  hidden_commented q (p ∷ ps) = by (key_eq k p.0) (hidden_commented q ps)
+    where
+      alike : (b : Bool) (d e : Declaration) (o r : Option Declaration) → is_none o ≡ is_none r → is_none (cond b (Some d) o) ≡ is_none (cond b (Some e) r)
+      alike true d e o r ih = refl
+      alike false d e o r ih = ih
 
-  global_commented : (old new : Lists) → new.eager ≡ comment_on k comments old.eager → declares_global new ≡ declares_global old
-  global_commented old new is =
-      ap (list_any (λ p. is_global_namespace p.1.metadata.namespace)) is ∙ any_commented (λ p. is_global_namespace p.1.metadata.namespace) (λ p. refl) old.eager
+      by : (same : Bool) → is_none (lookup (key_eq q) (comment_on k comments ps)) ≡ is_none (lookup (key_eq q) ps)
+          → is_none (lookup (key_eq q) (cond same ((p.0, commented comments p.1) ∷ ps) (p ∷ comment_on k comments ps))) ≡ is_none (lookup (key_eq q) (p ∷ ps))
+      by true ih = alike (key_eq q p.0) (commented comments p.1) p.1 (lookup (key_eq q) ps) (lookup (key_eq q) ps) refl
+      by false ih = alike (key_eq q p.0) p.1 p.1 (lookup (key_eq q) (comment_on k comments ps)) (lookup (key_eq q) ps) ih
 
-  pub filter_commented : (marks : List ℕ) (old new : Lists) → new.eager ≡ comment_on k comments old.eager → new.seeds ≡ old.seeds → IsFilter marks old → IsFilter marks new
-  filter_commented marks old new is same right v = right v ∙ sym (dynamic_commented v old new is same)
+  without_commented : (eager ps : Pairs) → without (comment_on k comments eager) ps ≡ without eager ps
+  without_commented eager ps = ap (λ (test : Key × Declaration → Bool). filter test ps) (λ i p. hidden_commented p.0 eager i)
 
-  tree_commented : (old new : ModuleTree) → new.own.eager ≡ comment_on k comments old.own.eager → new.subs ≡ old.subs → funcs (tree new) ≡ funcs (tree old)
-  tree_commented old new is subs =
-      (λ i. funcs (pairs_at [] (is i) ++ below [] (subs i)))
-      ∙ funcs_append (pairs_at [] (comment_on k comments old.own.eager)) (below [] old.subs)
-      ∙ ap (λ (fs : List (Key × RhaiFunc)). fs ++ funcs (below [] old.subs)) (pairs_commented [] old.own.eager)
-      ∙ sym (funcs_append (pairs_at [] old.own.eager) (below [] old.subs))
+  shown_commented : (old new : Lists) → new.eager ≡ comment_on k comments old.eager → new.seeds ≡ old.seeds → new.listed ≡ old.listed
+      → shown new ≡ comment_on k comments old.eager ++ without old.eager (map (entry_pair old.seeds) (firsts old.listed))
+  shown_commented old new is same listed =
+      (λ i. shown_of (same i) (is i) (listed i)) ∙ ap (λ ps. comment_on k comments old.eager ++ ps) (without_commented old.eager (map (entry_pair old.seeds) (firsts old.listed)))
+
+  any_shown_commented : (test : Key × Declaration → Bool) → ((p : Key × Declaration) → test (p.0, commented comments p.1) ≡ test p) → (old new : Lists) → new.eager ≡ comment_on k comments old.eager → new.seeds ≡ old.seeds → new.listed ≡ old.listed
+      → list_any test (shown new) ≡ list_any test (shown old)
+  any_shown_commented test still old new is same listed =
+      let others = without old.eager (map (entry_pair old.seeds) (firsts old.listed)) in
+      ap (list_any test) (shown_commented old new is same listed) ∙ list_any-append test (comment_on k comments old.eager) others ∙ ap (λ b. b || list_any test others) (any_commented test still old.eager) ∙ sym (list_any-append test old.eager others)
+
+  dynamic_commented : (v : ℕ) (old new : Lists) → new.eager ≡ comment_on k comments old.eager → new.seeds ≡ old.seeds → new.listed ≡ old.listed → declares_dynamic new.seeds v new ≡ declares_dynamic old.seeds v old
+  dynamic_commented v old new is same listed =
+      ap (λ (s : Seeds). declares_dynamic s v new) same ∙ any_shown_commented (λ p. may_be_dynamic old.seeds v p.0) (λ p. refl) old new is same listed
+
+  global_commented : (old new : Lists) → new.eager ≡ comment_on k comments old.eager → new.seeds ≡ old.seeds → new.listed ≡ old.listed → declares_global new ≡ declares_global old
+  global_commented old new is same listed = any_shown_commented (λ p. is_global_namespace p.1.metadata.namespace) (λ p. refl) old new is same listed
+
+  pub filter_commented : (marks : List ℕ) (old new : Lists) → new.eager ≡ comment_on k comments old.eager → new.seeds ≡ old.seeds → new.listed ≡ old.listed → IsFilter marks old → IsFilter marks new
+  filter_commented marks old new is same listed right v =
+      right v ∙ ap (λ b. b || lists_dynamic old.seeds v old.listed) (sym (any_commented (λ p. may_be_dynamic old.seeds v p.0) (λ p. refl) old.eager))
+      ∙ (λ i. list_any (λ p. may_be_dynamic (sym same i) v p.0) (sym is i) || lists_dynamic (sym same i) v (sym listed i))
+
+  own_commented : (path : List Bytes) (old new : Lists) → new.eager ≡ comment_on k comments old.eager → new.seeds ≡ old.seeds → new.listed ≡ old.listed → funcs (pairs_at path (shown new)) ≡ funcs (pairs_at path (shown old))
+  own_commented path old new is same listed =
+      let others = without old.eager (map (entry_pair old.seeds) (firsts old.listed)) in
+      let parts : (xs ys : Pairs) → funcs (pairs_at path (xs ++ ys)) ≡ funcs (pairs_at path xs) ++ funcs (pairs_at path ys) =
+      λ xs ys. ap funcs (flat_map-append (λ (q : Key × Declaration). unpathed q ++ pathed path q) xs ys) ∙ funcs_append (pairs_at path xs) (pairs_at path ys) in
+      ap (λ ps. funcs (pairs_at path ps)) (shown_commented old new is same listed) ∙ parts (comment_on k comments old.eager) others
+      ∙ ap (λ (fs : List (Key × RhaiFunc)). fs ++ funcs (pairs_at path others)) (pairs_commented path old.eager) ∙ sym (parts old.eager others)
+
+  tree_commented : (old new : ModuleTree) → new.own.eager ≡ comment_on k comments old.own.eager → new.own.seeds ≡ old.own.seeds → new.own.listed ≡ old.own.listed → new.subs ≡ old.subs → funcs (tree new) ≡ funcs (tree old)
+  tree_commented old new is same listed subs =
+      ap (λ s. funcs (pairs_at [] (shown new.own) ++ below [] s)) subs
+      ∙ funcs_append (pairs_at [] (shown new.own)) (below [] old.subs)
+      ∙ ap (λ (fs : List (Key × RhaiFunc)). fs ++ funcs (below [] old.subs)) (own_commented [] old.own new.own is same listed)
+      ∙ sym (funcs_append (pairs_at [] (shown old.own)) (below [] old.subs))
 
   -- the index of a tree is that of the tree with comments
-  pub index_commented : (index : Indexed) (old new : ModuleTree) → new.own.eager ≡ comment_on k comments old.own.eager → new.own.seeds ≡ old.own.seeds → new.subs ≡ old.subs → IsIndexOf index old → IsIndexOf index new
-  index_commented index old new is same subs it =
-      let alike : funcs (tree old) ≡ funcs (tree new) = sym (tree_commented old new is subs) in
+  pub index_commented : (index : Indexed) (old new : ModuleTree) → new.own.eager ≡ comment_on k comments old.own.eager → new.own.seeds ≡ old.own.seeds → new.own.listed ≡ old.own.listed → new.subs ≡ old.subs → IsIndexOf index old → IsIndexOf index new
+  index_commented index old new is same listed subs it =
+      let alike : funcs (tree old) ≡ funcs (tree new) = sym (tree_commented old new is same listed subs) in
       let keys : keys_of (tree old) ≡ keys_of (tree new) = sym (keys_funcs (tree old)) ∙ ap (λ (fs : List (Key × RhaiFunc)). keys_of fs) alike ∙ keys_funcs (tree new) in (
         it.0 ∙ sym same,
         subst (λ (p : Seeds × List Key). NoneClash p.0 p.1) (λ i. (sym same i, keys i)) it.1,
         λ key. it.2 key ∙ sym (lookup_funcs key (tree old)) ∙ ap (λ (fs : List (Key × RhaiFunc)). lookup (key_eq key) fs) alike ∙ lookup_funcs key (tree new),
-        λ v. it.3 v ∙ (λ i. sym (dynamic_commented v old.own new.own is same) i || some_below (declares_dynamic (sym same i) v) (sym subs i)),
-        it.4 ∙ (λ i. sym (global_commented old.own new.own is) i || some_below declares_global (sym subs i)),
+        λ v. it.3 v ∙ (λ i. sym (dynamic_commented v old.own new.own is same listed) i || some_below (declares_dynamic (sym same i) v) (sym subs i)),
+        it.4 ∙ (λ i. sym (global_commented old.own new.own is same listed) i || some_below declares_global (sym subs i)),
       )

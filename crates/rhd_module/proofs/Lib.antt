@@ -10,3 +10,4 @@ pub mod Filled
 pub mod Fills
 pub mod Kept
 pub mod Absent
+pub mod Listed

@@ -10,6 +10,7 @@ use Rattle.rhd_hash.specs.Keys.{has_dynamic}
 use Rattle.rhd_hash.specs.Parts.{untyped_key}
 use Rattle.rhd_hash.specs.Filter.{slot}
 use Rattle.rhd_func.specs.Access.{is_global_namespace}
+use Rattle.rhd_manifest.specs.Entry.{Entry, entry_key}
 use Rattle.rhd_module.specs.Tree.{ModuleTree, Lists, Subs, no_subs, sub}
 use Rattle.rhd_module.specs.Shown.{shown}
 use Rattle.rhd_module.specs.Contents.{find_sub}
@@ -39,6 +40,10 @@ may_be_dynamic seeds hash key = has_dynamic key && (slot 8 hash == slot 8 (untyp
 -- the key of some declaration is such a one
 abbrev pub declares_dynamic : Seeds → ℕ → Lists → Bool
 declares_dynamic seeds hash own = list_any (λ p. may_be_dynamic seeds hash p.0) (shown own)
+
+-- and of some function that is listed
+abbrev pub lists_dynamic : Seeds → ℕ → List Entry → Bool
+lists_dynamic seeds hash listed = list_any (λ e. may_be_dynamic seeds hash (entry_key e)) listed
 
 -- the same of the tree, or, while it isn't indexed, of the module alone
 abbrev pub may_contain : ModuleTree → ℕ → Bool

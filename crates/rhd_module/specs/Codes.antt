@@ -16,6 +16,7 @@ use Rattle.rhd_func.specs.declared.access.IterId.{IterId}
 use Rattle.rhd_func.specs.declared.access.ManifestId.{ManifestId}
 use Rattle.rhd_func.specs.contracts.access.IterId as iterator
 use Rattle.rhd_func.specs.contracts.access.ManifestId as manifest
+use Rattle.rhd_manifest.specs.Entry.{Entry, coded_entry}
 use Rattle.rhd_decl.specs.contracts.declaration.Declaration as declaration
 use Rattle.rhd_decl.specs.declared.custom_types.CustomTypeInfo.{CustomTypeInfo}
 use Rattle.rhd_decl.specs.contracts.custom_types.CustomTypeInfo as info
@@ -30,13 +31,13 @@ coded_pairs = coded_list (coded× key.the_row.coded declaration.the_row.coded)
 -- what is said of a module, what it holds, what is empty yet, its flags, its seeds
 abbrev pub lists_code : Coded Lists
 lists_code =
-    code_by ((Option Bytes × (Bytes × List (Bytes × CustomTypeInfo))) × ((List (Bytes × Tree) × Pairs) × ((List (ManifestId × Bool) × List (TypeTag × IterId)) × ((Bool × (Bool × Bool)) × Seeds))))
+    code_by ((Option Bytes × (Bytes × List (Bytes × CustomTypeInfo))) × ((List (Bytes × Tree) × Pairs) × (((List (ManifestId × Bool) × List Entry) × List (TypeTag × IterId)) × ((Bool × (Bool × Bool)) × Seeds))))
     (coded× (coded× (coded_option coded_bytes) (coded× coded_bytes (coded_list (coded× coded_bytes info.the_row.coded))))
     (coded× (coded× coded_entries coded_pairs)
-    (coded× (coded× (coded_list (coded× manifest.the_row.coded coded_bool)) (coded_list (coded× tag.the_row.coded iterator.the_row.coded)))
+    (coded× (coded× (coded× (coded_list (coded× manifest.the_row.coded coded_bool)) (coded_list coded_entry)) (coded_list (coded× tag.the_row.coded iterator.the_row.coded)))
     (coded× (coded× coded_bool (coded× coded_bool coded_bool)) seeds.the_row.coded))))
-    (λ o. ((o.id, (o.doc, o.types)), ((o.vars, o.eager), ((o.manifests, o.iterators), ((o.internal, (o.standard, o.indexed)), o.seeds)))))
-    (λ p. record { id = p.0.0; doc = p.0.1.0; types = p.0.1.1; vars = p.1.0.0; eager = p.1.0.1; manifests = p.1.1.0.0; iterators = p.1.1.0.1; internal = p.1.1.1.0.0; standard = p.1.1.1.0.1.0; indexed = p.1.1.1.0.1.1; seeds = p.1.1.1.1 })
+    (λ o. ((o.id, (o.doc, o.types)), ((o.vars, o.eager), (((o.manifests, o.listed), o.iterators), ((o.internal, (o.standard, o.indexed)), o.seeds)))))
+    (λ p. record { id = p.0.0; doc = p.0.1.0; types = p.0.1.1; vars = p.1.0.0; eager = p.1.0.1; manifests = p.1.1.0.0.0; listed = p.1.1.0.0.1; iterators = p.1.1.0.1; internal = p.1.1.1.0.0; standard = p.1.1.1.0.1.0; indexed = p.1.1.1.0.1.1; seeds = p.1.1.1.1 })
     (λ _. refl)
 
 abbrev head : Gv → Gv

@@ -40,7 +40,7 @@ with_type type_name display comments m = record m { own = record m.own { types =
 
 -- all goes but the id, the seeds and the own flags; the module isn't indexed any more
 abbrev pub cleared : ModuleTree → ModuleTree
-cleared m = record { own = record m.own { doc = []; types = []; vars = []; eager = []; manifests = []; iterators = []; indexed = false }; subs = no_subs }
+cleared m = record { own = record m.own { doc = []; types = []; vars = []; eager = []; manifests = []; listed = []; iterators = []; indexed = false }; subs = no_subs }
 
 -- sub-modules with one more, which replaces one of its name and else goes to its place in the order of names
 abbrev pub put_sub : Bytes → ModuleTree → Subs → Subs

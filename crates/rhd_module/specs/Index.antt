@@ -1,5 +1,6 @@
 -- What a module keeps of its tree while it is indexed, and what building it answers.
 use Rattle.std.specs.Prelude.{◌≡◌, ℕ, Bool, true, ◌||◌, List, [], ◌∷◌, Result, Ok, Err, ⊤}
+use Rattle.std.specs.List.{list_any}
 use Rattle.std.specs.Option.{option_map}
 use Rattle.std.specs.Map.{lookup, keys_of}
 use Rattle.rhd_hash.specs.declared.key.Key.{Key}
@@ -13,7 +14,7 @@ use Rattle.rhd_decl.specs.declared.fault.DeclFault.{DeclFault}
 use Rattle.rhd_decl.specs.declared.fault.DeclFault.TheVariants.{HashCollision, OutOfMemory}
 use Rattle.rhd_module.specs.Tree.{ModuleTree, Lists, Pairs}
 use Rattle.rhd_module.specs.Walk.{tree}
-use Rattle.rhd_module.specs.Below.{some_in, declares_global, declares_dynamic}
+use Rattle.rhd_module.specs.Below.{some_in, declares_global, may_be_dynamic, declares_dynamic, lists_dynamic}
 
 -- what an index holds: the seeds under which its keys are hashed, the function under each key, the marks of its filter, and whether a function is found without the module's name
 pub record Indexed : Type 0 where
@@ -39,9 +40,9 @@ IsIndexOf index m =
 abbrev pub IsKept : Indexed → ModuleTree → Type 0
 IsKept index m = m.own.indexed ≡ true → IsIndexOf index m
 
--- the filter of a module's own declarations
+-- the filter of what a module declares and lists itself
 abbrev pub IsFilter : List ℕ → Lists → Type 0
-IsFilter marks own = (hash : ℕ) → is_marked 8 marks hash ≡ declares_dynamic own.seeds hash own
+IsFilter marks own = (hash : ℕ) → is_marked 8 marks hash ≡ (list_any (λ p. may_be_dynamic own.seeds hash p.0) own.eager || lists_dynamic own.seeds hash own.listed)
 
 abbrev pub indexed : ModuleTree → ModuleTree
 indexed m = record m { own = record m.own { indexed = true } }

@@ -5,8 +5,7 @@ use Rattle.rhd_value.specs.Tree.{Bytes}
 use Rattle.rhd_value.specs.declared.tag.TypeTag.{TypeTag}
 use Rattle.rhd_hash.specs.Matching.{key_matches}
 use Rattle.rhd_module.specs.Tree.{ModuleTree}
-use Rattle.rhd_module.specs.Shown.{shown}
 
--- some declaration of the module has such a key
+-- some declaration of the module that isn't listed has such a key
 abbrev pub may_match : ModuleTree → ℕ → Bytes → List TypeTag → Bool
-may_match m n name kinds = list_any (λ p. key_matches n name kinds p.0) (shown m.own)
+may_match m n name kinds = list_any (λ p. key_matches n name kinds p.0) m.own.eager

@@ -9,7 +9,6 @@ use Rattle.rhd_hash.specs.declared.key.Key.{Key}
 use Rattle.rhd_hash.specs.Keys.{native_name}
 use Rattle.rhd_module.specs.declared.native_index.NativeIndex.{NativeIndex}
 use Rattle.rhd_module.specs.Tree.{Pairs, ModuleTree}
-use Rattle.rhd_module.specs.Shown.{shown}
 use Rattle.rhd_hash.specs.Matching.{key_matches}
 
 -- a native's key of this name, without a path
@@ -35,4 +34,4 @@ IsIndex natives ps = (name : Bytes) → noted natives name ≡ places_from 0 nam
 
 -- the declaration at a place has a native's key of this name, without a path, whose types match
 abbrev pub matches_at : ModuleTree → ℕ → Bytes → List TypeTag → ℕ → Bool
-matches_at m n name kinds place = option_map_or (λ p. key_matches n name kinds p.0) (slice_get (shown m.own) place) false
+matches_at m n name kinds place = option_map_or (λ p. key_matches n name kinds p.0) (slice_get m.own.eager place) false

@@ -1,14 +1,26 @@
 -- What a module has for a key.
-use Rattle.std.specs.Prelude.{Option}
+use Rattle.std.specs.Prelude.{◌++◌, List, map, Option, is_none}
+use Rattle.std.specs.List.{filter}
 use Rattle.std.specs.Map.{lookup}
 use Rattle.rhd_hash.specs.declared.key.Key.{Key}
+use Rattle.rhd_hash.specs.declared.mixer.Seeds.{Seeds}
 use Rattle.rhd_decl.specs.declared.declaration.Declaration.{Declaration}
 use Rattle.rhd_hash.specs.Keys.{key_eq}
+use Rattle.rhd_manifest.specs.Entry.{Entry, entry_pair}
+use Rattle.rhd_manifest.specs.Rank.{firsts}
 use Rattle.rhd_module.specs.Tree.{Lists, ModuleTree, Pairs}
 
--- what a module shows: its declarations
+-- those of some declarations whose keys others don't have
+abbrev pub without : Pairs → Pairs → Pairs
+without others ps = filter (λ p. is_none (lookup (key_eq p.0) others)) ps
+
+-- declarations, then what is listed under other keys: the first under each
+abbrev pub shown_of : Seeds → Pairs → List Entry → Pairs
+shown_of seeds eager listed = eager ++ without eager (map (entry_pair seeds) (firsts listed))
+
+-- what a module shows
 abbrev pub shown : Lists → Pairs
-shown own = own.eager
+shown own = shown_of own.seeds own.eager own.listed
 
 -- the first declaration with a key
 unfoldable pub own_decl : ModuleTree → Key → Option Declaration

@@ -7,6 +7,7 @@ use Rattle.rhd_hash.specs.declared.key.Key.{Key}
 use Rattle.rhd_hash.specs.declared.mixer.Seeds.{Seeds}
 use Rattle.rhd_func.specs.declared.access.IterId.{IterId}
 use Rattle.rhd_func.specs.declared.access.ManifestId.{ManifestId}
+use Rattle.rhd_manifest.specs.Entry.{Entry}
 use Rattle.rhd_decl.specs.declared.declaration.Declaration.{Declaration}
 use Rattle.rhd_decl.specs.CustomTypes.{CustomTypes}
 
@@ -21,7 +22,8 @@ pub record Lists : Type 0 where
   pub types : CustomTypes
   pub vars : List (Bytes × Tree)  -- in ascending order of name
   pub eager : Pairs  -- in order of first insertion, with distinct keys without a path
-  pub manifests : List (ManifestId × Bool)  -- each with whether it is flattened; none is built yet
+  pub manifests : List (ManifestId × Bool)  -- each with whether it is flattened; a later one goes before an earlier
+  pub listed : List Entry  -- what these list, from the highest precedence to the lowest
   pub iterators : List (TypeTag × IterId)  -- none is built yet
   pub internal : Bool
   pub standard : Bool
@@ -50,6 +52,6 @@ depth (sub name own below later) = max (depth below + 1) (depth later)
 -- a new module: indexed, and nothing in it
 abbrev pub empty_module : Seeds → ModuleTree
 empty_module seeds = record {
-  own = record { id = None; doc = []; types = []; vars = []; eager = []; manifests = []; iterators = []; internal = false; standard = false; indexed = true; seeds = seeds };
+  own = record { id = None; doc = []; types = []; vars = []; eager = []; manifests = []; listed = []; iterators = []; internal = false; standard = false; indexed = true; seeds = seeds };
   subs = no_subs;
 }

@@ -297,14 +297,15 @@ impl Module {
         self.subs.iter()
     }
 
-    /// Whether it has no variable, sub-module and declaration.
+    /// Whether it has no variable, sub-module, declaration and manifest.
     pub fn is_empty(&self) -> bool
         ensures { result ≡ is_empty self.now }
     {
         let no_vars = self.vars.len() == 0;
         let no_subs = self.subs.len() == 0;
         let no_fns = self.eager.len() == 0;
-        no_vars & (no_subs & no_fns)
+        let no_manifests = self.iter_manifests().len() == 0;
+        no_vars & (no_subs & (no_fns & no_manifests))
     }
 
     /// How many variables, declarations and functions that iterate it has.

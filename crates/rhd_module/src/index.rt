@@ -1,6 +1,6 @@
 //! What a module keeps of its tree while it is indexed.
 
-ghost use Rattle.std.specs.Prelude.{ℕ, ◌≡◌, ◌++◌, ◌∷◌, [], false, is_some, OnOk, IfOk, IfErr};
+ghost use Rattle.std.specs.Prelude.{ℕ, ◌≡◌, ◌||◌, ◌++◌, ◌∷◌, [], map, false, is_some, OnOk, IfOk, IfErr};
 ghost use Rattle.std.specs.Option.{option_copied};
 ghost use Rattle.std.specs.List.{list_any};
 ghost use Rattle.std.specs.Map.{lookup, keys_of};
@@ -14,13 +14,15 @@ ghost use Rattle.rhd_decl.specs.Collisions.{collision};
 ghost use Rattle.rhd_func.specs.Access.{is_global_namespace};
 ghost use Rattle.rhd_module.specs.Below.{some_in, declares_global, may_be_dynamic, declares_dynamic};
 ghost use Rattle.rhd_module.specs.Index.{Fills, IsClash, IsIndexOf};
-ghost use Rattle.rhd_module.specs.Shown.{shown};
+ghost use Rattle.rhd_manifest.specs.Entry.{entry_key, entry_pair};
+ghost use Rattle.rhd_module.specs.Shown.{shown, without};
 ghost use Rattle.rhd_module.specs.Walk.{unpathed, pathed, pairs_at, walk, tree};
 
 use crate::module::Module;
 use rhd_decl::{DeclFault, Declaration};
 use rhd_func::RhaiFunc;
 use rhd_hash::{BloomFilterU64, HashedKey, Key, KeyTable, Seeds};
+use rhd_manifest::FnManifestEntry;
 use rhd_value::Texts;
 use std::alloc::Global;
 use std::marker::Model;
@@ -112,15 +114,31 @@ impl TreeIndex {
         }
     }
 
-    /// The same, by a filter of these declarations, which is of use where it is of the same seeds.
-    fn mark_by(&mut self, declarations: &KeyTable<Declaration>, filter: &BloomFilterU64<8>)
-        requires { (hash : ℕ) → is_marked 8 filter.now hash ≡ list_any (λ p. may_be_dynamic declarations.now.seeds hash p.0) declarations.now.pairs }
-        ensures { Fills self.old self.new [] (λ hash. list_any (λ p. may_be_dynamic self.old.seeds hash p.0) declarations.now.pairs) false }
+    /// Marks the hashes of the keys of listed functions that have a parameter of any type.
+    fn mark_listed(&mut self, listed: &[&FnManifestEntry])
+        ensures { Fills self.old self.new [] (λ hash. list_any (λ e. may_be_dynamic self.old.seeds hash (entry_key e.now)) listed.now) false }
+    {
+        for entry in listed {
+            self.mark(entry.key());
+        }
+    }
+
+    /// Marks those of declarations and of listed functions, by a filter of these, which is of use where it
+    /// is of the same seeds.
+    fn mark_by(
+        &mut self,
+        declarations: &KeyTable<Declaration>,
+        listed: &[&FnManifestEntry],
+        filter: &BloomFilterU64<8>,
+    )
+        requires { (hash : ℕ) → is_marked 8 filter.now hash ≡ (list_any (λ p. may_be_dynamic declarations.now.seeds hash p.0) declarations.now.pairs || list_any (λ e. may_be_dynamic declarations.now.seeds hash (entry_key e.now)) listed.now) }
+        ensures { Fills self.old self.new [] (λ hash. list_any (λ p. may_be_dynamic self.old.seeds hash p.0) declarations.now.pairs || list_any (λ e. may_be_dynamic self.old.seeds hash (entry_key e.now)) listed.now) false }
     {
         if declarations.seeds() == self.table.seeds() {
             self.join(filter);
         } else {
             self.mark_all(declarations);
+            self.mark_listed(listed);
         }
     }
 
@@ -210,9 +228,57 @@ impl TreeIndex {
         }
         Ok(())
     }
+
+    /// Puts a listed function under the keys by which it is found at a path, if no declaration hides it.
+    fn put_entry(
+        &mut self,
+        alloc: Global,
+        path: &Texts,
+        declarations: &KeyTable<Declaration>,
+        entry: &FnManifestEntry,
+    ) -> Result<(), DeclFault>
+        ensures fills { OnOk result (Fills self.old self.new (pairs_at path.now (without declarations.now.pairs (entry_pair declarations.now.seeds entry.now ∷ []))) (λ _. false)
+            (list_any (λ p. is_global_namespace p.1.metadata.namespace) (without declarations.now.pairs (entry_pair declarations.now.seeds entry.now ∷ [])))) }
+        ensures clash { IfErr result (IsClash self.old.seeds (keys_of (pairs_at path.now (without declarations.now.pairs (entry_pair declarations.now.seeds entry.now ∷ []))) ++ keys_of self.old.pairs)) }
+    {
+        if declarations.get(entry.key()).is_some() {
+            return Ok(());
+        }
+        let declaration = entry.declaration(alloc, declarations.seeds())?;
+        self.put_pairs(alloc, path, entry.key(), &declaration)
+    }
+
+    /// The same of some listed functions, the last first.
+    fn put_listed(
+        &mut self,
+        alloc: Global,
+        path: &Texts,
+        declarations: &KeyTable<Declaration>,
+        listed: &[&FnManifestEntry],
+    ) -> Result<(), DeclFault>
+        ensures fills { OnOk result (Fills self.old self.new (pairs_at path.now (without declarations.now.pairs (map (λ e. entry_pair declarations.now.seeds e.now) listed.now))) (λ _. false)
+            (list_any (λ p. is_global_namespace p.1.metadata.namespace) (without declarations.now.pairs (map (λ e. entry_pair declarations.now.seeds e.now) listed.now)))) }
+        ensures clash { IfErr result (IsClash self.old.seeds (keys_of (pairs_at path.now (without declarations.now.pairs (map (λ e. entry_pair declarations.now.seeds e.now) listed.now))) ++ keys_of self.old.pairs)) }
+    {
+        for entry in listed.iter().rev() {
+            self.put_entry(alloc, path, declarations, entry)?;
+        }
+        Ok(())
+    }
 }
 
 impl Module {
+    /// Puts what is found in the module itself into an index, the last first.
+    fn put_own(&self, alloc: Global, path: &Texts, index: &mut TreeIndex) -> Result<(), DeclFault>
+        ensures fills { OnOk result (Fills index.old index.new (pairs_at path.now (shown self.now.own)) (λ hash. declares_dynamic index.old.seeds hash self.now.own) (declares_global self.now.own)) }
+        ensures clash { IfErr result (IsClash index.old.seeds (keys_of (pairs_at path.now (shown self.now.own)) ++ keys_of index.old.pairs)) }
+    {
+        let listed = self.listed.firsts(alloc)?;
+        index.mark_by(&self.eager, listed.as_slice(), &self.filter);
+        index.put_listed(alloc, path, &self.eager, listed.as_slice())?;
+        index.put_all(alloc, path, &self.eager)
+    }
+
     /// Puts what is found in the module and below it into an index, the last first.
     fn index_into(
         &self,
@@ -228,8 +294,7 @@ impl Module {
             below.push(name.dup(alloc)?)?;
             child.index_into(alloc, &below, index)?;
         }
-        index.mark_by(&self.eager, &self.filter);
-        index.put_all(alloc, path, &self.eager)
+        self.put_own(alloc, path, index)
     }
 
     /// The index of its tree.

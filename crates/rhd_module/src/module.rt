@@ -13,7 +13,9 @@ ghost use Rattle.rhd_hash.specs.Refusal.{IsRefusal};
 ghost use Rattle.rhd_hash.specs.declared.fault.TableFault.{TableFault};
 ghost use Rattle.rhd_decl.specs.Collisions.{collision};
 ghost use Rattle.rhd_module.specs.Tree.{empty_module};
-ghost use Rattle.rhd_module.specs.Below.{has_slot};
+ghost use Rattle.rhd_manifest.specs.Entry.{entry_decl};
+ghost use Rattle.rhd_manifest.specs.Rank.{find_entry};
+ghost use Rattle.rhd_module.specs.Below.{has_slot, lists_dynamic};
 ghost use Rattle.rhd_module.specs.Shown.{own_decl};
 ghost use Rattle.rhd_module.specs.Registered.{put, with_decl, Puts};
 ghost use Rattle.rhd_module.specs.Contents.{commented, comment_on, with_comments};
@@ -24,8 +26,9 @@ use crate::index::TreeIndex;
 use crate::native_index::NativeIndex;
 use indexmap::map::Values;
 use rhd_decl::{CustomTypesCollection, DeclFault, Declaration, Switches};
-use rhd_func::{RhaiFunc, SharedText};
+use rhd_func::{ManifestId, RhaiFunc, SharedText};
 use rhd_hash::{BloomFilterU64, HashedKey, Key, KeyTable, Seeds, Steps};
+use rhd_manifest::Listing;
 use rhd_value::{Entries, OutOfMemory, Text, Texts, TypeTag};
 use std::alloc::{AllocError, Global};
 use std::collections::BTreeMap;
@@ -41,9 +44,13 @@ pub struct Module {
     pub(crate) vars: Entries,
     /// Declarations, in the order in which their keys came first.
     pub(crate) eager: KeyTable<Declaration>,
+    /// Manifests, each with whether it is flattened.
+    pub(crate) manifests: Vec<(ManifestId, bool)>,
+    /// What these list.
+    pub(crate) listed: Listing,
     pub(crate) subs: BTreeMap<Text, Rc<Module>>,
     pub(crate) flags: Switches,
-    /// Marks the hashes of its own keys that have a parameter of any type.
+    /// Marks the hashes of its own keys, listed ones too, that have a parameter of any type.
     pub(crate) filter: BloomFilterU64<8>,
     /// What it has of its tree, while it is indexed. Copies share it.
     pub(crate) index: Rc<TreeIndex>,
@@ -73,7 +80,8 @@ impl Model for Module {
         types = m.types;
         vars = m.vars;
         eager = m.eager.pairs;
-        manifests = [];
+        manifests = m.manifests.items;
+        listed = m.listed;
         iterators = [];
         internal = m.flags.internal;
         standard = m.flags.standard;
@@ -92,7 +100,8 @@ impl Model for Module {
           types = m.types;
           vars = m.vars;
           eager = m.eager.pairs;
-          manifests = [];
+          manifests = m.manifests.items;
+          listed = m.listed;
           iterators = [];
           internal = m.flags.internal;
           standard = m.flags.standard;
@@ -106,7 +115,8 @@ impl Model for Module {
             types = m.types;
             vars = m.vars;
             eager = m.eager.pairs;
-            manifests = [];
+            manifests = m.manifests.items;
+            listed = m.listed;
             iterators = [];
             internal = m.flags.internal;
             standard = m.flags.standard;
@@ -180,6 +190,8 @@ impl Module {
             types: CustomTypesCollection::new(alloc),
             vars: Entries::new(alloc),
             eager: KeyTable::new(alloc, seeds),
+            manifests: Vec::new(alloc),
+            listed: Listing::new(alloc),
             subs: BTreeMap::new(alloc),
             flags,
             filter: BloomFilterU64::new(),
@@ -234,26 +246,28 @@ impl Module {
         }
     }
 
-    /// Takes all declarations out. The module isn't indexed any more.
+    /// Takes all declarations and manifests out. The module isn't indexed any more.
     pub(crate) fn clear_fns(&mut self, alloc: Global)
-        ensures { self.new ≡ record self.old { own = record self.old.own { eager = []; indexed = false } } }
+        ensures { self.new ≡ record self.old { own = record self.old.own { eager = []; manifests = []; listed = []; indexed = false } } }
     {
         self.flags.set_indexed(false);
         self.eager = KeyTable::new(alloc, self.eager.seeds());
+        self.manifests = Vec::new(alloc);
+        self.listed = Listing::new(alloc);
         self.filter = BloomFilterU64::new();
         self.natives = NativeIndex::new(alloc);
         self.scripts = false;
     }
 
-    /// Sets the comments of the declaration under a key. Answers whether there is one.
-    #[tactic(auto, unfolding(crate::specs::Shown::own_decl))]
+    /// Sets the comments of the declaration under a key. Answers whether there is one; a listed function is
+    /// none.
     pub fn set_fn_comments(
         &mut self,
         alloc: Global,
         key: &Key,
         comments: Texts,
     ) -> Result<bool, OutOfMemory>
-        ensures answer { IfOk result (λ found. found ≡ is_some (own_decl self.old key.now)) }
+        ensures answer { IfOk result (λ found. found ≡ is_some (lookup (key_eq key.now) self.old.own.eager)) }
         ensures ok { OnOk result (self.new ≡ with_comments key.now comments self.old) }
         ensures err { OnErr result (self.new ≡ self.old) }
     {
@@ -261,7 +275,7 @@ impl Module {
         Ok(found)
     }
 
-    /// The function that is declared under a key. It is one look-up more.
+    /// The function that is declared under a key, or else listed under it. It is one look-up more.
     pub fn get_fn(&self, key: &Key, steps: &mut Steps) -> Option<&RhaiFunc>
         ensures found { option_copied result ≡ option_map (λ d. d.func) (own_decl self.now key.now) }
         ensures steps { steps.new ≡ raised steps.old 1 }
@@ -269,7 +283,8 @@ impl Module {
         self.get_hashed_fn(&HashedKey::new(key, self.seeds()), steps)
     }
 
-    /// The function that is declared under a key whose hash is at hand. It is one look-up more.
+    /// The function that is declared under a key whose hash is at hand, or else listed under it. It is one
+    /// look-up more.
     #[tactic(auto, unfolding(crate::specs::Shown::own_decl))]
     pub fn get_hashed_fn(&self, key: &HashedKey, steps: &mut Steps) -> Option<&RhaiFunc>
         ensures found { option_copied result ≡ option_map (λ d. d.func) (own_decl self.now key.now) }
@@ -281,16 +296,45 @@ impl Module {
         }
         match self.eager.get_hashed(key) {
             Some(declaration) => Some(&declaration.func),
+            None => self.get_listed(key.key()),
+        }
+    }
+
+    /// The function that is listed under a key.
+    fn get_listed(&self, key: &Key) -> Option<&RhaiFunc>
+        ensures { option_copied result ≡ option_map (λ e. (entry_decl self.now.own.seeds e).func) (find_entry key.now self.now.own.listed) }
+    {
+        if self.listed.is_empty() {
+            return None;
+        }
+        match self.listed.find(key) {
+            Some(entry) => Some(entry.plugin()),
             None => None,
         }
     }
 
-    /// Whether a function is declared under a key. It is no look-up of a call.
+    /// Whether a function is declared or listed under a key. It is no look-up of a call.
     #[tactic(auto, unfolding(crate::specs::Shown::own_decl))]
     pub fn contains_fn(&self, key: &Key) -> bool
         ensures { result ≡ is_some (own_decl self.now key.now) }
     {
-        self.eager.get(key).is_some()
+        self.eager.get(key).is_some() || self.listed.find(key).is_some()
+    }
+
+    /// The manifests that it lists, each with whether it is flattened, in the order in which they were
+    /// added.
+    pub fn iter_manifests(&self) -> &[(ManifestId, bool)]
+        ensures { result.now ≡ self.now.own.manifests }
+    {
+        self.manifests.as_slice()
+    }
+
+    /// False only where it lists no function with a parameter of any type whose name and number of
+    /// parameters have this hash.
+    pub fn may_list_dynamic_fn(&self, hash: u64) -> bool
+        ensures { result ≡ false → lists_dynamic self.now.own.seeds hash self.now.own.listed ≡ false }
+    {
+        !self.listed.is_empty() && !self.filter.is_absent(hash)
     }
 
     /// The declarations with their keys, in order.
@@ -300,7 +344,7 @@ impl Module {
         self.eager.iter()
     }
 
-    /// Whether a native is declared under this name each of whose types is the argument's kind, or,
+    /// Whether a native that isn't listed is declared under this name each of whose types is the argument's kind, or,
     /// behind the first `exact` ones, `Dynamic`.
     pub fn may_match(&self, exact: usize, name: &Text, kinds: &[TypeTag]) -> bool
         ensures { result ≡ may_match self.now exact name.now kinds.now }
@@ -333,6 +377,8 @@ impl Module {
             types: self.types.dup(alloc)?,
             vars: self.vars.dup(alloc)?,
             eager: dup_declarations(alloc, &self.eager)?,
+            manifests: Vec::from_slice(alloc, self.manifests.as_slice())?,
+            listed: self.listed.dup(alloc)?,
             subs: self.subs.clone()?,
             flags: self.flags.dup(),
             filter: self.filter.clone()?,

@@ -303,9 +303,12 @@ impl Module {
             Ok(metadata) => metadata.hash,
             Err(fault) => return Err(fault),
         };
-        let setter = set_reg.set_into_module(alloc, &mut copy, natives, set)?;
+        let setter = match set_reg.set_into_module(alloc, &mut copy, natives, set) {
+            Ok(metadata) => metadata.hash,
+            Err(fault) => return Err(fault),
+        };
         *self = copy;
-        Ok((getter, setter.hash))
+        Ok((getter, setter))
     }
 
     /// Registers the natives of two numbers as the getter and the setter of a property, both or none. The

@@ -3,7 +3,7 @@ use Rattle.std.specs.declared.rc.Rc.{Rc}
 use Rattle.std.specs.Map.{keys_of}
 use Rattle.std.specs.Result.{OnOk, IfErr}
 use Rattle.rhd_value.specs.Tree.{Bytes}
-use Rattle.rhd_module.specs.Tree.{ModuleTree, Pairs, subs_of}
+use Rattle.rhd_module.specs.Tree.{ModuleTree, Subs, Pairs, subs_of}
 use Rattle.rhd_module.specs.Shown.{shown}
 use Rattle.rhd_module.specs.Walk.{walk, below}
 use Rattle.rhd_module.specs.Below.{some_below, some_in, declares_global, declares_dynamic}
@@ -48,26 +48,24 @@ pub returns-clause-fills : goal.returns-clause-fills
 returns-clause-fills t c =
     let path = c.args.path.now in
     let done = c.loop-name.invariant.0 in
-    let m = the_view c.self.inside in
+    let old = c.args.index.now in
+    let m = c.args.self.now in
     let source = c.into_iter-name-iterator.ensures.into_iter_gives ∙ c.iter-name-items.ensures.rest in
     let all : done ≡ c.self.inside.subs.entries =
     sym (append-nil done) ∙ sym (c.loop-name.invariant.1 ∙ ap (λ (r : List (Bytes × Rc ModuleTree Global)). done ++ r) c.in-None.ensures.steps.0) ∙ source in
-    let F : List (Bytes × Rc ModuleTree Global) → Type 0 =
-    λ es. Fills c.args.index.now c.loop-name.index (below path (subs_of es)) (λ v. some_below (declares_dynamic c.args.index.now.seeds v) (subs_of es)) (some_below declares_global (subs_of es)) in
-    let P : ModuleTree → Type 0 = λ m. OnOk c.put_all.result (Fills c.args.index.now c.put_all.new.self (walk path m) (λ v. some_in (declares_dynamic c.args.index.now.seeds v) m) (some_in declares_global m)) in
-    subst P c.self.view_is
-    (on_more c.put_all.result _ _ (λ own. fills_module c.args.index.now c.loop-name.index c.mark_by.new.self c.put_all.new.self path m (subst F all c.loop-name.invariant.2) c.mark_by.ensures own) c.put_all.ensures.fills)
+    let subs : subs_of done ≡ m.subs = ap subs_of all ∙ ap (λ (t : ModuleTree). t.subs) c.self.view_is in
+    let F : Subs → Type 0 = λ s. Fills old c.loop-name.index (below path s) (λ v. some_below (declares_dynamic old.seeds v) s) (some_below declares_global s) in
+    on_more c.put_own.result _ _ (λ own. fills_module old c.loop-name.index c.put_own.new.index path m (subst F subs c.loop-name.invariant.2) own) c.put_own.ensures.fills
 
 pub returns-clause-clash : goal.returns-clause-clash
 returns-clause-clash t c =
     let path = c.args.path.now in
     let done = c.loop-name.invariant.0 in
-    let m = the_view c.self.inside in
+    let old = c.args.index.now in
+    let m = c.args.self.now in
     let source = c.into_iter-name-iterator.ensures.into_iter_gives ∙ c.iter-name-items.ensures.rest in
     let all : done ≡ c.self.inside.subs.entries =
     sym (append-nil done) ∙ sym (c.loop-name.invariant.1 ∙ ap (λ (r : List (Bytes × Rc ModuleTree Global)). done ++ r) c.in-None.ensures.steps.0) ∙ source in
-    let F : List (Bytes × Rc ModuleTree Global) → Type 0 =
-    λ es. Fills c.args.index.now c.loop-name.index (below path (subs_of es)) (λ v. some_below (declares_dynamic c.args.index.now.seeds v) (subs_of es)) (some_below declares_global (subs_of es)) in
-    let P : ModuleTree → Type 0 = λ m. IfErr c.put_all.result (IsClash c.args.index.now.seeds (keys_of (walk path m) ++ keys_of c.args.index.now.pairs)) in
-    subst P c.self.view_is
-    (if_more c.put_all.result _ _ (λ f h. clash_module c.args.index.now c.loop-name.index c.mark_by.new.self path m _ _ _ _ f (subst F all c.loop-name.invariant.2) c.mark_by.ensures h) c.put_all.ensures.clash)
+    let subs : subs_of done ≡ m.subs = ap subs_of all ∙ ap (λ (t : ModuleTree). t.subs) c.self.view_is in
+    let F : Subs → Type 0 = λ s. Fills old c.loop-name.index (below path s) (λ v. some_below (declares_dynamic old.seeds v) s) (some_below declares_global s) in
+    if_more c.put_own.result _ _ (λ f h. clash_module old c.loop-name.index path m _ _ f (subst F subs c.loop-name.invariant.2) h) c.put_own.ensures.clash

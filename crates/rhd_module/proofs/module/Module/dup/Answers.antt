@@ -1,4 +1,4 @@
-use Rattle.std.proofs.Common.{◌≡◌, ℕ, List, [], sym, ap, subst, ◌∙◌, Global}
+use Rattle.std.proofs.Common.{◌≡◌, ◌||◌, ℕ, List, [], sym, ap, subst, ◌∙◌, Global}
 use Rattle.std.specs.List.{list_any}
 use Rattle.rhd_hash.specs.Filter.{is_marked}
 use Rattle.rhd_hash.specs.Table.{Table}
@@ -9,7 +9,8 @@ use Rattle.rhd_module.specs.Index.{Indexed, IsIndexOf}
 use Rattle.rhd_module.specs.NativeIndex.{places_from}
 use Rattle.rhd_module.specs.Scripts.{has_script}
 use Rattle.rhd_module.specs.contracts.module.Module.{the_view}
-use Rattle.rhd_module.specs.Below.{may_be_dynamic}
+use Rattle.rhd_manifest.specs.Entry.{Entry}
+use Rattle.rhd_module.specs.Below.{may_be_dynamic, lists_dynamic}
 use Rattle.rhd_module.proofs.SubModules.{subs_clone}
 use Rattle.rhd_module.proofs.module.Module.dup.Goals as goal
 
@@ -18,7 +19,7 @@ returns c =
     let inside = c.self.inside in
     let id = c.in_ok-share_id.ensures ∙ ap (λ (m : ModuleTree). m.own.id) (sym c.self.view_is) in
     let eager = c.in_ok-dup_declarations.ensures in
-    let flags = c.dup-4.ensures in
+    let flags = c.dup-5.ensures in
     let subs = subs_clone {Z = Global} inside.subs.entries c.in_ok-clone.field-0.entries c.in_ok-clone.ensures.cases in
     let same : _ ≡ _ = λ i. record {
       own = record {
@@ -27,7 +28,8 @@ returns c =
         types = c.in_ok-dup-2.ensures i;
         vars = c.in_ok-dup-3.ensures i;
         eager = (eager i).pairs;
-        manifests = [];
+        manifests = (c.in_ok-from_slice.ensures.items ∙ c.as_slice.ensures.value) i;
+        listed = c.in_ok-dup-4.ensures i;
         iterators = [];
         internal = (flags i).internal;
         standard = (flags i).standard;
@@ -43,10 +45,10 @@ invariant_of-result c =
     let inside = c.self.inside in
     let eager = c.in_ok-dup_declarations.ensures in
     let subs = subs_clone {Z = Global} inside.subs.entries c.in_ok-clone.field-0.entries c.in_ok-clone.ensures.cases in
-    let P : Indexed × (Table Declaration × Subs) → Type 0 =
-    λ p. IsIndexOf p.0 (record { own = record (the_view inside).own { eager = p.1.0.pairs; seeds = p.1.0.seeds }; subs = p.1.1 }) in (
-      λ name. c.in_ok-dup-4.ensures name ∙ c.self.invariant.0 name ∙ ap (λ (t : Table Declaration). places_from 0 name t.pairs) (sym eager),
+    let P : Indexed × (Table Declaration × (Subs × List Entry)) → Type 0 =
+    λ p. IsIndexOf p.0 (record { own = record (the_view inside).own { eager = p.1.0.pairs; listed = p.1.1.1; seeds = p.1.0.seeds }; subs = p.1.1.0 }) in (
+      λ name. c.in_ok-dup-5.ensures name ∙ c.self.invariant.0 name ∙ ap (λ (t : Table Declaration). places_from 0 name t.pairs) (sym eager),
       λ none. ap (λ (t : Table Declaration). has_script t.pairs) eager ∙ c.self.invariant.1 none,
-      λ v. ap (λ (f : List ℕ). is_marked 8 f v) c.in_ok-clone-2.ensures.cases ∙ c.self.invariant.2 v ∙ ap (λ (t : Table Declaration). list_any (λ p. may_be_dynamic t.seeds v p.0) t.pairs) (sym eager),
-      λ is. subst P (λ i. (sym c.in_ok-clone-3.ensures.cases i, (sym eager i, sym subs i))) (c.self.invariant.3 (sym (ap (λ (f : Flagged). f.indexed) c.dup-4.ensures) ∙ is)),
+      λ v. ap (λ (f : List ℕ). is_marked 8 f v) c.in_ok-clone-2.ensures.cases ∙ c.self.invariant.2 v ∙ (λ i. list_any (λ p. may_be_dynamic (sym eager i).seeds v p.0) (sym eager i).pairs || lists_dynamic (sym eager i).seeds v (sym c.in_ok-dup-4.ensures i)),
+      λ is. subst P (λ i. (sym c.in_ok-clone-3.ensures.cases i, (sym eager i, (sym subs i, sym c.in_ok-dup-4.ensures i)))) (c.self.invariant.3 (sym (ap (λ (f : Flagged). f.indexed) c.dup-5.ensures) ∙ is)),
     )

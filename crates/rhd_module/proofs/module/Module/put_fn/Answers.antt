@@ -45,7 +45,7 @@ invariant_of-self-in-Ok-true c =
     let index = index_put_there c.self.inside.natives key c.args.declaration es c.self.invariant.0 there in
     let scripts = noted_put c.self.inside.scripts c.is_script.result key c.args.declaration es c.put_pair.new.table.pairs c.self.invariant.1 c.is_script.ensures puts in
     let seeds = ap (λ (t : Table Declaration). t.seeds) c.in-Ok-true.ensures.pairs in
-    let filter = filter_there c.self.inside.filter c.self.inside.eager.seeds c.put_pair.new.table.seeds key c.args.declaration es c.put_pair.new.table.pairs c.self.invariant.2 there seeds puts in (
+    let filter = filter_there c.self.inside.filter c.self.inside.eager.seeds c.put_pair.new.table.seeds key c.args.declaration es c.put_pair.new.table.pairs c.self.inside.listed c.self.invariant.2 there seeds puts in (
       subst (λ (ps : Pairs). IsIndex c.self.inside.natives ps) (sym puts) index,
       scripts,
       filter,
@@ -65,7 +65,7 @@ invariant_of-self-in-Ok c =
     let notes : P (put key d es) (length es) = subst (λ (ps : Pairs). P ps (length es)) puts (subst (λ (place : ℕ). P c.put_pair.new.table.pairs place) c.len-place.ensures c.in-Ok.ensures.ok) in
     let scripts = noted_put c.self.inside.scripts c.is_script.result key d es c.put_pair.new.table.pairs c.self.invariant.1 c.is_script.ensures puts in
     let seeds = ap (λ (t : Table Declaration). t.seeds) c.in-Ok-false.ensures.pairs in
-    let filter = filter_last c.self.inside.filter c.mark_dynamic.new.filter c.self.inside.eager.seeds c.put_pair.new.table.seeds key d es c.put_pair.new.table.pairs c.dynamic_hash-dynamic.result c.self.invariant.2
+    let filter = filter_last c.self.inside.filter c.mark_dynamic.new.filter c.self.inside.eager.seeds c.put_pair.new.table.seeds key d es c.put_pair.new.table.pairs c.self.inside.listed c.dynamic_hash-dynamic.result c.self.invariant.2
     (c.dynamic_hash-dynamic.ensures ∙ ap (λ (s : Seeds). dynamic_hash s key) c.seeds.ensures) c.mark_dynamic.ensures seeds puts in (
       subst (λ (ps : Pairs). IsIndex new ps) (sym puts) (index_put_last old new key d es c.self.invariant.0 absent notes),
       scripts,

@@ -20,8 +20,8 @@ invariant_of-self-2 c =
     let new : ModuleTree = the_view (record c.self.inside { eager = c.comment_pair.new.table }) in (
       λ name. c.self.invariant.0 name ∙ sym (places_commented key comments 0 name es) ∙ ap (places_from 0 name) (sym is),
       λ none. ap has_script is ∙ scripts_commented key comments es ∙ c.self.invariant.1 none,
-      filter_commented key comments c.self.inside.filter (the_view c.self.inside).own new.own is same c.self.invariant.2,
-      λ indexed. index_commented key comments c.self.inside.index.value (the_view c.self.inside) new is same refl (c.self.invariant.3 indexed),
+      filter_commented key comments c.self.inside.filter (the_view c.self.inside).own new.own is same refl c.self.invariant.2,
+      λ indexed. index_commented key comments c.self.inside.index.value (the_view c.self.inside) new is same refl refl (c.self.invariant.3 indexed),
     )
 
 -- where memory runs out, all is as before
