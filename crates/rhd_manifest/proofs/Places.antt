@@ -170,7 +170,7 @@ no_script (Typed path name params this_type) (e ∷ es) h = no_script (Typed pat
 no_script (Native path name types) es h = absurd (true≢false (sym h))
 
 -- what a pop leaves after a push
-pub popped : (es all news : List Entry) (e : Entry) (r : Option Entry) → all ≡ es ++ e ∷ [] → all ≡ news ++ option_to_list r → IsSome r → news ≡ es
+pub popped : {A : Type 0} (es all news : List A) (e : A) (r : Option A) → all ≡ es ++ e ∷ [] → all ≡ news ++ option_to_list r → IsSome r → news ≡ es
 popped es all news e None p q h = absurd (cc)
 popped es all news e (Some x) p q h =
     let n : length news ≡ length es = omega (arith, ap length p, ap length q, length-append es (e ∷ []), length-append news (x ∷ [])) in

@@ -135,6 +135,13 @@ impl FnManifestEntry {
         f(self.param_types.as_slice())
     }
 
+    /// The types of its parameters, as its native has them.
+    pub fn param_types(&self) -> &[TypeTag]
+        ensures { result.now ≡ self.now.param_types }
+    {
+        self.param_types.as_slice()
+    }
+
     /// Whether the types of its parameters, as its native has them, are these.
     pub fn has_param_types(&self, types: &[TypeTag]) -> bool
         ensures { result ≡ types_eq self.now.param_types types.now }

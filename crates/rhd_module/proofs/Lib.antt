@@ -11,3 +11,4 @@ pub mod Fills
 pub mod Kept
 pub mod Absent
 pub mod Listed
+pub mod Banned

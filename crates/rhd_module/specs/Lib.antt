@@ -9,3 +9,4 @@ pub mod Index
 pub mod Matching
 pub mod NativeIndex
 pub mod Scripts
+pub mod Manifests

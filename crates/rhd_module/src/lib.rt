@@ -4,6 +4,7 @@
 mod contents;
 mod index;
 mod law;
+mod manifests;
 mod module;
 mod native_index;
 mod qualified;

@@ -169,7 +169,7 @@ fn put_pair(
 }
 
 /// Marks the hash of a key's name and number of parameters, if there is one.
-fn mark_dynamic(filter: &mut BloomFilterU64<8>, hash: Option<u64>)
+pub(crate) fn mark_dynamic(filter: &mut BloomFilterU64<8>, hash: Option<u64>)
     ensures { (v : _) → is_marked 8 filter.new v ≡ (is_marked 8 filter.old v || has_slot hash v) }
 {
     if let Some(hash) = hash {

@@ -1,0 +1,130 @@
+//! Manifests in modules.
+
+ghost use Rattle.std.specs.Prelude.{◌≡◌, ◌||◌, ℕ, true, false, OnOk, OnErr, IfSome, IfNone};
+ghost use Rattle.std.specs.List.{list_any, find, Contains};
+ghost use Rattle.std.specs.Option.{option_copied};
+ghost use Rattle.rhd_hash.specs.Filter.{is_marked};
+ghost use Rattle.rhd_manifest.specs.Entry.{entry_key};
+ghost use Rattle.rhd_manifest.specs.Listing.{listed_in};
+ghost use Rattle.rhd_manifest.specs.Rank.{rank};
+ghost use Rattle.rhd_module.specs.Below.{lists_dynamic};
+ghost use Rattle.rhd_module.specs.Manifests.{with_listed, with_manifest, is_banned_entry, RefusesIndexers, AddsManifest};
+
+use crate::module::{Module, mark_dynamic};
+use crate::registration::is_banned;
+use rhd_decl::DeclFault;
+use rhd_func::ManifestId;
+use rhd_hash::{BloomFilterU64, Seeds};
+use rhd_manifest::{EntryList, FnManifestEntry, Listing, Manifests};
+use rhd_value::OutOfMemory;
+use std::alloc::Global;
+use std::rc::Rc;
+
+/// Whether a listed function is an indexer of a type whose indexing has its meaning already.
+fn is_banned_entry(entry: &FnManifestEntry) -> bool
+    ensures { result ≡ is_banned_entry entry.now }
+{
+    is_banned(entry.name(), entry.param_types())
+}
+
+/// The first of some listed functions that is one.
+fn find_banned(entries: &[FnManifestEntry]) -> Option<&FnManifestEntry>
+    ensures { option_copied result ≡ find is_banned_entry entries.now }
+{
+    for entry in entries {
+        if is_banned_entry(entry) {
+            return Some(entry);
+        }
+    }
+    None
+}
+
+/// One of all that some manifests list.
+fn find_banned_in(parts: &[Rc<EntryList>]) -> Option<&FnManifestEntry>
+    ensures none { IfNone result (list_any is_banned_entry (listed_in parts.now) ≡ false) }
+    ensures some { IfSome result (λ e. Contains (listed_in parts.now) e.now × (is_banned_entry e.now ≡ true)) }
+{
+    for part in parts {
+        let found = find_banned(part.as_slice());
+        if found.is_some() {
+            return found;
+        }
+    }
+    None
+}
+
+/// Refuses a manifest of which an indexer is banned, or one of a manifest below it.
+fn refuse_indexers(alloc: Global, manifests: &Manifests, id: ManifestId) -> Result<(), DeclFault>
+    ensures { RefusesIndexers (rank manifests.now id true) result }
+{
+    let listing = manifests.listing(alloc, id, true)?;
+    match find_banned_in(listing.parts()) {
+        None => Ok(()),
+        Some(entry) => {
+            let key = entry.key().dup(alloc)?;
+            Err(DeclFault::IndexerNotAllowed { key })
+        }
+    }
+}
+
+/// Marks the hashes of the keys of listed functions that have a parameter of any type.
+fn mark_entries(filter: &mut BloomFilterU64<8>, seeds: Seeds, entries: &[FnManifestEntry])
+    ensures { (v : ℕ) → is_marked 8 filter.new v ≡ (is_marked 8 filter.old v || lists_dynamic seeds v entries.now) }
+{
+    for entry in entries {
+        mark_dynamic(filter, entry.key().dynamic_hash(seeds));
+    }
+}
+
+/// The same of all that some manifests list.
+fn mark_parts(filter: &mut BloomFilterU64<8>, seeds: Seeds, parts: &[Rc<EntryList>])
+    ensures { (v : ℕ) → is_marked 8 filter.new v ≡ (is_marked 8 filter.old v || lists_dynamic seeds v (listed_in parts.now)) }
+{
+    for part in parts {
+        mark_entries(filter, seeds, part.as_slice());
+    }
+}
+
+impl Module {
+    /// Puts what a manifest lists above what the module lists.
+    fn put_listing(
+        &mut self,
+        manifest: (ManifestId, bool),
+        listing: Listing,
+    ) -> Result<(), OutOfMemory>
+        ensures ok { OnOk result (self.new ≡ with_listed manifest listing self.old) }
+        ensures err { OnErr result (self.new ≡ self.old) }
+    {
+        let mut filter = self.filter.clone()?;
+        mark_parts(&mut filter, self.seeds(), listing.parts());
+        self.manifests.push(manifest)?;
+        match self.listed.raise(listing) {
+            Ok(()) => {
+                self.filter = filter;
+                self.flags.set_indexed(false);
+                Ok(())
+            }
+            Err(OutOfMemory) => {
+                self.manifests.pop();
+                Err(OutOfMemory)
+            }
+        }
+    }
+
+    /// Adds a manifest above those that the module has, flattened or not; nothing of it but its functions,
+    /// which are found only when they are called. The module isn't indexed any more.
+    pub fn add_manifest(
+        &mut self,
+        alloc: Global,
+        manifests: &Manifests,
+        id: ManifestId,
+        flatten: bool,
+    ) -> Result<(), DeclFault>
+        ensures { AddsManifest manifests.now id self.old (with_manifest manifests.now id flatten self.old) result self.new }
+    {
+        refuse_indexers(alloc, manifests, id)?;
+        let listing = manifests.listing(alloc, id, flatten)?;
+        self.put_listing((id, flatten), listing)?;
+        Ok(())
+    }
+}
