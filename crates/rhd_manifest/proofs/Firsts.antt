@@ -1,5 +1,5 @@
 -- Tests of some entries, and the first entry under each key.
-use Rattle.std.proofs.Common.{◌≡◌, ℕ, zero, suc, ◌+◌, ◌<◌, ◌≤◌, ◌||◌, Bool, true, false, not, cond, map, List, [], ◌∷◌, ◌++◌, reverse, length, drop, Option, None, Some, is_some, refl, sym, ap, ◌∙◌, arith, slice_get, true≢false, append-nil, append_assoc, get_or}
+use Rattle.std.proofs.Common.{◌≡◌, ℕ, zero, suc, ◌+◌, ◌<◌, ◌≤◌, ◌||◌, Bool, true, false, not, cond, map, List, [], ◌∷◌, ◌++◌, reverse, length, drop, Some, is_some, refl, sym, ap, ◌∙◌, arith, slice_get, true≢false, append-nil, append_assoc, get_or}
 use Rattle.std.proofs.lemmas.List.{reverse-append, drop_more}
 use Rattle.std.proofs.lemmas.List.Folds.{list_any-append}
 use Rattle.std.proofs.lemmas.List.Elements.{filter-append}
@@ -9,7 +9,7 @@ use Rattle.rhd_hash.specs.declared.key.Key.{Key}
 use Rattle.rhd_hash.specs.Keys.{key_eq}
 use Rattle.rhd_manifest.specs.Entry.{Entry, entry_key}
 use Rattle.rhd_manifest.specs.Listing.{listed_in}
-use Rattle.rhd_manifest.specs.Rank.{find_entry, firsts}
+use Rattle.rhd_manifest.specs.Rank.{firsts}
 
 module _ {X : Type 0} (t : X → Bool) where
   pub any_found : (xs : List X) → is_some (find t xs) ≡ list_any t xs

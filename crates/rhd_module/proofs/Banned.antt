@@ -1,5 +1,5 @@
 -- A listed function that is a banned indexer, and the marks of listed functions.
-use Rattle.std.proofs.Common.{◌≡◌, ℕ, ◌+◌, ◌<◌, ◌||◌, Bool, true, false, cond, List, [], ◌∷◌, ◌++◌, reverse, drop, take, length, Option, None, Some, is_some, refl, sym, ap, subst, ◌∙◌, Bor, arith, inl, inr}
+use Rattle.std.proofs.Common.{◌≡◌, ℕ, ◌||◌, Bool, true, false, cond, List, [], ◌∷◌, ◌++◌, reverse, Option, None, Some, is_some, refl, sym, ap, subst, ◌∙◌, Bor, arith, inl, inr}
 use Rattle.std.specs.List.{list_any, find, Contains}
 use Rattle.std.specs.Option.{option_copied, IfSome}
 use Rattle.std.specs.declared.rc.Rc.{Rc}
@@ -7,7 +7,7 @@ use Rattle.std.proofs.lemmas.List.{reverse-append}
 use Rattle.std.proofs.lemmas.List.Folds.{list_any-append}
 use Rattle.std.proofs.lemmas.List.Elements.{Contains-append_left, Contains-append_right, Contains-append_cases}
 use Rattle.rhd_hash.specs.declared.mixer.Seeds.{Seeds}
-use Rattle.rhd_manifest.specs.Entry.{Entry, entry_key}
+use Rattle.rhd_manifest.specs.Entry.{Entry}
 use Rattle.rhd_manifest.specs.Listing.{listed_in}
 use Rattle.rhd_manifest.proofs.Firsts.{any_found, any_reverse, listed_last}
 use Rattle.rhd_module.specs.Below.{lists_dynamic}

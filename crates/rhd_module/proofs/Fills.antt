@@ -159,10 +159,6 @@ module _ {Z : Type 0} where
       (λ v. (λ i. some_below (declares_dynamic o.seeds v) (subs_of done) || some_in (declares_dynamic (a.same_seeds i) v) x.1.value) ∙ tells (declares_dynamic o.seeds v)) (tells declares_global)
       (fills_then o m n (below path (subs_of done)) (walk (path ++ x.0 ∷ []) x.1.value) _ _ _ _ a b)
 
--- nothing is put in
-pub fills_nothing : (o : Indexed) → Fills o o [] (λ _. false) false
-fills_nothing o = record { same_seeds = refl; puts = refl; marks = λ v. sym (or_false (is_marked 8 o.marks v)); tells = sym (or_false o.has_global); apart = λ own. own }
-
 -- What is found in a module itself: the marks, then what is listed, then its declarations.
 module _ (o j l n : Indexed) (path : List Bytes) (own : Lists) where
   abbrev others : Pairs

@@ -12,3 +12,4 @@ pub mod Kept
 pub mod Absent
 pub mod Listed
 pub mod Banned
+pub mod Registers

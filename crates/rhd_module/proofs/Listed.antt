@@ -1,6 +1,6 @@
 -- What a module shows beside its declarations: what is listed, the first under each key.
-use Rattle.std.proofs.Common.{◌≡◌, ℕ, Bool, true, false, ◌||◌, not, cond, List, [], ◌∷◌, ◌++◌, map, Option, None, Some, is_some, is_none, refl, sym, ap, ◌∙◌, true≢false, append-nil, Bor}
-use Rattle.std.specs.List.{list_any, find, filter}
+use Rattle.std.proofs.Common.{◌≡◌, Bool, true, false, ◌||◌, not, cond, List, [], ◌∷◌, ◌++◌, map, Option, None, Some, is_some, is_none, refl, sym, ap, ◌∙◌, true≢false, Bor}
+use Rattle.std.specs.List.{list_any, filter}
 use Rattle.std.specs.Map.{lookup}
 use Rattle.std.specs.Option.{option_map, option_or, option_copied}
 use Rattle.std.proofs.lemmas.List.Folds.{list_any-append}
@@ -12,8 +12,8 @@ use Rattle.rhd_decl.specs.declared.declaration.Declaration.{Declaration}
 use Rattle.rhd_manifest.specs.Entry.{Entry, entry_key, entry_decl, entry_pair}
 use Rattle.rhd_manifest.specs.Rank.{find_entry, firsts}
 use Rattle.rhd_manifest.proofs.Places.{no_script}
-use Rattle.rhd_module.specs.Tree.{Lists, Pairs}
-use Rattle.rhd_module.specs.Shown.{without, shown_of, shown}
+use Rattle.rhd_module.specs.Tree.{Pairs}
+use Rattle.rhd_module.specs.Shown.{without, shown_of}
 
 same_key : (k q : Key) → key_eq k q ≡ true → k ≡ q
 same_key k q e = (key_eq-Decides k q).0 e
@@ -116,10 +116,6 @@ shown_some seeds eager listed k = by (lookup (key_eq k) eager) refl
     by : (o : Option Declaration) → lookup (key_eq k) eager ≡ o → is_some (lookup (key_eq k) (shown_of seeds eager listed)) ≡ (is_some (lookup (key_eq k) eager) || is_some (find_entry k listed))
     by None h = ap is_some (shown_past seeds eager listed k h) ∙ some_mapped (entry_decl seeds) (find_entry k listed) ∙ sym (ap (λ o. is_some o || is_some (find_entry k listed)) h)
     by (Some d) h = ap is_some (shown_found seeds eager listed k d h) ∙ sym (ap (λ o. is_some o || is_some (find_entry k listed)) h)
-
--- where nothing is listed, its declarations are all that it shows
-pub shown_none : (seeds : Seeds) (eager : Pairs) → shown_of seeds eager [] ≡ eager
-shown_none seeds eager = append-nil eager
 
 -- Tests of keys.
 module _ (f : Key → Bool) where

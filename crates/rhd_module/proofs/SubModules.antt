@@ -1,5 +1,5 @@
 -- The sub-modules of a map, after one is put and in a search for one.
-use Rattle.std.proofs.Common.{◌≡◌, ℕ, suc, eqb-true, arith, List, [], ◌∷◌, cond, Bool, true, false, ◌&&◌, ◌==◌, length, Option, None, Some, Bor, refl, ap, ◌∙◌}
+use Rattle.std.proofs.Common.{◌≡◌, ℕ, suc, eqb-true, arith, List, [], ◌∷◌, cond, Bool, true, false, ◌==◌, length, Option, None, Some, Bor, refl, ap, ◌∙◌}
 use Rattle.std.specs.List.{AllZip}
 use Rattle.std.specs.Option.{option_map, option_copied}
 use Rattle.std.specs.Ordering.{match_ordering, nat_cmp, is_eq}
@@ -52,10 +52,6 @@ module _ {Z : Type 0} where
 pub none_of : {A : Type 0} (xs : List A) → (length xs == 0) ≡ is_none_of xs
 none_of [] = refl
 none_of (x ∷ xs) = not_zero (length xs) (length (x ∷ xs) == 0) refl
-
-pub and_true : (b : Bool) → b ≡ (b && true)
-and_true true = refl
-and_true false = refl
 
 -- shared sub-modules are the same ones
 pub subs_clone : {Z : Type 0} (es fs : List (Bytes × Rc ModuleTree Z)) → AllZip (λ p q. (q.0 ≡ p.0) × (q.1.value ≡ p.1.value)) es fs → subs_of fs ≡ subs_of es

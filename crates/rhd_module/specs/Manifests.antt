@@ -1,14 +1,16 @@
 -- How manifests are added to a module.
-use Rattle.std.specs.Prelude.{◌≡◌, Bool, true, false, List, [], ◌∷◌, ◌++◌, Result, Ok, Err, ⊤}
+use Rattle.std.specs.Prelude.{◌≡◌, Bool, true, false, List, [], ◌∷◌, ◌++◌, map, Result, Ok, Err, ⊤}
 use Rattle.std.specs.List.{list_any, Contains}
+use Rattle.std.specs.Map.{keys_of}
+use Rattle.rhd_hash.specs.Table.{HasOwnHashes, Clashing}
 use Rattle.rhd_func.specs.declared.access.ManifestId.{ManifestId}
 use Rattle.rhd_decl.specs.declared.fault.DeclFault.{DeclFault}
-use Rattle.rhd_decl.specs.declared.fault.DeclFault.TheVariants.{IndexerNotAllowed, OutOfMemory}
-use Rattle.rhd_manifest.specs.Entry.{Entry, entry_key}
+use Rattle.rhd_decl.specs.declared.fault.DeclFault.TheVariants.{HashCollision, IndexerNotAllowed, OutOfMemory}
+use Rattle.rhd_manifest.specs.Entry.{Entry, entry_key, entry_pair}
 use Rattle.rhd_manifest.specs.Manifest.{ManifestLists}
 use Rattle.rhd_manifest.specs.Rank.{rank}
-use Rattle.rhd_module.specs.Registered.{is_banned}
-use Rattle.rhd_module.specs.Tree.{ModuleTree}
+use Rattle.rhd_module.specs.Registered.{is_banned, put}
+use Rattle.rhd_module.specs.Tree.{ModuleTree, Lists, Pairs}
 
 -- the module with what a manifest lists above what it lists; it isn't indexed any more
 abbrev pub with_listed : ManifestId × Bool → List Entry → ModuleTree → ModuleTree
@@ -33,3 +35,35 @@ RefusesIndexers es (Err fault) = ⊥
 abbrev pub AddsManifest : {A : Type 0} → List ManifestLists → ManifestId → ModuleTree → ModuleTree → Result A DeclFault → ModuleTree → Type 0
 AddsManifest table id old done (Ok answer) new = (list_any is_banned_entry (rank table id true) ≡ false) × (new ≡ done)
 AddsManifest table id old done (Err fault) new = RefusesIndexers {A = ManifestId} (rank table id true) (Err fault) × (new ≡ old)
+
+-- what is listed, as declarations under their keys
+abbrev pub lazy : Lists → Pairs
+lazy own = map (entry_pair own.seeds) own.listed
+
+-- declarations put in one after the other, the last first, and the first first
+abbrev pub put_back : Pairs → Pairs → Pairs
+put_back [] ps = ps
+put_back (p ∷ more) ps = put p.0 p.1 (put_back more ps)
+
+abbrev pub put_all : Pairs → Pairs → Pairs
+put_all [] ps = ps
+put_all (p ∷ more) ps = put_all more (put p.0 p.1 ps)
+
+-- the module with these declarations, indexed or not
+abbrev pub with_pairs : Pairs → Bool → ModuleTree → ModuleTree
+with_pairs ps indexed m = record m { own = record m.own { eager = ps; indexed = indexed } }
+
+-- what is listed, registered from the lowest precedence to the highest, and the declarations over it
+abbrev pub registered_pairs : Lists → Pairs
+registered_pairs own = put_all own.eager (put_back (lazy own) [])
+
+-- the module with what it lists registered; its manifests go
+abbrev pub registered : ModuleTree → ModuleTree
+registered m = record m { own = record m.own { eager = registered_pairs m.own; manifests = []; listed = []; indexed = false } }
+
+-- What registering it answers, and the module that it leaves: two keys of the table that it would leave refuse it, if they clash.
+abbrev pub RegistersListed : {A : Type 0} → ModuleTree → Result A DeclFault → ModuleTree → Type 0
+RegistersListed old (Ok answer) new = HasOwnHashes old.own.seeds (keys_of (registered_pairs old.own)) × (new ≡ registered old)
+RegistersListed old (Err OutOfMemory) new = new ≡ old
+RegistersListed old (Err (HashCollision held other)) new = Clashing old.own.seeds (keys_of (registered_pairs old.own)) held other × (new ≡ old)
+RegistersListed old (Err fault) new = ⊥

@@ -16,5 +16,7 @@ mod shared;
 pub use law::{a_declaration_leaves_the_others, a_key_finds_its_first_declaration};
 pub use module::Module;
 pub use registration::{FuncRegistration, is_pure_by_name, script_declaration, script_key};
-pub use rhd_decl::{CustomTypeInfo, CustomTypesCollection, DeclFault, Declaration, FuncMetadata};
+pub use rhd_decl::{
+    CustomTypeInfo, CustomTypesCollection, DeclFault, Declaration, FuncMetadata, native_key,
+};
 pub use shared::SharedModule;

@@ -1,20 +1,25 @@
 //! Manifests in modules.
 
-ghost use Rattle.std.specs.Prelude.{◌≡◌, ◌||◌, ℕ, true, false, OnOk, OnErr, IfSome, IfNone};
+ghost use Rattle.std.specs.Prelude.{◌≡◌, ◌||◌, ◌∷◌, [], ℕ, true, false, map, reverse, OnOk, OnErr, IfOk, IfErr, IfSome, IfNone};
 ghost use Rattle.std.specs.List.{list_any, find, Contains};
 ghost use Rattle.std.specs.Option.{option_copied};
 ghost use Rattle.rhd_hash.specs.Filter.{is_marked};
-ghost use Rattle.rhd_manifest.specs.Entry.{entry_key};
+ghost use Rattle.rhd_hash.specs.Table.{HasOwnHashes};
+ghost use Rattle.std.specs.Map.{keys_of};
+ghost use Rattle.rhd_manifest.specs.Entry.{entry_key, entry_pair};
 ghost use Rattle.rhd_manifest.specs.Listing.{listed_in};
 ghost use Rattle.rhd_manifest.specs.Rank.{rank};
 ghost use Rattle.rhd_module.specs.Below.{lists_dynamic};
-ghost use Rattle.rhd_module.specs.Manifests.{with_listed, with_manifest, is_banned_entry, RefusesIndexers, AddsManifest};
+ghost use Rattle.rhd_module.specs.Index.{IsClash};
+ghost use Rattle.rhd_module.specs.Manifests.{with_listed, with_manifest, is_banned_entry, RefusesIndexers, AddsManifest, with_pairs, put_back, put_all, registered_pairs, RegistersListed};
+ghost use Rattle.rhd_module.specs.Registered.{put};
+ghost use Rattle.rhd_module.specs.Tree.{empty_module};
 
 use crate::module::{Module, mark_dynamic};
 use crate::registration::is_banned;
-use rhd_decl::DeclFault;
+use rhd_decl::{DeclFault, Declaration};
 use rhd_func::ManifestId;
-use rhd_hash::{BloomFilterU64, Seeds};
+use rhd_hash::{BloomFilterU64, Key, Seeds};
 use rhd_manifest::{EntryList, FnManifestEntry, Listing, Manifests};
 use rhd_value::OutOfMemory;
 use std::alloc::Global;
@@ -85,6 +90,88 @@ fn mark_parts(filter: &mut BloomFilterU64<8>, seeds: Seeds, parts: &[Rc<EntryLis
     }
 }
 
+/// Declares a listed function in a module, in the place of one of an equal key, else last.
+fn register_entry(
+    target: &mut Module,
+    alloc: Global,
+    entry: &FnManifestEntry,
+) -> Result<(), DeclFault>
+    ensures ok { OnOk result (target.new ≡ with_pairs (put_back (entry_pair target.old.own.seeds entry.now ∷ []) target.old.own.eager) target.new.own.indexed target.old) }
+    ensures clash { IfErr result (IsClash target.old.own.seeds (keys_of (put_back (entry_pair target.old.own.seeds entry.now ∷ []) target.old.own.eager))) }
+{
+    let declaration = entry.declaration(alloc, target.seeds())?;
+    target.put_fn(alloc, entry.key().dup(alloc)?, declaration)
+}
+
+/// The same of several, from the first to the last.
+fn register_entries(
+    target: &mut Module,
+    alloc: Global,
+    entries: &[FnManifestEntry],
+) -> Result<(), DeclFault>
+    ensures ok { OnOk result (target.new ≡ with_pairs (put_back (map (entry_pair target.old.own.seeds) (reverse entries.now)) target.old.own.eager) target.new.own.indexed target.old) }
+    ensures clash { IfErr result (IsClash target.old.own.seeds (keys_of (put_back (map (entry_pair target.old.own.seeds) (reverse entries.now)) target.old.own.eager))) }
+{
+    for entry in entries {
+        register_entry(target, alloc, entry)?;
+    }
+    Ok(())
+}
+
+/// The same of all that some manifests list, from the lowest precedence to the highest.
+fn register_parts(
+    target: &mut Module,
+    alloc: Global,
+    parts: &[Rc<EntryList>],
+) -> Result<(), DeclFault>
+    ensures ok { OnOk result (target.new ≡ with_pairs (put_back (map (entry_pair target.old.own.seeds) (listed_in parts.now)) target.old.own.eager) target.new.own.indexed target.old) }
+    ensures clash { IfErr result (IsClash target.old.own.seeds (keys_of (put_back (map (entry_pair target.old.own.seeds) (listed_in parts.now)) target.old.own.eager))) }
+{
+    for part in parts {
+        register_entries(target, alloc, part.as_slice())?;
+    }
+    Ok(())
+}
+
+/// Declares a function once more, in the place of one of an equal key, else last.
+fn register_pair(
+    target: &mut Module,
+    alloc: Global,
+    key: &Key,
+    declaration: &Declaration,
+) -> Result<(), DeclFault>
+    ensures ok { OnOk result (target.new ≡ with_pairs (put key.now declaration.now target.old.own.eager) target.new.own.indexed target.old) }
+    ensures clash { IfErr result (IsClash target.old.own.seeds (keys_of (put key.now declaration.now target.old.own.eager))) }
+{
+    let declaration = declaration.dup(alloc)?;
+    target.put_fn(alloc, key.dup(alloc)?, declaration)
+}
+
+/// The same of all that another module declares.
+fn register_declared(target: &mut Module, alloc: Global, declared: &Module) -> Result<(), DeclFault>
+    ensures ok { OnOk result (target.new ≡ with_pairs (put_all declared.now.own.eager target.old.own.eager) target.new.own.indexed target.old) }
+    ensures clash { IfErr result (IsClash target.old.own.seeds (keys_of (put_all declared.now.own.eager target.old.own.eager))) }
+{
+    for (key, declaration) in declared.iter_fn() {
+        register_pair(target, alloc, key, declaration)?;
+    }
+    Ok(())
+}
+
+/// A module in which what another one lists is declared, from the lowest precedence to the highest, and
+/// over it what that one declares.
+fn registered(alloc: Global, lists: &Module) -> Result<Module, DeclFault>
+    ensures ok { IfOk result (λ m. m ≡ with_pairs (registered_pairs lists.now.own) m.own.indexed (empty_module lists.now.own.seeds)) }
+    ensures apart { IfOk result (λ m. HasOwnHashes lists.now.own.seeds (keys_of (registered_pairs lists.now.own))) }
+    ensures clash { IfErr result (IsClash lists.now.own.seeds (keys_of (registered_pairs lists.now.own))) }
+{
+    let mut target = Module::new(alloc, lists.seeds())?;
+    register_parts(&mut target, alloc, lists.listed.parts())?;
+    register_declared(&mut target, alloc, lists)?;
+    let _apart = target.iter_fn();
+    Ok(target)
+}
+
 impl Module {
     /// Puts what a manifest lists above what the module lists.
     fn put_listing(
@@ -125,6 +212,16 @@ impl Module {
         refuse_indexers(alloc, manifests, id)?;
         let listing = manifests.listing(alloc, id, flatten)?;
         self.put_listing((id, flatten), listing)?;
+        Ok(())
+    }
+
+    /// Registers what the module itself lists, from the lowest precedence to the highest, and puts its
+    /// declarations over it; its manifests go. The module isn't indexed any more.
+    pub fn register_listed(&mut self, alloc: Global) -> Result<(), DeclFault>
+        ensures { RegistersListed self.old result self.new }
+    {
+        let target = registered(alloc, self)?;
+        self.take_fns(alloc, target);
         Ok(())
     }
 }

@@ -259,6 +259,29 @@ impl Module {
         self.scripts = false;
     }
 
+    /// Takes the declarations of another module in the place of its own, and lists nothing any more. The
+    /// module isn't indexed any more.
+    pub(crate) fn take_fns(&mut self, alloc: Global, other: Module)
+        requires seeds { other.own.seeds ≡ self.old.own.seeds }
+        requires listed { other.own.listed ≡ [] }
+        ensures { self.new ≡ record self.old { own = record self.old.own { eager = other.own.eager; manifests = []; listed = []; indexed = false } } }
+    {
+        let Module {
+            eager,
+            filter,
+            natives,
+            scripts,
+            ..
+        } = other;
+        self.flags.set_indexed(false);
+        self.eager = eager;
+        self.filter = filter;
+        self.natives = natives;
+        self.scripts = scripts;
+        self.manifests = Vec::new(alloc);
+        self.listed = Listing::new(alloc);
+    }
+
     /// Sets the comments of the declaration under a key. Answers whether there is one; a listed function is
     /// none.
     pub fn set_fn_comments(
@@ -339,7 +362,8 @@ impl Module {
 
     /// The declarations with their keys, in order.
     pub fn iter_fn(&self) -> Values<'_, u64, (Key, Declaration)>
-        ensures { result ≡ self.now.own.eager }
+        ensures pairs { result ≡ self.now.own.eager }
+        ensures apart { HasOwnHashes self.now.own.seeds (keys_of self.now.own.eager) }
     {
         self.eager.iter()
     }

@@ -1,4 +1,4 @@
-use Rattle.std.proofs.Common.{◌≡◌, ◌<◌, ◌++◌, ◌∷◌, [], List, reverse, take, take_all, sym, ap, subst, append_assoc, ◌∙◌, arith}
+use Rattle.std.proofs.Common.{◌<◌, ◌++◌, List, reverse, take_all, sym, ap, subst, append_assoc, ◌∙◌, arith}
 use Rattle.std.specs.List.{flat_map, AllByRecursion}
 use Rattle.rhd_value.specs.Tree.{Bytes}
 use Rattle.rhd_func.specs.declared.access.ManifestId.{ManifestId}

@@ -1,5 +1,4 @@
-use Rattle.std.proofs.Common.{◌≡◌, ◌+◌, ◌-◌, ◌<◌, ◌++◌, ◌∷◌, [], List, Bool, cond, map, length, reverse, drop, get_or, subst, sym, ap, append-nil, ◌∙◌, arith}
-use Rattle.rhd_manifest.specs.Entry.{Entry}
+use Rattle.std.proofs.Common.{◌≡◌, ◌+◌, ◌-◌, ◌<◌, ◌++◌, ◌∷◌, [], cond, map, length, reverse, drop, get_or, sym, ap, append-nil, ◌∙◌, arith}
 use Rattle.rhd_manifest.specs.Listing.{listed_in}
 use Rattle.rhd_manifest.specs.Rank.{firsts}
 use Rattle.rhd_manifest.proofs.Firsts.{first_step, hidden_by, map_last}

@@ -1,9 +1,7 @@
-use Rattle.std.proofs.Common.{◌≡◌, ◌+◌, List, ◌∷◌, drop, reverse, sym, ap, subst, ◌∙◌}
+use Rattle.std.proofs.Common.{◌+◌, ◌∷◌, drop, reverse, sym, ap, subst, ◌∙◌}
 use Rattle.std.proofs.lemmas.List.{drop_more}
 use Rattle.std.proofs.lemmas.List.Elements.{Contains-append_left}
 use Rattle.std.specs.List.{list_any, find, Contains}
-use Rattle.std.specs.declared.rc.Rc.{Rc}
-use Rattle.rhd_manifest.specs.Entry.{Entry}
 use Rattle.rhd_manifest.specs.Listing.{listed_in}
 use Rattle.rhd_module.specs.Manifests.{is_banned_entry}
 use Rattle.rhd_module.proofs.Banned.{none_here, some_here}
@@ -25,6 +23,6 @@ loop-part-preserved c =
     let x = c.part-item.result in
     let next = drop_more ps i x c.loop-part-test.true ∙ ap (λ y. y ∷ drop (i + 1) ps) (sym c.part-item.is) in (
       sym (none_here is_banned_entry x (drop (i + 1) ps) c.find_banned-found.result (c.find_banned-found.ensures ∙ ap (find is_banned_entry) (c.as_slice.ensures ∙ c.deref.ensures)) (sym c.is_some.ensures ∙ c.if-is_some.false))
-      ∙ ap (λ xs. list_any is_banned_entry (listed_in xs)) (sym next) ∙ c.loop-part.invariant.0,
+          ∙ ap (λ xs. list_any is_banned_entry (listed_in xs)) (sym next) ∙ c.loop-part.invariant.0,
       λ e there. c.loop-part.invariant.1 e (subst (λ xs. Contains (listed_in xs) e) (sym next) (Contains-append_left (listed_in (drop (i + 1) ps)) (reverse x.value) e there)),
     )

@@ -1,4 +1,4 @@
-use Rattle.std.proofs.Common.{◌≡◌, ◌||◌, ◌∷◌, ◌++◌, [], take, sym, ap, ◌∙◌}
+use Rattle.std.proofs.Common.{◌||◌, ◌∷◌, ◌++◌, [], take, sym, ap, ◌∙◌}
 use Rattle.std.proofs.lemmas.List.{take_more}
 use Rattle.rhd_hash.specs.Filter.{is_marked}
 use Rattle.rhd_manifest.specs.Listing.{listed_in}

@@ -1,4 +1,4 @@
-use Rattle.std.proofs.Common.{◌≡◌, List, true, false, sym, subst, ◌∙◌}
+use Rattle.std.proofs.Common.{◌≡◌, List, false, subst, ◌∙◌}
 use Rattle.std.specs.List.{list_any, Contains}
 use Rattle.rhd_manifest.specs.Entry.{Entry}
 use Rattle.rhd_module.specs.Manifests.{is_banned_entry}

@@ -1,4 +1,4 @@
-use Rattle.std.proofs.Common.{◌≡◌, Some, is_some, nat_eq, sym, ap, ◌∙◌}
+use Rattle.std.proofs.Common.{Some, is_some, nat_eq, sym, ap, ◌∙◌}
 use Rattle.std.specs.HashMap.{get}
 use Rattle.rhd_manifest.specs.Index.{entry_at}
 use Rattle.rhd_manifest.proofs.Places.{not_less, behind_nothing, behind_last, before_last}

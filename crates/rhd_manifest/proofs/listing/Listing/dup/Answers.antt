@@ -1,7 +1,5 @@
-use Rattle.std.proofs.Common.{◌≡◌, ◌+◌, ◌++◌, ◌∷◌, [], List, reverse, take, sym, ap, ◌∙◌}
+use Rattle.std.proofs.Common.{◌++◌, ◌∷◌, [], reverse, take, sym, ap, ◌∙◌}
 use Rattle.std.proofs.lemmas.List.{take_more}
-use Rattle.std.specs.declared.rc.Rc.{Rc}
-use Rattle.rhd_manifest.specs.Entry.{Entry}
 use Rattle.rhd_manifest.specs.Listing.{listed_in}
 use Rattle.rhd_manifest.proofs.Firsts.{listed_last}
 use Rattle.rhd_manifest.proofs.listing.Listing.dup.Goals as goal

@@ -1,4 +1,4 @@
-use Rattle.std.proofs.Common.{◌≡◌, List, [], take, false, Bor}
+use Rattle.std.proofs.Common.{[], take, false}
 use Rattle.std.specs.List.{list_any}
 use Rattle.rhd_manifest.specs.Entry.{entry_key}
 use Rattle.rhd_module.specs.Below.{may_be_dynamic}

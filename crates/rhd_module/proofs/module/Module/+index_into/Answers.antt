@@ -1,7 +1,6 @@
 use Rattle.std.proofs.Common.{◌≡◌, ◌∷◌, [], ◌++◌, List, sym, ap, subst, ◌∙◌, append_assoc, append-nil, Global}
 use Rattle.std.specs.declared.rc.Rc.{Rc}
 use Rattle.std.specs.Map.{keys_of}
-use Rattle.std.specs.Result.{OnOk, IfErr}
 use Rattle.rhd_value.specs.Tree.{Bytes}
 use Rattle.rhd_module.specs.Tree.{ModuleTree, Subs, Pairs, subs_of}
 use Rattle.rhd_module.specs.Shown.{shown}

@@ -1,9 +1,8 @@
-use Rattle.std.proofs.Common.{◌≡◌, ◌||◌, List, sym, ap, ◌∙◌, true≢false}
+use Rattle.std.proofs.Common.{◌||◌, sym, ap, ◌∙◌, true≢false}
 use Rattle.std.specs.List.{list_any}
 use Rattle.rhd_hash.specs.Table.{Table}
 use Rattle.rhd_decl.specs.Flags.{Flagged}
 use Rattle.rhd_decl.specs.declared.declaration.Declaration.{Declaration}
-use Rattle.rhd_manifest.specs.Entry.{Entry}
 use Rattle.rhd_module.specs.NativeIndex.{places_from}
 use Rattle.rhd_module.specs.Scripts.{has_script}
 use Rattle.rhd_module.specs.Below.{may_be_dynamic, lists_dynamic}

@@ -1,4 +1,4 @@
-use Rattle.std.proofs.Common.{◌≡◌, ◌||◌, is_some, sym, ap, ◌∙◌}
+use Rattle.std.proofs.Common.{◌||◌, is_some, sym, ap, ◌∙◌}
 use Rattle.std.specs.Map.{lookup}
 use Rattle.rhd_hash.specs.Keys.{key_eq}
 use Rattle.rhd_manifest.specs.Rank.{find_entry}

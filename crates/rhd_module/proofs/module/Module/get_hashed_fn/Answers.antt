@@ -1,16 +1,13 @@
-use Rattle.std.proofs.Common.{rules, ◌≡◌, true, false, None, Some, sym, ap, ◌∙◌}
-use Rattle.std.specs.Option.{option_map, option_copied}
+use Rattle.std.proofs.Common.{rules, ◌≡◌, true, false, sym, ap, ◌∙◌}
+use Rattle.std.specs.Option.{option_map}
 use Rattle.std.specs.Map.{lookup}
-use Rattle.rhd_func.specs.declared.func.RhaiFunc.{RhaiFunc}
-use Rattle.rhd_decl.specs.declared.declaration.Declaration.{Declaration}
 use Rattle.rhd_hash.specs.Keys.{key_eq, is_script_key}
 use Rattle.rhd_manifest.specs.Entry.{entry_decl}
 use Rattle.rhd_manifest.specs.Rank.{find_entry}
-use Rattle.rhd_manifest.proofs.Places.{no_script}
 use Rattle.rhd_module.specs.Tree.{ModuleTree}
 use Rattle.rhd_module.specs.Shown.{own_decl}
 use Rattle.rhd_module.proofs.Scripts.{none_found}
-use Rattle.rhd_module.proofs.Listed.{shown_found, shown_past, func_found, func_past, func_none}
+use Rattle.rhd_module.proofs.Listed.{func_found, func_past, func_none}
 use Rattle.rhd_module.proofs.module.Module.get_hashed_fn.Goals as goal
 
 -- a script's key finds nothing where none was declared

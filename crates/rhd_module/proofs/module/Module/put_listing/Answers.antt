@@ -1,8 +1,8 @@
-use Rattle.std.proofs.Common.{◌≡◌, ◌<◌, Bool, List, sym, ap, subst, ◌∙◌, arith}
+use Rattle.std.proofs.Common.{Bool, List, sym, subst, arith}
 use Rattle.rhd_func.specs.declared.access.ManifestId.{ManifestId}
 use Rattle.rhd_manifest.specs.Entry.{Entry}
 use Rattle.rhd_manifest.proofs.Places.{popped}
-use Rattle.rhd_module.specs.Tree.{Lists, ModuleTree}
+use Rattle.rhd_module.specs.Tree.{Lists}
 use Rattle.rhd_module.specs.Index.{IsFilter, IsKept}
 use Rattle.rhd_module.specs.contracts.module.Module.{the_view}
 use Rattle.rhd_module.proofs.module.Module.put_listing.Goals as goal

@@ -1,19 +1,18 @@
-use Rattle.std.proofs.Common.{◌≡◌, ℕ, Bool, ◌||◌, List, [], ◌++◌, map, false, Bor, sym, ap, subst, ◌∙◌}
+use Rattle.std.proofs.Common.{◌≡◌, Bool, ◌||◌, ◌++◌, map, sym, ap, subst, ◌∙◌}
 use Rattle.std.specs.List.{list_any}
 use Rattle.std.specs.Map.{keys_of}
 use Rattle.std.specs.Result.{OnOk, IfErr}
 use Rattle.rhd_hash.specs.declared.key.Key.{Key}
-use Rattle.rhd_decl.specs.declared.declaration.Declaration.{Declaration}
-use Rattle.rhd_manifest.specs.Entry.{Entry, entry_key, entry_pair}
+use Rattle.rhd_manifest.specs.Entry.{entry_key}
 use Rattle.rhd_manifest.specs.Rank.{firsts}
-use Rattle.rhd_module.specs.Tree.{Lists, ModuleTree}
+use Rattle.rhd_module.specs.Tree.{ModuleTree}
 use Rattle.rhd_module.specs.Shown.{shown}
 use Rattle.rhd_module.specs.Walk.{pairs_at}
-use Rattle.rhd_module.specs.Below.{may_be_dynamic, lists_dynamic, declares_dynamic, declares_global}
+use Rattle.rhd_module.specs.Below.{may_be_dynamic, declares_dynamic, declares_global}
 use Rattle.rhd_module.specs.Index.{Fills, IsClash}
 use Rattle.rhd_module.proofs.Fills.{if_err, if_more, on_more, fills_lent, clash_lent, clash_last}
 use Rattle.rhd_module.specs.contracts.module.Module.{the_view}
-use Rattle.rhd_module.proofs.Listed.{any_firsts, any_lent, pairs_lent}
+use Rattle.rhd_module.proofs.Listed.{any_firsts, any_lent}
 use Rattle.rhd_module.proofs.module.Module.put_own.Goals as goal
 
 pub mark_by-requires : goal.mark_by-requires
