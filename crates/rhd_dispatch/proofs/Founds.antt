@@ -7,7 +7,7 @@ use Rattle.rhd_func.specs.declared.func.RhaiFunc.{RhaiFunc}
 use Rattle.rhd_hash.specs.declared.key.Key.{Key}
 use Rattle.rhd_hash.specs.Keys.{key_eq}
 use Rattle.rhd_decl.specs.declared.declaration.Declaration.{Declaration}
-use Rattle.rhd_module.specs.Shown.{own_decl}
+use Rattle.rhd_module.specs.Shown.{shown, own_decl}
 use Rattle.rhd_module.specs.Tree.{ModuleTree}
 use Rattle.rhd_module.specs.Walk.{tree, qualified}
 use Rattle.rhd_call.specs.declared.pick.Layer.{Layer}
@@ -21,7 +21,7 @@ by_func layer m (Some d) = refl
 
 pub found_own : (layer : Layer) (m : ModuleTree) (key : Key) (func : Option RhaiFunc) → func ≡ option_map (λ d. d.func) (own_decl m key) → option_map {U = Pick} (λ f. picked layer f m) func ≡ pick_at key (alone layer m)
 unfolding pick_at own_decl
-found_own layer m key func is = ap (option_map {U = Pick} (λ f. picked layer f m)) is ∙ by_func layer m (lookup (key_eq key) m.own.eager)
+found_own layer m key func is = ap (option_map {U = Pick} (λ f. picked layer f m)) is ∙ by_func layer m (lookup (key_eq key) (shown m.own))
 
 pub found_tree : (layer : Layer) (m : ModuleTree) (key : Key) (func : Option RhaiFunc) → func ≡ option_map (λ d. d.func) (qualified m key) → option_map {U = Pick} (λ f. picked layer f m) func ≡ pick_at key (rooted layer m)
 unfolding pick_at qualified

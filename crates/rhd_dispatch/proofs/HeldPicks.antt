@@ -18,6 +18,7 @@ use Rattle.rhd_hash.specs.declared.key.Key.{Key}
 use Rattle.rhd_hash.specs.declared.key.Key.TheVariants as keys
 use Rattle.rhd_decl.specs.declared.declaration.Declaration.{Declaration}
 use Rattle.rhd_hash.specs.Keys.{key_eq}
+use Rattle.rhd_module.specs.Shown.{shown}
 use Rattle.rhd_module.specs.Tree.{ModuleTree}
 use Rattle.rhd_call.specs.declared.pick.Layer.{Layer}
 use Rattle.rhd_call.specs.declared.pick.Layer.TheVariants.{Library, Global, Import, Static}
@@ -26,7 +27,7 @@ use Rattle.rhd_engine.specs.Engine.{EngineLists, Imports}
 use Rattle.rhd_engine.specs.declared.builtins.Operator.{Operator}
 use Rattle.rhd_engine.specs.Held.{func_held, own_held, below_held, names_held, all_held, named_held, builtins_held}
 use Rattle.rhd_engine.specs.Operators.{operator_eq}
-use Rattle.rhd_engine.proofs.HeldLaws.{parts, found_held}
+use Rattle.rhd_engine.proofs.HeldLaws.{parts, found_held, shown_held}
 use Rattle.rhd_engine.proofs.HeldTrees.{looked_up_held}
 use Rattle.rhd_engine.proofs.Tables.{table_held}
 use Rattle.rhd_module.specs.Walk.{tree}
@@ -70,7 +71,7 @@ PlaceHeld n place = (key : Key) (pick : Pick) → pick_at key place ≡ Some pic
 own_place_held : (n : ℕ) (e : EngineLists) (layer : ℕ → Layer) (i : ℕ) (m : ModuleTree) → names_held n m ≡ true → PlaceHeld n (own_place e layer (i, m))
 unfolding pick_at
 own_place_held n e layer i m all key pick is =
-    pick_held n (layer i) m.own.id (lookup (key_eq key) m.own.eager) pick (λ d h. found_held n key m.own.eager d (parts (own_held n m.own) (below_held n m.subs) all).0 h) is
+    pick_held n (layer i) m.own.id (lookup (key_eq key) (shown m.own)) pick (λ d h. found_held n key (shown m.own) d (shown_held n m.own (parts (own_held n m.own) (below_held n m.subs) all).0) h) is
 
 tree_place_held : (n : ℕ) (e : EngineLists) (layer : ℕ → Layer) (i : ℕ) (named : Bytes × ModuleTree) → names_held n named.1 ≡ true → PlaceHeld n (tree_place e layer (i, named))
 unfolding pick_at

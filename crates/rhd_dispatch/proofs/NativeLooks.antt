@@ -1,5 +1,5 @@
 -- Where no module may have a native, none is found.
-use Rattle.std.proofs.Common.{◌≡◌, ℕ, ◌+◌, Bool, true, false, cond, ◌&&◌, ◌||◌, List, [], ◌∷◌, ◌++◌, length, refl, sym, ap, ◌∙◌}
+use Rattle.std.proofs.Common.{◌≡◌, ℕ, ◌+◌, Bool, true, false, cond, ◌&&◌, ◌||◌, ◌==◌, List, [], ◌∷◌, ◌++◌, length, refl, sym, ap, ◌∙◌, eq-eqb, true≢false}
 use Rattle.std.specs.Prelude.{suc, ◌-◌, Option, Some, None, reverse, option_map}
 use Rattle.std.specs.List.{list_any, enumerate_from}
 use Rattle.std.specs.Map.{lookup}
@@ -12,9 +12,15 @@ use Rattle.rhd_hash.specs.declared.key.Key.{Key}
 use Rattle.rhd_hash.specs.declared.key.Key.TheVariants.{Native}
 use Rattle.rhd_decl.specs.declared.declaration.Declaration.{Declaration}
 use Rattle.rhd_hash.specs.Keys.{key_eq, key_eq-Decides}
+use Rattle.rhd_hash.specs.declared.mixer.Seeds.{Seeds}
+use Rattle.rhd_hash.specs.Filter.{slot}
 use Rattle.rhd_hash.specs.Parts.{untyped}
 use Rattle.rhd_hash.specs.Matching.{types_match, key_matches}
+use Rattle.rhd_manifest.specs.Entry.{Entry, entry_key, entry_decl}
+use Rattle.rhd_manifest.specs.Rank.{find_entry}
 use Rattle.rhd_module.proofs.Absent.{absent_qualified}
+use Rattle.rhd_module.proofs.Listed.{shown_past}
+use Rattle.rhd_module.specs.Below.{may_be_dynamic, lists_dynamic}
 use Rattle.rhd_module.specs.Matching.{may_match}
 use Rattle.rhd_module.specs.Tree.{ModuleTree, Pairs}
 use Rattle.rhd_call.specs.declared.pick.Layer.{Layer}
@@ -25,7 +31,7 @@ use Rattle.rhd_engine.specs.Lists.{all_indexed}
 use Rattle.rhd_engine.proofs.HeldLaws.{parts}
 use Rattle.rhd_dispatch.specs.Asks.{native_found}
 use Rattle.rhd_dispatch.specs.Searched.{pick_at, found}
-use Rattle.rhd_dispatch.specs.Walks.{alone, rooted, place_of, place_of_tree, library_places, global_places, import_trees, static_trees, native_in, any_dynamic, may_have, any_may_have}
+use Rattle.rhd_dispatch.specs.Walks.{alone, rooted, place_of, place_of_tree, library_places, global_places, import_trees, static_trees, native_in, any_dynamic, may_have, any_may_have, may_list, may_show, any_may_show}
 use Rattle.rhd_dispatch.proofs.Firsts.{or_nones, of_append, of_map, none_reverse}
 
 pub any_parts : (a b : Bool) → (a || b) ≡ false → (a ≡ false) × (b ≡ false)
@@ -52,17 +58,37 @@ no_entry n name kinds types (p ∷ ps) m h =
     ] in
     by (key_eq (Native None name types) p.0) refl
 
-no_own : (layer : Layer) (n : ℕ) (name : Bytes) (kinds types : List TypeTag) (m : ModuleTree) → types_match n types kinds ≡ true → may_match m n name kinds ≡ false → pick_at (Native None name types) (alone layer m) ≡ None
-unfolding pick_at
-no_own layer n name kinds types m matches h = ap (option_map (λ (d : Declaration). record { layer = layer; func = d.func; source = m.own.id })) (no_entry n name kinds types m.own.eager matches h)
+-- of what is listed, none with a type `Dynamic` is under a key whose hash a filter doesn't tell of
+none_listed : (seeds : Seeds) (name : Bytes) (types : List TypeTag) (params : ℕ) (es : List Entry) → any_dynamic types ≡ true → length types ≡ params → lists_dynamic seeds (untyped seeds name params) es ≡ false → find_entry (Native None name types) es ≡ None
+none_listed seeds name types params [] dynamic l none = refl
+none_listed seeds name types params (e ∷ es) dynamic l none =
+    let hash = untyped seeds name params in
+    let r = any_parts (may_be_dynamic seeds hash (entry_key e)) (lists_dynamic seeds hash es) none in
+    let told : may_be_dynamic seeds hash (Native None name types) ≡ true =
+    ap (λ (b : Bool). b && (slot 8 hash == slot 8 (untyped seeds name (length types)))) dynamic ∙ eq-eqb (slot 8 hash) (slot 8 (untyped seeds name (length types))) (ap (λ (c : ℕ). slot 8 (untyped seeds name c)) (sym l)) in
+    let by : (b : Bool) → key_eq (Native None name types) (entry_key e) ≡ b → cond b (Some e) (find_entry (Native None name types) es) ≡ None =
+    elim [
+      | true ↦ (λ s. absurd (true≢false (sym told ∙ ap (may_be_dynamic seeds hash) ((key_eq-Decides (Native None name types) (entry_key e)).0 s) ∙ r.0)))
+      | false ↦ (λ s. none_listed seeds name types params es dynamic l r.1)
+    ] in
+    by (key_eq (Native None name types) (entry_key e)) refl
 
-no_place : (layer : ℕ → Layer) (n : ℕ) (name : Bytes) (kinds types : List TypeTag) (k : ℕ) (ms : List ModuleTree) → types_match n types kinds ≡ true → list_any (λ m. may_match m n name kinds) ms ≡ false
+no_own : (layer : Layer) (n : ℕ) (name : Bytes) (kinds types : List TypeTag) (params : ℕ) (m : ModuleTree) → types_match n types kinds ≡ true → any_dynamic types ≡ true → length types ≡ params → may_show n name params kinds m ≡ false
+    → pick_at (Native None name types) (alone layer m) ≡ None
+unfolding pick_at
+no_own layer n name kinds types params m matches dynamic l h =
+    let r = any_parts (may_match m n name kinds) (may_list name params m) h in
+    ap (option_map (λ (d : Declaration). record { layer = layer; func = d.func; source = m.own.id }))
+    (shown_past m.own.seeds m.own.eager m.own.listed (Native None name types) (no_entry n name kinds types m.own.eager matches r.0)
+    ∙ ap (option_map (entry_decl m.own.seeds)) (none_listed m.own.seeds name types params m.own.listed dynamic l r.1))
+
+no_place : (layer : ℕ → Layer) (n : ℕ) (name : Bytes) (kinds types : List TypeTag) (params k : ℕ) (ms : List ModuleTree) → types_match n types kinds ≡ true → any_dynamic types ≡ true → length types ≡ params → any_may_show n name params kinds ms ≡ false
     → first_of (λ y. pick_at (Native None name types) (place_of layer y)) (enumerate_from k ms) ≡ None
-no_place layer n name kinds types k [] matches h = refl
-no_place layer n name kinds types k (m ∷ ms) matches h =
-    let r = any_parts (may_match m n name kinds) (list_any (λ x. may_match x n name kinds) ms) h in
+no_place layer n name kinds types params k [] matches dynamic l h = refl
+no_place layer n name kinds types params k (m ∷ ms) matches dynamic l h =
+    let r = any_parts (may_show n name params kinds m) (any_may_show n name params kinds ms) h in
     or_nones (pick_at (Native None name types) (place_of layer (k, m))) (first_of (λ y. pick_at (Native None name types) (place_of layer y)) (enumerate_from (k + 1) ms))
-    (no_own (layer k) n name kinds types m matches r.0) (no_place layer n name kinds types (k + 1) ms matches r.1)
+    (no_own (layer k) n name kinds types params m matches dynamic l r.0) (no_place layer n name kinds types params (k + 1) ms matches dynamic l r.1)
 
 -- types that match are as many
 pub as_many : (n : ℕ) (types kinds : List TypeTag) → types_match n types kinds ≡ true → length types ≡ length kinds
@@ -91,17 +117,17 @@ no_tree layer name types params k (e ∷ es) is dynamic l h =
 
 -- where no module may have a native, none of these types is found
 pub not_found : (libs globals : List ModuleTree) (imports statics : Imports) (n : ℕ) (name : Bytes) (kinds types : List TypeTag) → all_indexed imports ≡ true → all_indexed statics ≡ true → types_match n types kinds ≡ true → any_dynamic types ≡ true
-    → list_any (λ m. may_match m n name kinds) globals ≡ false → list_any (λ m. may_match m n name kinds) libs ≡ false → any_may_have name (length kinds) imports ≡ false → any_may_have name (length kinds) statics ≡ false
+    → any_may_show n name (length kinds) kinds globals ≡ false → any_may_show n name (length kinds) kinds libs ≡ false → any_may_have name (length kinds) imports ≡ false → any_may_have name (length kinds) statics ≡ false
     → native_in libs globals imports statics name types ≡ None
 not_found libs globals imports statics n name kinds types ii si matches dynamic g l i s =
     let key = Native None name types in
     let many = as_many n types kinds matches in
     of_append (pick_at key) (library_places libs) (global_places globals ++ (import_trees imports ++ static_trees statics))
     ∙ or_nones (first_of (pick_at key) (library_places libs)) (first_of (pick_at key) (global_places globals ++ (import_trees imports ++ static_trees statics)))
-    (of_map (pick_at key) (place_of Library) (reverse (enumerate_from 0 libs)) ∙ none_reverse (λ y. pick_at key (place_of Library y)) (enumerate_from 0 libs) (no_place Library n name kinds types 0 libs matches l))
+    (of_map (pick_at key) (place_of Library) (reverse (enumerate_from 0 libs)) ∙ none_reverse (λ y. pick_at key (place_of Library y)) (enumerate_from 0 libs) (no_place Library n name kinds types (length kinds) 0 libs matches dynamic many l))
     (of_append (pick_at key) (global_places globals) (import_trees imports ++ static_trees statics)
     ∙ or_nones (first_of (pick_at key) (global_places globals)) (first_of (pick_at key) (import_trees imports ++ static_trees statics))
-    (of_map (pick_at key) (place_of Global) (enumerate_from 0 globals) ∙ no_place Global n name kinds types 0 globals matches g)
+    (of_map (pick_at key) (place_of Global) (enumerate_from 0 globals) ∙ no_place Global n name kinds types (length kinds) 0 globals matches dynamic many g)
     (of_append (pick_at key) (import_trees imports) (static_trees statics)
     ∙ or_nones (first_of (pick_at key) (import_trees imports)) (first_of (pick_at key) (static_trees statics))
     (of_map (pick_at key) (place_of_tree Import) (reverse (enumerate_from 0 imports)) ∙ none_reverse (λ y. pick_at key (place_of_tree Import y)) (enumerate_from 0 imports) (no_tree Import name types (length kinds) 0 imports ii dynamic many i))

@@ -1,5 +1,5 @@
 -- The machine's own words, by which its loops are proved; nothing here has to be believed.
-use Rattle.std.specs.Prelude.{ℕ, Bool, List, [], ◌++◌, map, reverse, Option, None, Some, if◌then◌else◌}
+use Rattle.std.specs.Prelude.{ℕ, Bool, ◌||◌, List, ◌++◌, map, reverse, Option, None, Some, if◌then◌else◌}
 use Rattle.std.specs.List.{enumerate_from, list_any}
 use Rattle.rhd_value.specs.Tree.{Bytes}
 use Rattle.rhd_value.specs.Firsts.{first_of}
@@ -10,7 +10,8 @@ use Rattle.rhd_hash.specs.declared.key.Key.{Key}
 use Rattle.rhd_hash.specs.declared.key.Key.TheVariants.{Native}
 use Rattle.rhd_hash.specs.Parts.{untyped}
 use Rattle.rhd_func.specs.declared.func.RhaiFunc.{RhaiFunc}
-use Rattle.rhd_module.specs.Below.{may_contain}
+use Rattle.rhd_module.specs.Below.{may_contain, lists_dynamic}
+use Rattle.rhd_module.specs.Matching.{may_match}
 use Rattle.rhd_module.specs.Shown.{shown}
 use Rattle.rhd_module.specs.Tree.{ModuleTree}
 use Rattle.rhd_module.specs.Walk.{tree}
@@ -87,6 +88,17 @@ may_have name params m = may_contain m (untyped m.own.seeds name params)
 
 abbrev pub any_may_have : Bytes → ℕ → Imports → Bool
 any_may_have name params es = list_any (λ e. may_have name params e.1) es
+
+-- a module lists a native of this name with so many parameters, one of which is `Dynamic`, or one whose hash is the same modulo 64
+abbrev pub may_list : Bytes → ℕ → ModuleTree → Bool
+may_list name params m = lists_dynamic m.own.seeds (untyped m.own.seeds name params) m.own.listed
+
+-- it declares a native of this name for these kinds, the first n of whose types are exact, or may list one
+abbrev pub may_show : ℕ → Bytes → ℕ → List TypeTag → ModuleTree → Bool
+may_show n name params kinds m = may_match m n name kinds || may_list name params m
+
+abbrev pub any_may_show : ℕ → Bytes → ℕ → List TypeTag → List ModuleTree → Bool
+any_may_show n name params kinds ms = list_any (may_show n name params kinds) ms
 
 -- the root of a path's first name
 abbrev pub named_at : (ℕ → Layer) → Bytes → ℕ × (Bytes × ModuleTree) → Option Place

@@ -1,12 +1,10 @@
 //! Look-ups of natives by their types.
 
 ghost use Rattle.std.specs.Prelude.{◌≡◌, ◌≤◌, ◌+◌, ℕ, false, true, List, Option, None, IfOk, length};
-ghost use Rattle.std.specs.List.{list_any};
 ghost use Rattle.rhd_value.specs.declared.tag.TypeTag.{TypeTag};
 ghost use Rattle.rhd_hash.specs.Matching.{types_match};
-ghost use Rattle.rhd_module.specs.Matching.{may_match as may_own};
 ghost use Rattle.rhd_call.specs.declared.pick.Pick.{Pick};
-ghost use Rattle.rhd_dispatch.specs.Walks.{native_in, any_dynamic};
+ghost use Rattle.rhd_dispatch.specs.Walks.{native_in, any_dynamic, any_may_show};
 
 use crate::filters::{any_import_may_have, any_static_may_have};
 use crate::keys::native_key_of;
@@ -15,7 +13,7 @@ use rhd_call::Pick;
 use rhd_engine::{Engine, GlobalRuntimeState};
 use rhd_hash::{HashedName, Steps};
 use rhd_module::SharedModule;
-use rhd_value::{OutOfMemory, Text, TypeTag, Types};
+use rhd_value::{OutOfMemory, TypeTag, Types};
 use std::alloc::Global;
 
 /// A look-up of natives, and a test that saves look-ups.
@@ -51,13 +49,22 @@ pub(crate) struct NativesOf<'a> {
     pub name: HashedName<'a>,
 }
 
-/// Whether some module may have a native of this name for these kinds, where the types before a place
-/// are exact.
-fn any_may_match(modules: &[SharedModule], place: usize, name: &Text, kinds: &[TypeTag]) -> bool
-    ensures { result ≡ list_any (λ m. may_own m place name.now kinds.now) modules.now }
+/// Whether some module may have a native of this name for these kinds, one of whose types is `Dynamic`,
+/// where the types before a place are exact. False only where none declares and none lists one.
+fn any_may_match(
+    modules: &[SharedModule],
+    place: usize,
+    name: HashedName,
+    kinds: &[TypeTag],
+) -> bool
+    ensures { result ≡ false → any_may_show place name.entry.name.now name.entry.params kinds.now modules.now ≡ false }
 {
     for shared in modules {
-        if shared.module().may_match(place, name, kinds) {
+        let module = shared.module();
+        if module.may_match(place, name.name(), kinds) {
+            return true;
+        }
+        if module.may_list_dynamic_fn(name.hash_under(module.seeds())) {
             return true;
         }
     }
@@ -86,10 +93,10 @@ impl Look for NativesOf<'_> {
         if kinds.len() as u64 != self.name.params() {
             return true;
         }
-        if any_may_match(self.engine.global_modules(), place, self.name.name(), kinds) {
+        if any_may_match(self.engine.global_modules(), place, self.name, kinds) {
             return true;
         }
-        if any_may_match(self.state.lib.as_slice(), place, self.name.name(), kinds) {
+        if any_may_match(self.state.lib.as_slice(), place, self.name, kinds) {
             return true;
         }
         if any_import_may_have(self.state.imports.as_slice(), self.name) {

@@ -1,9 +1,10 @@
 -- The natives that modules name stay held, and what a module has is held.
-use Rattle.std.proofs.Common.{◌≡◌, ℕ, Bool, true, false, not, cond, ◌&&◌, List, [], ◌∷◌, length, refl, sym, ap, subst, ◌∙◌}
-use Rattle.std.specs.Prelude.{zero, suc, ◌||◌, Option, Some, None, unwrap_or, Result, Ok, Err, OnErr, nat_lt, slice_get, slice_set, if◌then◌else◌}
-use Rattle.std.specs.List.{list_all}
+use Rattle.std.proofs.Common.{◌≡◌, ℕ, Bool, true, false, not, cond, ◌&&◌, List, [], ◌∷◌, length, map, refl, sym, ap, subst, ◌∙◌}
+use Rattle.std.specs.Prelude.{zero, suc, ◌||◌, Option, Some, None, is_none, unwrap_or, Result, Ok, Err, OnErr, nat_lt, slice_get, slice_set, if◌then◌else◌}
+use Rattle.std.specs.List.{list_all, filter}
 use Rattle.std.specs.Map.{lookup}
 use Rattle.std.proofs.lemmas.List.{length-map}
+use Rattle.std.proofs.lemmas.List.Folds.{list_all-append, list_all-map}
 use Rattle.rhd_value.specs.Tree.{Bytes}
 use Rattle.rhd_value.specs.Firsts.{first_some, where_holds}
 use Rattle.rhd_value.specs.declared.tag.FnId.{FnId}
@@ -19,9 +20,12 @@ use Rattle.rhd_func.specs.Natives.{NativeInfo}
 use Rattle.rhd_decl.specs.declared.declaration.Declaration.{Declaration}
 use Rattle.rhd_decl.specs.declared.fault.DeclFault.{DeclFault}
 use Rattle.rhd_decl.specs.declared.fault.DeclFault.TheVariants.{HashCollision, IndexerNotAllowed, NotCallable, UnknownNumber, OutOfMemory}
+use Rattle.rhd_manifest.specs.Entry.{Entry, entry_key, entry_pair}
+use Rattle.rhd_manifest.specs.Rank.{firsts}
 use Rattle.rhd_module.specs.declared.registration.FuncRegistration.{FuncRegistration}
 use Rattle.rhd_module.specs.Contents.{with_type}
-use Rattle.rhd_module.specs.Tree.{ModuleTree, Pairs}
+use Rattle.rhd_module.specs.Tree.{ModuleTree, Lists, Pairs}
+use Rattle.rhd_module.specs.Shown.{without, shown}
 use Rattle.rhd_module.specs.Registered.{put, with_decl, unheld, registered_func, pure_by_name, banned, native_at, Puts, PutsBoth, Registers, RegistersBoth, RegistersRaw}
 use Rattle.rhd_engine.specs.Held.{func_held, own_held, below_held, names_held, all_held}
 use Rattle.rhd_engine.specs.Registered.{in_first, InFirst, RegistersFirst, RegistersBothFirst, RegistersRawFirst}
@@ -31,6 +35,9 @@ is_held n d = func_held n d.func
 
 abbrev pub pairs_held : ℕ → Pairs → Bool
 pairs_held n ps = list_all (λ p. is_held n p.1) ps
+
+abbrev pub listed_held : ℕ → List Entry → Bool
+listed_held n es = list_all (λ e. nat_lt e.func.0 n) es
 
 pub both : (a b : Bool) → a ≡ true → b ≡ true → (a && b) ≡ true
 both true true p q = refl
@@ -54,7 +61,9 @@ put_held n k d (p ∷ ps) h all = put_step n k d p ps (key_eq k p.0) h all (put_
 pub stays_held : (n : ℕ) (k : Key) (d : Declaration) (m : ModuleTree) → func_held n d.func ≡ true → names_held n m ≡ true → names_held n (with_decl k d m) ≡ true
 stays_held n k d m h all =
     let p = parts (own_held n m.own) (below_held n m.subs) all in
-    both (pairs_held n (put k d m.own.eager)) (below_held n m.subs) (put_held n k d m.own.eager h p.0) p.1
+    let q = parts (pairs_held n m.own.eager) (listed_held n m.own.listed) p.0 in
+    let own = both (pairs_held n (put k d m.own.eager)) (listed_held n m.own.listed) (put_held n k d m.own.eager h q.0) q.1 in
+    both (pairs_held n (put k d m.own.eager) && listed_held n m.own.listed) (below_held n m.subs) own p.1
 
 -- what holds of a fault
 -- the number of a native, if there is one, is below another
@@ -226,6 +235,30 @@ found_step n key p ps d false all ih e = ih (parts (is_held n p.1) (pairs_held n
 pub found_held : (n : ℕ) (key : Key) (ps : Pairs) (d : Declaration) → pairs_held n ps ≡ true → lookup (key_eq key) ps ≡ Some d → is_held n d ≡ true
 found_held n key [] d all e = absurd cc
 found_held n key (p ∷ ps) d all e = found_step n key p ps d (key_eq key p.0) all (found_held n key ps d) e
+
+-- What a module shows.
+
+kept_held : {A : Type 0} (held kept : A → Bool) (xs : List A) → list_all held xs ≡ true → list_all held (filter kept xs) ≡ true
+kept_held held kept [] all = refl
+kept_held {A} held kept (x ∷ xs) all = by (kept x) (parts (held x) (list_all held xs) all).0 (kept_held held kept xs (parts (held x) (list_all held xs) all).1)
+  where
+    by : (b : Bool) → held x ≡ true → list_all held (filter kept xs) ≡ true → list_all held (cond b (x ∷ filter kept xs) (filter kept xs)) ≡ true
+    by true h rest = both (held x) (list_all held (filter kept xs)) h rest
+    by false h rest = rest
+
+firsts_held : (n : ℕ) (es : List Entry) → listed_held n es ≡ true → listed_held n (firsts es) ≡ true
+firsts_held n [] all = refl
+firsts_held n (e ∷ es) all =
+    let p = parts (nat_lt e.func.0 n) (listed_held n es) all in
+    both (nat_lt e.func.0 n) (listed_held n (filter (λ d. not (key_eq (entry_key d) (entry_key e))) (firsts es))) p.0 (kept_held (λ d. nat_lt d.func.0 n) (λ d. not (key_eq (entry_key d) (entry_key e))) (firsts es) (firsts_held n es p.1))
+
+pub shown_held : (n : ℕ) (own : Lists) → own_held n own ≡ true → pairs_held n (shown own) ≡ true
+shown_held n own all =
+    let p = parts (pairs_held n own.eager) (listed_held n own.listed) all in
+    let pairs = map (entry_pair own.seeds) (firsts own.listed) in
+    let listed = list_all-map (λ q. is_held n q.1) (entry_pair own.seeds) (firsts own.listed) ∙ firsts_held n own.listed p.1 in
+    list_all-append (λ q. is_held n q.1) own.eager (without own.eager pairs)
+    ∙ both (pairs_held n own.eager) (pairs_held n (without own.eager pairs)) p.0 (kept_held (λ q. is_held n q.1) (λ q. is_none (lookup (key_eq q.0) own.eager)) pairs listed)
 
 -- The same of a table of natives, by its length.
 

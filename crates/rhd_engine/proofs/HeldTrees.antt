@@ -14,11 +14,12 @@ use Rattle.rhd_hash.specs.Keys.{key_eq, with_path, is_typed_key}
 use Rattle.rhd_func.specs.Access.{is_private, is_global_namespace}
 use Rattle.rhd_decl.specs.declared.declaration.Declaration.{Declaration}
 use Rattle.rhd_module.specs.Tree.{ModuleTree, Lists, Subs, no_subs, sub, Pairs}
+use Rattle.rhd_module.specs.Shown.{shown}
 use Rattle.rhd_module.specs.Contents.{with_sub, put_sub, find_sub}
 use Rattle.rhd_module.specs.Walk.{unpathed, pathed, pairs_at, below as pairs_below, tree}
 use Rattle.rhd_engine.specs.Held.{func_held, own_held, below_held, names_held, all_held, named_held}
 use Rattle.rhd_engine.specs.Lists.{Imports, module_of, put_module, second}
-use Rattle.rhd_engine.proofs.HeldLaws.{is_held, pairs_held, both, parts, found_held}
+use Rattle.rhd_engine.proofs.HeldLaws.{is_held, pairs_held, both, parts, found_held, shown_held}
 use Rattle.rhd_engine.proofs.Indexed.{all_put, all_found}
 
 three : (a b c : Bool) → a ≡ true → b ≡ true → c ≡ true → (a && (b && c)) ≡ true
@@ -99,13 +100,13 @@ below_pairs_held n path (sub name own inner later) all =
     let p = parts (own_held n own) (below_held n inner && below_held n later) all in
     let q = parts (below_held n inner) (below_held n later) p.1 in
     let under = path ++ name ∷ [] in
-    pairs_append n (pairs_below path later) (pairs_at under own.eager ++ pairs_below under inner) (below_pairs_held n path later q.1)
-    (pairs_append n (pairs_at under own.eager) (pairs_below under inner) (pairs_at_held n under own.eager p.0) (below_pairs_held n under inner q.0))
+    pairs_append n (pairs_below path later) (pairs_at under (shown own) ++ pairs_below under inner) (below_pairs_held n path later q.1)
+    (pairs_append n (pairs_at under (shown own)) (pairs_below under inner) (pairs_at_held n under (shown own) (shown_held n own p.0)) (below_pairs_held n under inner q.0))
 
 pub tree_held : (n : ℕ) (m : ModuleTree) → names_held n m ≡ true → pairs_held n (tree m) ≡ true
 tree_held n m all =
     let p = parts (own_held n m.own) (below_held n m.subs) all in
-    pairs_append n (pairs_at [] m.own.eager) (pairs_below [] m.subs) (pairs_at_held n [] m.own.eager p.0) (below_pairs_held n [] m.subs p.1)
+    pairs_append n (pairs_at [] (shown m.own)) (pairs_below [] m.subs) (pairs_at_held n [] (shown m.own) (shown_held n m.own p.0)) (below_pairs_held n [] m.subs p.1)
 
 pub looked_up_held : (n : ℕ) (m : ModuleTree) (key : Key) (d : Declaration) → names_held n m ≡ true → lookup (key_eq key) (tree m) ≡ Some d → func_held n d.func ≡ true
 looked_up_held n m key d all is = found_held n key (tree m) d (tree_held n m all) is

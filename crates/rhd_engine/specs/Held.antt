@@ -17,9 +17,9 @@ func_held natives (Plugin id) = nat_lt id.0 natives
 func_held natives (StaticPlugin id) = nat_lt id.0 natives
 func_held natives (Script def env) = true
 
--- so can each that a declaration of these lists names
+-- so can each that a declaration of these lists names, and the native of each function that is listed
 abbrev pub own_held : ℕ → Lists → Bool
-own_held natives own = list_all (λ p. func_held natives p.1.func) own.eager
+own_held natives own = list_all (λ p. func_held natives p.1.func) own.eager && list_all (λ e. nat_lt e.func.0 natives) own.listed
 
 -- those of sub-modules, and of all below them
 abbrev pub below_held : ℕ → Subs → Bool
