@@ -1,4 +1,4 @@
-mod Ranks
+pub mod Ranks
 pub mod Places
 mod Folds
 mod Tables

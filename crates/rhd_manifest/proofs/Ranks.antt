@@ -8,7 +8,7 @@ use Rattle.std.specs.Option.{option_copied}
 use Rattle.rhd_func.specs.declared.access.ManifestId.{ManifestId}
 use Rattle.rhd_manifest.specs.Entry.{Entry}
 use Rattle.rhd_manifest.specs.Manifest.{ManifestLists, manifest_at, no_lists, AreLower}
-use Rattle.rhd_manifest.specs.Rank.{rank_by, flattened_to, flattened, rank_of}
+use Rattle.rhd_manifest.specs.Rank.{rank_by, flattened_to, flattened, rank_of, walk_to, walk, over_walk}
 
 -- the last of a list comes first
 pub flat_last : {X A : Type 0} (f : X → List A) (xs : List X) (x : X) → flat_map f (reverse (xs ++ x ∷ [])) ≡ f x ++ flat_map f (reverse xs)
@@ -46,6 +46,43 @@ flattened-is table lower id =
     (each (λ s. s.1.0 < id.0) (λ s. flattened_to id.0 table s.1 ≡ flattened table s.1) (manifest_at table id).subs
     (λ s h. deep id.0 (suc s.1.0) table lower s.1 h (omega arith)) (lower id)))
 
+-- the manifest of a number that is held
+pub at : (table : List ManifestLists) (id : ManifestId) (m : ManifestLists) → Some m ≡ slice_get table id.0 → manifest_at table id ≡ m
+at table id m e = ap (λ o. unwrap_or o no_lists) (sym e)
+
+-- The same of the walk from a manifest down.
+flat_alike : {X A : Type 0} (f g : X → List A) (xs : List X) → AllByRecursion (λ x. f x ≡ g x) xs → flat_map f xs ≡ flat_map g xs
+flat_alike f g [] h = refl
+flat_alike f g (x ∷ xs) h = (λ i. h.0 i ++ flat_alike f g xs h.1 i)
+
+walk_deep : (d e : ℕ) (table : List ManifestLists) → AreLower table → (id : ManifestId) → id.0 < d → id.0 < e → walk_to d table id ≡ walk_to e table id
+unfolding AreLower
+walk_deep zero e table lower id p q = absurd (omega (arith, p))
+walk_deep (suc d) zero table lower id p q = absurd (omega (arith, q))
+walk_deep (suc d) (suc e) table lower id p q =
+    ap (λ t. id ∷ t)
+    (flat_alike (λ s. walk_to d table s.1) (λ s. walk_to e table s.1) (manifest_at table id).subs
+    (each (λ s. s.1.0 < id.0) (λ s. walk_to d table s.1 ≡ walk_to e table s.1) (manifest_at table id).subs
+    (λ s h. walk_deep d e table lower s.1 (omega (arith, h, p)) (omega (arith, h, q))) (lower id)))
+
+pub walk-is : (table : List ManifestLists) → AreLower table → (id : ManifestId) → walk table id ≡ id ∷ flat_map (λ s. walk table s.1) (manifest_at table id).subs
+unfolding AreLower
+walk-is table lower id =
+    ap (λ t. id ∷ t)
+    (flat_alike (λ s. walk_to id.0 table s.1) (λ s. walk table s.1) (manifest_at table id).subs
+    (each (λ s. s.1.0 < id.0) (λ s. walk_to id.0 table s.1 ≡ walk table s.1) (manifest_at table id).subs
+    (λ s h. walk_deep id.0 (suc s.1.0) table lower s.1 h (omega arith)) (lower id)))
+
+flat_flat : {X Y A : Type 0} (f : Y → List A) (g : X → List Y) (xs : List X) → flat_map f (flat_map g xs) ≡ flat_map (λ x. flat_map f (g x)) xs
+flat_flat f g [] = refl
+flat_flat f g (x ∷ xs) = flat_map-append f (g x) (flat_map g xs) ∙ ap (λ t. flat_map f (g x) ++ t) (flat_flat f g xs)
+
+-- its own, and then those of its sub-manifests in order
+pub over_walk-is : {A : Type 0} (f : ManifestLists → List A) (table : List ManifestLists) → AreLower table → (id : ManifestId) (m : ManifestLists) → Some m ≡ slice_get table id.0 → over_walk f table id ≡ f m ++ flat_map (λ s. over_walk f table s.1) m.subs
+over_walk-is f table lower id m e =
+    ap (flat_map (λ i. f (manifest_at table i))) (walk-is table lower id)
+    ∙ (λ k. f (at table id m e k) ++ flat_flat (λ i. f (manifest_at table i)) (λ s. walk table s.1) (at table id m e k).subs k)
+
 reverse_flat : {X A : Type 0} (f : X → List A) (xs : List X) → reverse (flat_map f (reverse xs)) ≡ flat_map (λ x. reverse (f x)) xs
 reverse_flat f [] = refl
 reverse_flat f (x ∷ xs) = ap reverse (flat_first f x xs) ∙ reverse-append (flat_map f (reverse xs)) (f x) ∙ ap (λ t. reverse (f x) ++ t) (reverse_flat f xs)
@@ -60,10 +97,6 @@ rising f m = reverse-append (flat_map (λ s. f s.1) (reverse m.subs)) (reverse m
 
 pub rising_own : (f : ManifestId → List Entry) (m : ManifestLists) → reverse (rank_by f m false) ≡ m.entries
 rising_own f m = twice m.entries
-
--- the manifest of a number that is held
-pub at : (table : List ManifestLists) (id : ManifestId) (m : ManifestLists) → Some m ≡ slice_get table id.0 → manifest_at table id ≡ m
-at table id m e = ap (λ o. unwrap_or o no_lists) (sym e)
 
 -- a sub-manifest's number is lower
 pub lower_than : (table : List ManifestLists) → AreLower table → (id : ManifestId) (m : ManifestLists) → Some m ≡ slice_get table id.0 → AllByRecursion (λ s. s.1.0 < id.0) m.subs

@@ -1,6 +1,7 @@
 -- Which entries a manifest lists, from the highest precedence to the lowest.
 use Rattle.std.specs.Prelude.{ℕ, zero, suc, Bool, true, not, List, [], ◌∷◌, ◌++◌, reverse, if◌then◌else◌, Option}
 use Rattle.std.specs.List.{flat_map, find, filter}
+use Rattle.rhd_value.specs.Tree.{Bytes, Tree}
 use Rattle.rhd_hash.specs.declared.key.Key.{Key}
 use Rattle.rhd_hash.specs.Keys.{key_eq}
 use Rattle.rhd_func.specs.declared.access.ManifestId.{ManifestId}
@@ -35,3 +36,21 @@ find_entry key es = find (λ e. key_eq key (entry_key e)) es
 abbrev pub firsts : List Entry → List Entry
 firsts [] = []
 firsts (e ∷ es) = e ∷ filter (λ d. not (key_eq (entry_key d) (entry_key e))) (firsts es)
+
+-- a manifest and all below it: each before its sub-manifests, these in order
+abbrev pub walk_to : ℕ → List ManifestLists → ManifestId → List ManifestId
+walk_to zero table id = []
+walk_to (suc depth) table id = id ∷ flat_map (λ s. walk_to depth table s.1) (manifest_at table id).subs
+
+abbrev pub walk : List ManifestLists → ManifestId → List ManifestId
+walk table id = walk_to (suc id.0) table id
+
+-- the variables and the custom types of all these
+abbrev pub over_walk : {A : Type 0} → (ManifestLists → List A) → List ManifestLists → ManifestId → List A
+over_walk f table id = flat_map (λ i. f (manifest_at table i)) (walk table id)
+
+abbrev pub all_vars : List ManifestLists → ManifestId → List (Bytes × Tree)
+all_vars table id = over_walk (λ m. m.vars) table id
+
+abbrev pub all_types : List ManifestLists → ManifestId → List (Bytes × Bytes)
+all_types table id = over_walk (λ m. m.types) table id

@@ -13,3 +13,4 @@ pub mod Absent
 pub mod Listed
 pub mod Banned
 pub mod Registers
+pub mod Combined

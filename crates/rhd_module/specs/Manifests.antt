@@ -2,13 +2,16 @@
 use Rattle.std.specs.Prelude.{◌≡◌, Bool, true, false, List, [], ◌∷◌, ◌++◌, map, Result, Ok, Err, ⊤}
 use Rattle.std.specs.List.{list_any, Contains}
 use Rattle.std.specs.Map.{keys_of}
+use Rattle.rhd_value.specs.Tree.{Bytes, Tree}
+use Rattle.rhd_value.specs.Entries.{put as put_var}
 use Rattle.rhd_hash.specs.Table.{HasOwnHashes, Clashing}
+use Rattle.rhd_decl.specs.CustomTypes.{CustomTypes, type_info, put_type}
 use Rattle.rhd_func.specs.declared.access.ManifestId.{ManifestId}
 use Rattle.rhd_decl.specs.declared.fault.DeclFault.{DeclFault}
 use Rattle.rhd_decl.specs.declared.fault.DeclFault.TheVariants.{HashCollision, IndexerNotAllowed, OutOfMemory}
 use Rattle.rhd_manifest.specs.Entry.{Entry, entry_key, entry_pair}
 use Rattle.rhd_manifest.specs.Manifest.{ManifestLists}
-use Rattle.rhd_manifest.specs.Rank.{rank}
+use Rattle.rhd_manifest.specs.Rank.{rank, all_vars, all_types}
 use Rattle.rhd_module.specs.Registered.{is_banned, put}
 use Rattle.rhd_module.specs.Tree.{ModuleTree, Lists, Pairs}
 
@@ -19,6 +22,22 @@ with_listed manifest es m = record m { own = record m.own { manifests = m.own.ma
 -- the module with a manifest above those that it has
 abbrev pub with_manifest : List ManifestLists → ManifestId → Bool → ModuleTree → ModuleTree
 with_manifest table id flatten m = with_listed (id, flatten) (rank table id flatten) m
+
+-- variables and custom types put in one after the other
+abbrev pub put_vars : List (Bytes × Tree) → List (Bytes × Tree) → List (Bytes × Tree)
+put_vars [] es = es
+put_vars (v ∷ vs) es = put_vars vs (put_var v.0 v.1 es)
+
+abbrev pub put_types : List (Bytes × Bytes) → CustomTypes → CustomTypes
+put_types [] types = types
+put_types (t ∷ ts) types = put_types ts (put_type t.0 (type_info t.0 t.1 []) types)
+
+abbrev pub with_contents : List (Bytes × Tree) → List (Bytes × Bytes) → ModuleTree → ModuleTree
+with_contents vars types m = record m { own = record m.own { vars = put_vars vars m.own.vars; types = put_types types m.own.types } }
+
+-- the module with a flattened manifest, and with the variables and custom types of it and of all below it
+abbrev pub combined : List ManifestLists → ManifestId → ModuleTree → ModuleTree
+combined table id m = with_contents (all_vars table id) (all_types table id) (with_manifest table id true m)
 
 -- a listed function is an indexer of a type whose indexing has its meaning already
 abbrev pub is_banned_entry : Entry → Bool

@@ -1,6 +1,7 @@
 //! Modules: what they hold, how it is put, and what a key finds.
 #![tactic(auto)]
 
+mod combining;
 mod contents;
 mod index;
 mod law;

@@ -59,7 +59,11 @@ fn find_banned_in(parts: &[Rc<EntryList>]) -> Option<&FnManifestEntry>
 }
 
 /// Refuses a manifest of which an indexer is banned, or one of a manifest below it.
-fn refuse_indexers(alloc: Global, manifests: &Manifests, id: ManifestId) -> Result<(), DeclFault>
+pub(crate) fn refuse_indexers(
+    alloc: Global,
+    manifests: &Manifests,
+    id: ManifestId,
+) -> Result<(), DeclFault>
     ensures { RefusesIndexers (rank manifests.now id true) result }
 {
     let listing = manifests.listing(alloc, id, true)?;
@@ -174,7 +178,7 @@ fn registered(alloc: Global, lists: &Module) -> Result<Module, DeclFault>
 
 impl Module {
     /// Puts what a manifest lists above what the module lists.
-    fn put_listing(
+    pub(crate) fn put_listing(
         &mut self,
         manifest: (ManifestId, bool),
         listing: Listing,
