@@ -37,7 +37,20 @@ lists_code =
     (coded× (coded× (coded× (coded_list (coded× manifest.the_row.coded coded_bool)) (coded_list coded_entry)) (coded_list (coded× tag.the_row.coded iterator.the_row.coded)))
     (coded× (coded× coded_bool (coded× coded_bool coded_bool)) seeds.the_row.coded))))
     (λ o. ((o.id, (o.doc, o.types)), ((o.vars, o.eager), (((o.manifests, o.listed), o.iterators), ((o.internal, (o.standard, o.indexed)), o.seeds)))))
-    (λ p. record { id = p.0.0; doc = p.0.1.0; types = p.0.1.1; vars = p.1.0.0; eager = p.1.0.1; manifests = p.1.1.0.0.0; listed = p.1.1.0.0.1; iterators = p.1.1.0.1; internal = p.1.1.1.0.0; standard = p.1.1.1.0.1.0; indexed = p.1.1.1.0.1.1; seeds = p.1.1.1.1 })
+    (λ p. record {
+      id = p.0.0;
+      doc = p.0.1.0;
+      types = p.0.1.1;
+      vars = p.1.0.0;
+      eager = p.1.0.1;
+      manifests = p.1.1.0.0.0;
+      listed = p.1.1.0.0.1;
+      iterators = p.1.1.0.1;
+      internal = p.1.1.1.0.0;
+      standard = p.1.1.1.0.1.0;
+      indexed = p.1.1.1.0.1.1;
+      seeds = p.1.1.1.1;
+    })
     (λ _. refl)
 
 abbrev head : Gv → Gv

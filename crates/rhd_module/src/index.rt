@@ -131,8 +131,10 @@ impl TreeIndex {
         listed: &[&FnManifestEntry],
         filter: &BloomFilterU64<8>,
     )
-        requires { (hash : ℕ) → is_marked 8 filter.now hash ≡ (list_any (λ p. may_be_dynamic declarations.now.seeds hash p.0) declarations.now.pairs || list_any (λ e. may_be_dynamic declarations.now.seeds hash (entry_key e.now)) listed.now) }
-        ensures { Fills self.old self.new [] (λ hash. list_any (λ p. may_be_dynamic self.old.seeds hash p.0) declarations.now.pairs || list_any (λ e. may_be_dynamic self.old.seeds hash (entry_key e.now)) listed.now) false }
+        requires { (hash : ℕ) → is_marked 8 filter.now hash
+            ≡ (list_any (λ p. may_be_dynamic declarations.now.seeds hash p.0) declarations.now.pairs || list_any (λ e. may_be_dynamic declarations.now.seeds hash (entry_key e.now)) listed.now) }
+        ensures { Fills self.old self.new []
+            (λ hash. list_any (λ p. may_be_dynamic self.old.seeds hash p.0) declarations.now.pairs || list_any (λ e. may_be_dynamic self.old.seeds hash (entry_key e.now)) listed.now) false }
     {
         if declarations.seeds() == self.table.seeds() {
             self.join(filter);

@@ -30,7 +30,10 @@ fn list(
     word: &str,
     func: u32,
 ) {
-    assert!(rt; (id.0 as usize) < manifests.len(), "a manifest that is held");
+    assert!(rt;
+        (id.0 as usize) < manifests.len(),
+        "a manifest that is held"
+    );
     assert!(rt; (func as usize) < natives.len(), "a native that is held");
     let name = text_of(alloc, word);
     let put = manifests.push_entry(alloc, natives, id, name, FnNamespace::Internal, FnId(func));
@@ -45,7 +48,10 @@ fn nest(
     id: ManifestId,
     sub: ManifestId,
 ) {
-    assert!(rt; (id.0 as usize) < manifests.len() && sub.0 < id.0, "of a lower number");
+    assert!(rt;
+        (id.0 as usize) < manifests.len() && sub.0 < id.0,
+        "of a lower number"
+    );
     let put = manifests.push_sub(alloc, id, text_of(alloc, "s"), sub);
     holds(rt, put.is_ok(), "below it");
 }
@@ -130,7 +136,11 @@ fn check_order(rt: &impl Abort, alloc: Global, natives: &Natives) {
     let mut module = listing(rt, alloc, &manifests, high, false);
     holds(rt, finds(&module, &key, 1), "one below isn't found");
     list(rt, alloc, &mut manifests, natives, high, "f", 2);
-    holds(rt, finds(&module, &key, 1), "a module keeps what was listed");
+    holds(
+        rt,
+        finds(&module, &key, 1),
+        "a module keeps what was listed",
+    );
     check_index(rt, alloc, &mut module, &key, 1);
     check_registered(rt, alloc, &mut module, &key, natives);
 }

@@ -33,9 +33,9 @@ loop-sub-preserved t c =
     let vars = c.put_vars.new.vars in
     let types = c.put_types.new.types in (
       c.in_ok-put_contents.ensures.vars ∙ ap (put_vars (f x)) c.loop-sub.invariant.0
-      ∙ sym (ap (λ ys. put_vars ys vars) (ap (flat_map f) next ∙ flat_map-append f (take i xs) (x ∷ []) ∙ ap (λ ys. flat_map f (take i xs) ++ ys) (append-nil (f x))) ∙ vars_append (flat_map f (take i xs)) (f x) vars),
+          ∙ sym (ap (λ ys. put_vars ys vars) (ap (flat_map f) next ∙ flat_map-append f (take i xs) (x ∷ []) ∙ ap (λ ys. flat_map f (take i xs) ++ ys) (append-nil (f x))) ∙ vars_append (flat_map f (take i xs)) (f x) vars),
       c.in_ok-put_contents.ensures.types ∙ ap (put_types (g x)) c.loop-sub.invariant.1
-      ∙ sym (ap (λ ys. put_types ys types) (ap (flat_map g) next ∙ flat_map-append g (take i xs) (x ∷ []) ∙ ap (λ ys. flat_map g (take i xs) ++ ys) (append-nil (g x))) ∙ types_append (flat_map g (take i xs)) (g x) types),
+          ∙ sym (ap (λ ys. put_types ys types) (ap (flat_map g) next ∙ flat_map-append g (take i xs) (x ∷ []) ∙ ap (λ ys. flat_map g (take i xs) ++ ys) (append-nil (g x))) ∙ types_append (flat_map g (take i xs)) (g x) types),
     )
 
 pub returns-clause-vars : goal.returns-clause-vars
