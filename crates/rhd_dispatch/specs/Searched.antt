@@ -20,11 +20,11 @@ pub record Place : Type 0 where
   pub source : Option Bytes
   pub pairs : Pairs
 
--- a library or a global module by its number has its own declarations; its id is the source of its functions
+-- a library or a global module by its number has what it shows itself; its id is the source of its functions
 abbrev pub own_place : EngineLists → (ℕ → Layer) → ℕ × ModuleTree → Place
 own_place e layer (n, m) = record { layer = layer n; source = m.own.id; pairs = shown m.own }
 
--- an import or a static module by its number has those of its whole tree; the id of its root is the source of them all
+-- an import or a static module by its number has what its whole tree shows; the id of its root is the source of them all
 abbrev pub tree_place : EngineLists → (ℕ → Layer) → ℕ × (Bytes × ModuleTree) → Place
 tree_place e layer (n, named) = record { layer = layer n; source = named.1.own.id; pairs = tree named.1 }
 

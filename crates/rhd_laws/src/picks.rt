@@ -53,8 +53,9 @@ pub fn the_patterns_of_kinds_match_them()
 /// libraries, g global modules and i imports, the library of number n is the place of number
 /// m - 1 - n, the global module of number n that of number m + n, the import of number n that of
 /// number m + g + (i - 1 - n), and the static module of number n that of number m + g + i + n. The
-/// place of a library or global module has the declarations of its module, and that of an import or
-/// static module those of its whole tree. The id of the module is the source.
+/// place of a library or global module has what its module shows, which is its declarations and then
+/// what its manifests list under other keys, and that of an import or static module what its whole
+/// tree shows. The id of the module is the source.
 pub fn the_places_of_a_frame()
     ensures libraries { (e : EngineLists) (f : Frame) (n : ℕ) (m : ModuleTree) → slice_get f.lib n ≡ Some m
         → slice_get (searched e f.lib f.imports) (length f.lib - 1 - n) ≡ Some (record { layer = Library n; source = m.own.id; pairs = shown m.own }) }
