@@ -59,7 +59,8 @@ no_entry n name kinds types (p ∷ ps) m h =
     by (key_eq (Native None name types) p.0) refl
 
 -- of what is listed, none with a type `Dynamic` is under a key whose hash a filter doesn't tell of
-none_listed : (seeds : Seeds) (name : Bytes) (types : List TypeTag) (params : ℕ) (es : List Entry) → any_dynamic types ≡ true → length types ≡ params → lists_dynamic seeds (untyped seeds name params) es ≡ false → find_entry (Native None name types) es ≡ None
+none_listed : (seeds : Seeds) (name : Bytes) (types : List TypeTag) (params : ℕ) (es : List Entry) → any_dynamic types ≡ true → length types ≡ params → lists_dynamic seeds (untyped seeds name params) es ≡ false
+    → find_entry (Native None name types) es ≡ None
 none_listed seeds name types params [] dynamic l none = refl
 none_listed seeds name types params (e ∷ es) dynamic l none =
     let hash = untyped seeds name params in
@@ -82,8 +83,8 @@ no_own layer n name kinds types params m matches dynamic l h =
     (shown_past m.own.seeds m.own.eager m.own.listed (Native None name types) (no_entry n name kinds types m.own.eager matches r.0)
     ∙ ap (option_map (entry_decl m.own.seeds)) (none_listed m.own.seeds name types params m.own.listed dynamic l r.1))
 
-no_place : (layer : ℕ → Layer) (n : ℕ) (name : Bytes) (kinds types : List TypeTag) (params k : ℕ) (ms : List ModuleTree) → types_match n types kinds ≡ true → any_dynamic types ≡ true → length types ≡ params → any_may_show n name params kinds ms ≡ false
-    → first_of (λ y. pick_at (Native None name types) (place_of layer y)) (enumerate_from k ms) ≡ None
+no_place : (layer : ℕ → Layer) (n : ℕ) (name : Bytes) (kinds types : List TypeTag) (params k : ℕ) (ms : List ModuleTree) → types_match n types kinds ≡ true → any_dynamic types ≡ true → length types ≡ params
+    → any_may_show n name params kinds ms ≡ false → first_of (λ y. pick_at (Native None name types) (place_of layer y)) (enumerate_from k ms) ≡ None
 no_place layer n name kinds types params k [] matches dynamic l h = refl
 no_place layer n name kinds types params k (m ∷ ms) matches dynamic l h =
     let r = any_parts (may_show n name params kinds m) (any_may_show n name params kinds ms) h in
@@ -124,7 +125,8 @@ not_found libs globals imports statics n name kinds types ii si matches dynamic 
     let many = as_many n types kinds matches in
     of_append (pick_at key) (library_places libs) (global_places globals ++ (import_trees imports ++ static_trees statics))
     ∙ or_nones (first_of (pick_at key) (library_places libs)) (first_of (pick_at key) (global_places globals ++ (import_trees imports ++ static_trees statics)))
-    (of_map (pick_at key) (place_of Library) (reverse (enumerate_from 0 libs)) ∙ none_reverse (λ y. pick_at key (place_of Library y)) (enumerate_from 0 libs) (no_place Library n name kinds types (length kinds) 0 libs matches dynamic many l))
+    (of_map (pick_at key) (place_of Library) (reverse (enumerate_from 0 libs))
+    ∙ none_reverse (λ y. pick_at key (place_of Library y)) (enumerate_from 0 libs) (no_place Library n name kinds types (length kinds) 0 libs matches dynamic many l))
     (of_append (pick_at key) (global_places globals) (import_trees imports ++ static_trees statics)
     ∙ or_nones (first_of (pick_at key) (global_places globals)) (first_of (pick_at key) (import_trees imports ++ static_trees statics))
     (of_map (pick_at key) (place_of Global) (enumerate_from 0 globals) ∙ no_place Global n name kinds types (length kinds) 0 globals matches dynamic many g)
