@@ -14,3 +14,4 @@ pub mod Listed
 pub mod Banned
 pub mod Registers
 pub mod Combined
+pub mod Made

@@ -10,3 +10,4 @@ pub mod Matching
 pub mod NativeIndex
 pub mod Scripts
 pub mod Manifests
+pub mod Made

@@ -1,16 +1,25 @@
 //! Manifests put into modules with their variables and custom types.
 
-ghost use Rattle.std.specs.Prelude.{◌≡◌, OnOk};
-ghost use Rattle.rhd_manifest.specs.Rank.{all_vars, all_types};
+ghost use Rattle.std.specs.Prelude.{◌≡◌, OnOk, IfOk, IfErr};
+ghost use Rattle.std.specs.List.{Contains};
+ghost use Rattle.std.specs.Map.{keys_of};
+ghost use Rattle.rhd_func.specs.declared.access.ManifestId.{ManifestId as Number};
+ghost use Rattle.rhd_manifest.specs.Rank.{all_vars, all_types, walk};
+ghost use Rattle.rhd_module.specs.Index.{indexed, NoneClash, IsClash};
+ghost use Rattle.rhd_manifest.specs.Manifest.{manifest_at, AreLower};
+ghost use Rattle.rhd_module.specs.Made.{own_made, made, IsMadeApart, MadeClash, Makes};
 ghost use Rattle.rhd_module.specs.Manifests.{put_vars, put_types, combined, AddsManifest};
+ghost use Rattle.rhd_module.specs.Walk.{tree};
 
 use crate::manifests::refuse_indexers;
 use crate::module::Module;
 use rhd_decl::{CustomTypesCollection, DeclFault};
 use rhd_func::ManifestId;
+use rhd_hash::Seeds;
 use rhd_manifest::Manifests;
 use rhd_value::{Dynamic, Entries, OutOfMemory, Text};
 use std::alloc::Global;
+use std::rc::Rc;
 
 /// Puts variables in, one after the other.
 fn put_vars(alloc: Global, vars: &mut Entries, more: &[(Text, Dynamic)]) -> Result<(), OutOfMemory>
@@ -59,7 +68,86 @@ fn put_contents(
     Ok(())
 }
 
+/// A module that lists a manifest, unflattened, and has its variables and custom types.
+fn own_module(
+    alloc: Global,
+    manifests: &Manifests,
+    seeds: Seeds,
+    id: ManifestId,
+) -> Result<Module, OutOfMemory>
+    ensures { IfOk result (λ m. m ≡ own_made seeds manifests.now id) }
+{
+    let mut vars = Entries::new(alloc);
+    let mut types = CustomTypesCollection::new(alloc);
+    if let Some(manifest) = manifests.get(id) {
+        put_vars(alloc, &mut vars, manifest.vars())?;
+        put_types(alloc, &mut types, manifest.custom_types())?;
+    }
+    let mut made = Module::new(alloc, seeds)?;
+    made.put_listing((id, false), manifests.listing(alloc, id, false)?)?;
+    made.vars = vars;
+    made.types = types;
+    Ok(made)
+}
+
+/// The sub-manifests of a manifest with their names; of a number that isn't held, none.
+fn subs_of(manifests: &Manifests, id: ManifestId) -> &[(Text, ManifestId)]
+    ensures subs { result.now ≡ (manifest_at manifests.now id).subs }
+    ensures lower { AreLower manifests.now }
+{
+    match manifests.get(id) {
+        Some(manifest) => manifest.sub_modules(),
+        None => &[],
+    }
+}
+
+/// Indexes a module, and hands it on.
+fn indexed(alloc: Global, made: Module) -> Result<Module, DeclFault>
+    ensures ok { IfOk result (λ m. m ≡ indexed made) }
+    ensures apart { IfOk result (λ m. NoneClash made.own.seeds (keys_of (tree made))) }
+    ensures clash { IfErr result (IsClash made.own.seeds (keys_of (tree made))) }
+{
+    let mut made = made;
+    match made.build_index(alloc) {
+        Ok(()) => Ok(made),
+        Err(fault) => Err(fault),
+    }
+}
+
+/// The module of a manifest, in which no indexer is banned.
+fn module_of(
+    alloc: Global,
+    manifests: &Manifests,
+    seeds: Seeds,
+    id: ManifestId,
+) -> Result<Module, DeclFault>
+    ensures ok { IfOk result (λ m. m ≡ made seeds manifests.now id) }
+    ensures apart { IfOk result (λ m. (i : Number) → Contains (walk manifests.now id) i → IsMadeApart seeds manifests.now i) }
+    ensures clash { IfErr result (MadeClash seeds manifests.now (walk manifests.now id)) }
+{
+    let mut made = own_module(alloc, manifests, seeds, id)?;
+    for (name, sub) in subs_of(manifests, id) {
+        let child = module_of(alloc, manifests, seeds, *sub)?;
+        made.set_sub_module(alloc, name.dup(alloc)?, Rc::new(alloc, child)?)?;
+    }
+    indexed(alloc, made)
+}
+
 impl Module {
+    /// The module of a manifest: what it lists, not flattened, its variables and custom types, and the
+    /// modules of its sub-manifests under their names. It is indexed.
+    pub fn from_manifest(
+        alloc: Global,
+        manifests: &Manifests,
+        seeds: Seeds,
+        id: ManifestId,
+    ) -> Result<Module, DeclFault>
+        ensures { Makes seeds manifests.now id result }
+    {
+        refuse_indexers(alloc, manifests, id)?;
+        module_of(alloc, manifests, seeds, id)
+    }
+
     /// Adds a manifest, flattened, above those that the module has, and puts the variables and custom types
     /// of it and then of its sub-manifests in. The module isn't indexed any more.
     pub fn combine_manifest(
