@@ -2,7 +2,7 @@
 
 ghost use Rattle.std.specs.Prelude.{◌≡◌, ◌++◌, ◌∷◌, [], length, if◌then◌else◌, is_ok, IfOk};
 
-use rhd_func::{CallRequest, FnNamespace, RhaiFunc, SharedDef};
+use rhd_func::{CallRequest, FnNamespace, ManifestId, RhaiFunc, SharedDef};
 use rhd_hash::Key;
 use rhd_module::FuncRegistration;
 use rhd_value::{Dynamic, FnId, OutOfMemory, Text, Types};
@@ -64,6 +64,19 @@ pub enum Command {
         module: ModuleId,
         name: Text,
         sub: ModuleId,
+    },
+    /// Makes the module of a manifest, which gets the next number.
+    FromManifest {
+        manifest: ManifestId,
+    },
+    /// Adds a manifest, flattened, to a module, with all variables and custom types of it.
+    CombineManifest {
+        module: ModuleId,
+        manifest: ManifestId,
+    },
+    /// Registers what is listed in a module and below it.
+    RegisterLazy {
+        module: ModuleId,
     },
     /// Builds the index of a module's tree.
     Index {
@@ -184,6 +197,14 @@ impl Command {
                 name: name.dup(alloc)?,
                 sub: *sub,
             }),
+            Command::FromManifest { manifest } => Ok(Command::FromManifest {
+                manifest: *manifest,
+            }),
+            Command::CombineManifest { module, manifest } => Ok(Command::CombineManifest {
+                module: *module,
+                manifest: *manifest,
+            }),
+            Command::RegisterLazy { module } => Ok(Command::RegisterLazy { module: *module }),
             Command::Index { module } => Ok(Command::Index { module: *module }),
             Command::Clear { module } => Ok(Command::Clear { module: *module }),
             Command::RegisterFn { name, id } => Ok(Command::RegisterFn {
