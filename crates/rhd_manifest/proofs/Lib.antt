@@ -5,4 +5,5 @@ mod Tables
 mod Fitting
 mod Changes
 mod Held
+pub mod Empty
 pub mod Firsts

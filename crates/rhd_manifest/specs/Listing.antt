@@ -1,5 +1,5 @@
 -- The functions of some manifests, as lists of entries that are shared.
-use Rattle.std.specs.Prelude.{List, [], ◌∷◌, ◌++◌, reverse}
+use Rattle.std.specs.Prelude.{Bool, true, false, List, [], ◌∷◌, ◌++◌, reverse}
 use Rattle.std.specs.declared.rc.Rc.{Rc}
 use Rattle.rhd_manifest.specs.Entry.{Entry}
 
@@ -7,3 +7,8 @@ use Rattle.rhd_manifest.specs.Entry.{Entry}
 abbrev pub listed_in : {Z : Type 0} → List (Rc (List Entry) Z) → List Entry
 listed_in [] = []
 listed_in (part ∷ above) = listed_in above ++ reverse part.value
+
+-- no function is listed
+abbrev pub lists_none : List Entry → Bool
+lists_none [] = true
+lists_none (e ∷ es) = false

@@ -6,7 +6,7 @@ ghost use Rattle.std.specs.Option.{option_copied};
 ghost use Rattle.rhd_hash.specs.Keys.{key_eq};
 ghost use Rattle.rhd_manifest.specs.Entry.{entry_key};
 ghost use Rattle.rhd_manifest.specs.Index.{index_hash};
-ghost use Rattle.rhd_manifest.specs.Listing.{listed_in};
+ghost use Rattle.rhd_manifest.specs.Listing.{listed_in, lists_none};
 ghost use Rattle.rhd_manifest.specs.Rank.{flattened, rank, find_entry, firsts};
 
 use crate::entry::FnManifestEntry;
@@ -119,6 +119,18 @@ fn firsts_in(alloc: Global, parts: &[Rc<EntryList>]) -> Result<Vec<&FnManifestEn
     Ok(found)
 }
 
+/// Whether none of these lists has a function.
+fn no_entry(parts: &[Rc<EntryList>]) -> bool
+    ensures { result ≡ lists_none (listed_in parts.now) }
+{
+    for part in parts {
+        if !part.as_slice().is_empty() {
+            return false;
+        }
+    }
+    true
+}
+
 impl Listing {
     /// No functions.
     pub fn new(alloc: Global) -> Listing
@@ -150,11 +162,11 @@ impl Listing {
         Ok(())
     }
 
-    /// Whether it consists of no lists.
+    /// Whether it has no functions.
     pub fn is_empty(&self) -> bool
-        ensures { result ≡ true → self.now ≡ [] }
+        ensures { result ≡ lists_none self.now }
     {
-        self.parts.is_empty()
+        no_entry(self.parts.as_slice())
     }
 
     /// The lists of which it consists, from the lowest precedence to the highest.

@@ -36,6 +36,42 @@ impl Model for ModuleManifest {
     } };
 }
 
+/// Equal sub-manifests.
+fn dup_subs(
+    alloc: Global,
+    subs: &[(Text, ManifestId)],
+) -> Result<Vec<(Text, ManifestId)>, OutOfMemory>
+    ensures { IfOk result (λ copy. copy.items ≡ subs.now) }
+{
+    let mut copy = Vec::new(alloc);
+    for sub in subs {
+        copy.push((sub.0.dup(alloc)?, sub.1))?;
+    }
+    Ok(copy)
+}
+
+/// Equal variables.
+fn dup_vars(alloc: Global, vars: &[(Text, Dynamic)]) -> Result<Vec<(Text, Dynamic)>, OutOfMemory>
+    ensures { IfOk result (λ copy. copy.items ≡ vars.now) }
+{
+    let mut copy = Vec::new(alloc);
+    for var in vars {
+        copy.push((var.0.dup(alloc)?, var.1.dup(alloc)?))?;
+    }
+    Ok(copy)
+}
+
+/// Equal custom types.
+fn dup_types(alloc: Global, types: &[(Text, Text)]) -> Result<Vec<(Text, Text)>, OutOfMemory>
+    ensures { IfOk result (λ copy. copy.items ≡ types.now) }
+{
+    let mut copy = Vec::new(alloc);
+    for named in types {
+        copy.push((named.0.dup(alloc)?, named.1.dup(alloc)?))?;
+    }
+    Ok(copy)
+}
+
 impl ModuleManifest {
     /// A manifest in which nothing is.
     pub(crate) fn new(alloc: Global) -> Result<ModuleManifest, OutOfMemory>
@@ -46,6 +82,18 @@ impl ModuleManifest {
             subs: Vec::new(alloc),
             vars: Vec::new(alloc),
             types: Vec::new(alloc),
+        })
+    }
+
+    /// An equal manifest. The functions that it lists are shared.
+    pub fn dup(&self, alloc: Global) -> Result<ModuleManifest, OutOfMemory>
+        ensures { IfOk result (λ copy. copy ≡ self.now) }
+    {
+        Ok(ModuleManifest {
+            entries: self.share_functions()?,
+            subs: dup_subs(alloc, self.sub_modules())?,
+            vars: dup_vars(alloc, self.vars())?,
+            types: dup_types(alloc, self.custom_types())?,
         })
     }
 

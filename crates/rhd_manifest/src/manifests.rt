@@ -94,6 +94,17 @@ fn entry_of(
     }
 }
 
+/// Equal manifests.
+fn dup_all(alloc: Global, manifests: &[ModuleManifest]) -> Result<Vec<ModuleManifest>, OutOfMemory>
+    ensures { IfOk result (λ copy. copy.items ≡ manifests.now) }
+{
+    let mut copy = Vec::new(alloc);
+    for manifest in manifests {
+        copy.push(manifest.dup(alloc)?)?;
+    }
+    Ok(copy)
+}
+
 impl Manifests {
     /// A table without manifests.
     pub fn new(alloc: Global) -> Manifests
@@ -102,6 +113,15 @@ impl Manifests {
         Manifests {
             items: Vec::new(alloc),
         }
+    }
+
+    /// An equal table.
+    pub fn dup(&self, alloc: Global) -> Result<Manifests, OutOfMemory>
+        ensures { IfOk result (λ copy. copy ≡ self.now) }
+    {
+        Ok(Manifests {
+            items: dup_all(alloc, self.items.as_slice())?,
+        })
     }
 
     /// Puts a manifest last in which nothing is, and answers its number.
