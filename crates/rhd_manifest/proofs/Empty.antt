@@ -1,5 +1,5 @@
 -- Lists of listed functions that have none.
-use Rattle.std.proofs.Common.{◌≡◌, ◌+◌, ◌<◌, ◌==◌, true, false, List, [], ◌∷◌, ◌++◌, length, reverse, refl, sym, ap, ◌∙◌, true≢false, arith}
+use Rattle.std.proofs.Common.{◌≡◌, ℕ, suc, ◌+◌, ◌<◌, ◌==◌, eqb-true, Bool, true, false, List, [], ◌∷◌, ◌++◌, length, reverse, refl, sym, ap, ◌∙◌, true≢false, arith}
 use Rattle.std.specs.declared.rc.Rc.{Rc}
 use Rattle.std.proofs.lemmas.List.{length-append, length-reverse}
 use Rattle.rhd_manifest.specs.Entry.{Entry}
@@ -18,9 +18,13 @@ pub no_entries : (es : List Entry) → lists_none es ≡ true → es ≡ []
 no_entries [] e = refl
 no_entries (x ∷ es) e = absurd (true≢false (sym e))
 
+not_zero : (n : ℕ) (b : Bool) → (suc n == 0) ≡ b → b ≡ false
+not_zero n true e = absurd (omega (arith, eqb-true (suc n) 0 e))
+not_zero n false e = refl
+
 pub none_of : (es : List Entry) → (length es == 0) ≡ lists_none es
 none_of [] = refl
-none_of (x ∷ es) = refl
+none_of (x ∷ es) = not_zero (length es) (length (x ∷ es) == 0) refl
 
 -- a list that has something, among others
 pub some_list_has : {Z : Type 0} (front later all : List (Rc (List Entry) Z)) (x : Rc (List Entry) Z) → all ≡ front ++ x ∷ later → lists_none x.value ≡ false → lists_none (listed_in all) ≡ false
