@@ -1,55 +1,36 @@
 -- A listed function that is a banned indexer, and the marks of listed functions.
-use Rattle.std.proofs.Common.{◌≡◌, ℕ, ◌||◌, Bool, true, false, cond, List, [], ◌∷◌, ◌++◌, reverse, Option, None, Some, is_some, refl, sym, ap, subst, ◌∙◌, Bor, arith, inl, inr}
-use Rattle.std.specs.List.{list_any, find, Contains}
-use Rattle.std.specs.Option.{option_copied, IfSome}
+use Rattle.std.proofs.Common.{◌≡◌, ℕ, ◌||◌, Bool, true, false, List, [], ◌∷◌, ◌++◌, reverse, Option, None, Some, is_some, refl, sym, ap, ◌∙◌, Bor, true≢false}
+use Rattle.std.specs.List.{find}
+use Rattle.std.specs.Option.{option_copied, option_or}
 use Rattle.std.specs.declared.rc.Rc.{Rc}
-use Rattle.std.proofs.lemmas.List.{reverse-append}
-use Rattle.std.proofs.lemmas.List.Folds.{list_any-append}
-use Rattle.std.proofs.lemmas.List.Elements.{Contains-append_left, Contains-append_right, Contains-append_cases}
+use Rattle.std.proofs.lemmas.List.{reverse-append, reverse-reverse}
+use Rattle.std.proofs.lemmas.List.Folds.{list_any-append, find-append}
 use Rattle.rhd_hash.specs.declared.mixer.Seeds.{Seeds}
 use Rattle.rhd_manifest.specs.Entry.{Entry}
 use Rattle.rhd_manifest.specs.Listing.{listed_in}
-use Rattle.rhd_manifest.proofs.Firsts.{any_found, any_reverse, listed_last}
+use Rattle.rhd_manifest.proofs.Firsts.{any_reverse, listed_last}
 use Rattle.rhd_module.specs.Below.{lists_dynamic}
-use Rattle.rhd_module.proofs.Listed.{copied_some}
-
-pub found_there : {A : Type 0} (t : A → Bool) (xs : List A) (e : A) → find t xs ≡ Some e → Contains xs e × (t e ≡ true)
-found_there t [] e h = absurd cc
-found_there t (x ∷ xs) e h = by (t x) refl h (found_there t xs e)
-  where
-    by : (b : Bool) → t x ≡ b → cond b (Some x) (find t xs) ≡ Some e → (find t xs ≡ Some e → Contains xs e × (t e ≡ true)) → Contains (x ∷ xs) e × (t e ≡ true)
-    by true s h ih = let same : x ≡ e = cc in ((0, omega arith, same), ap t (sym same) ∙ s)
-    by false s h ih = (Contains-append_right (x ∷ []) xs e (ih h).0, (ih h).1)
-
-pub contains_reverse : {A : Type 0} (xs : List A) (e : A) → Contains xs e → Contains (reverse xs) e
-contains_reverse [] e h = h
-contains_reverse {A} (x ∷ xs) e h =
-    let P : List A → Type 0 = λ ys. Contains ys e in
-    subst P (sym (reverse-append (x ∷ []) xs))
-    (elim (Contains-append_cases (x ∷ []) xs e h) [
-      | inl one ↦ Contains-append_right (reverse xs) (x ∷ []) e one
-      | inr more ↦ Contains-append_left (reverse xs) (x ∷ []) e (contains_reverse xs e more)
-    ])
-
-or_false : (b : Bool) → (b || false) ≡ b
-or_false true = refl
-or_false false = refl
 
 -- One list after the other.
 module _ {Z : Type 0} (t : Entry → Bool) (x : Rc (List Entry) Z) (later : List (Rc (List Entry) Z)) (o : Option (Bor Entry)) (is : option_copied o ≡ find t x.value) where
-  pub none_here : is_some o ≡ false → list_any t (listed_in (x ∷ later)) ≡ list_any t (listed_in later)
-  none_here none =
-      let here : list_any t x.value ≡ false = sym (any_found t x.value) ∙ ap is_some (sym is) ∙ copied_some o ∙ none in
-      list_any-append t (listed_in later) (reverse x.value) ∙ ap (λ b. list_any t (listed_in later) || b) (any_reverse t x.value ∙ here) ∙ or_false (list_any t (listed_in later))
+  parts : find t (reverse (listed_in (x ∷ later))) ≡ option_or (option_copied o) (find t (reverse (listed_in later)))
+  parts =
+      ap (find t) (reverse-append (listed_in later) (reverse x.value) ∙ ap (λ es. es ++ reverse (listed_in later)) (reverse-reverse x.value))
+      ∙ find-append t x.value (reverse (listed_in later)) ∙ ap (λ (r : Option Entry). option_or r (find t (reverse (listed_in later)))) (sym is)
 
-  pub some_here : (all : List Entry) → ((e : Entry) → Contains (listed_in (x ∷ later)) e → Contains all e) → IfSome o (λ e. Contains all e.now × (t e.now ≡ true))
-  some_here all within = by o is
+  pub none_here : is_some o ≡ false → find t (reverse (listed_in (x ∷ later))) ≡ find t (reverse (listed_in later))
+  none_here none = parts ∙ by o none
     where
-      by : (r : Option (Bor Entry)) → option_copied r ≡ find t x.value → IfSome r (λ e. Contains all e.now × (t e.now ≡ true))
-      by None e = tt
-      by (Some b) e =
-          let found = found_there t x.value b.now (sym e) in
-          (within b.now (Contains-append_right (listed_in later) (reverse x.value) b.now (contains_reverse x.value b.now found.0)), found.1)
+      by : (r : Option (Bor Entry)) → is_some r ≡ false → option_or (option_copied r) (find t (reverse (listed_in later))) ≡ find t (reverse (listed_in later))
+      by None e = refl
+      by (Some b) e = absurd (true≢false e)
+
+  pub some_here : is_some o ≡ true → option_copied o ≡ find t (reverse (listed_in (x ∷ later)))
+  some_here some = sym (parts ∙ by o some)
+    where
+      by : (r : Option (Bor Entry)) → is_some r ≡ true → option_or (option_copied r) (find t (reverse (listed_in later))) ≡ option_copied r
+      by None e = absurd (true≢false (sym e))
+      by (Some b) e = refl
 
 or_around : (a b c : Bool) → ((a || b) || c) ≡ (a || (c || b))
 or_around true b c = refl

@@ -15,3 +15,4 @@ pub mod Banned
 pub mod Registers
 pub mod Combined
 pub mod Made
+pub mod LazyParts

@@ -1,5 +1,5 @@
 -- What a module shows beside its declarations: what is listed, the first under each key.
-use Rattle.std.proofs.Common.{◌≡◌, Bool, true, false, ◌||◌, not, cond, List, [], ◌∷◌, ◌++◌, map, Option, None, Some, is_some, is_none, refl, sym, ap, ◌∙◌, true≢false, Bor}
+use Rattle.std.proofs.Common.{◌≡◌, ℕ, Bool, true, false, ◌||◌, ◌&&◌, not, cond, List, [], ◌∷◌, ◌++◌, map, Option, None, Some, is_some, is_none, refl, sym, ap, ◌∙◌, true≢false, Bor}
 use Rattle.std.specs.List.{list_any, filter}
 use Rattle.std.specs.Map.{lookup}
 use Rattle.std.specs.Option.{option_map, option_or, option_copied}
@@ -10,8 +10,10 @@ use Rattle.rhd_hash.specs.declared.mixer.Seeds.{Seeds}
 use Rattle.rhd_hash.specs.Keys.{key_eq, key_eq-Decides, is_script_key}
 use Rattle.rhd_decl.specs.declared.declaration.Declaration.{Declaration}
 use Rattle.rhd_manifest.specs.Entry.{Entry, entry_key, entry_decl, entry_pair}
+use Rattle.rhd_manifest.specs.Listing.{lists_none}
 use Rattle.rhd_manifest.specs.Rank.{find_entry, firsts}
 use Rattle.rhd_manifest.proofs.Places.{no_script}
+use Rattle.rhd_module.specs.Below.{may_be_dynamic, lists_dynamic}
 use Rattle.rhd_module.specs.Tree.{Pairs}
 use Rattle.rhd_module.specs.Shown.{without, shown_of}
 
@@ -191,6 +193,16 @@ module _ (f : Key → Bool) where
   any_shown seeds eager listed =
       list_any-append (λ p. f p.0) eager (without eager (map (entry_pair seeds) (firsts listed))) ∙ any_without eager (map (entry_pair seeds) (firsts listed))
       ∙ ap (λ b. list_any (λ p. f p.0) eager || b) (any_pairs seeds (firsts listed) ∙ any_firsts listed)
+
+-- where a module lists something, and none that it shows has a key that a filter tells of, none of what it lists has
+pub none_dynamic : (seeds : Seeds) (hash : ℕ) (eager : Pairs) (listed : List Entry) → (not (lists_none listed) && list_any (λ p. may_be_dynamic seeds hash p.0) (shown_of seeds eager listed)) ≡ false
+    → lists_dynamic seeds hash listed ≡ false
+none_dynamic seeds hash eager [] h = refl
+none_dynamic seeds hash eager (e ∷ es) h = last (list_any (λ p. may_be_dynamic seeds hash p.0) eager) (lists_dynamic seeds hash (e ∷ es)) (sym (any_shown (may_be_dynamic seeds hash) seeds eager (e ∷ es)) ∙ h)
+  where
+    last : (a b : Bool) → (a || b) ≡ false → b ≡ false
+    last true b e = absurd (true≢false e)
+    last false b e = e
 
 pub copied_some : {A : Type 0} (o : Option (Bor A)) → is_some (option_copied o) ≡ is_some o
 copied_some None = refl

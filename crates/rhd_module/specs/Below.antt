@@ -1,5 +1,5 @@
 -- What holds of some module of a tree, and which module stands under a path.
-use Rattle.std.specs.Prelude.{ℕ, Bool, false, ◌||◌, ◌&&◌, ◌==◌, List, [], ◌∷◌, if◌then◌else◌, Option, None, Some}
+use Rattle.std.specs.Prelude.{ℕ, Bool, false, not, ◌||◌, ◌&&◌, ◌==◌, List, [], ◌∷◌, if◌then◌else◌, Option, None, Some}
 use Rattle.std.specs.Option.{option_map, option_and_then}
 use Rattle.std.specs.List.{list_any}
 use Rattle.rhd_value.specs.Tree.{Bytes, Tree, copied}
@@ -11,6 +11,7 @@ use Rattle.rhd_hash.specs.Parts.{untyped_key}
 use Rattle.rhd_hash.specs.Filter.{slot}
 use Rattle.rhd_func.specs.Access.{is_global_namespace}
 use Rattle.rhd_manifest.specs.Entry.{Entry, entry_key}
+use Rattle.rhd_manifest.specs.Listing.{lists_none}
 use Rattle.rhd_module.specs.Tree.{ModuleTree, Lists, Subs, no_subs, sub}
 use Rattle.rhd_module.specs.Shown.{shown}
 use Rattle.rhd_module.specs.Contents.{find_sub}
@@ -45,7 +46,15 @@ declares_dynamic seeds hash own = list_any (λ p. may_be_dynamic seeds hash p.0)
 abbrev pub lists_dynamic : Seeds → ℕ → List Entry → Bool
 lists_dynamic seeds hash listed = list_any (λ e. may_be_dynamic seeds hash (entry_key e)) listed
 
--- the same of the tree, or, while it isn't indexed, of the module alone
+-- something is listed
+abbrev pub lists_any : Lists → Bool
+lists_any own = not (lists_none own.listed)
+
+-- something is listed, and a declaration or what is listed has such a key
+abbrev pub may_list_dynamic : Seeds → ℕ → Lists → Bool
+may_list_dynamic seeds hash own = lists_any own && declares_dynamic seeds hash own
+
+-- some declaration of the tree has such a key, or, while it isn't indexed, of the module alone
 abbrev pub may_contain : ModuleTree → ℕ → Bool
 may_contain m hash = if m.own.indexed then some_in (declares_dynamic m.own.seeds hash) m else declares_dynamic m.own.seeds hash m.own
 

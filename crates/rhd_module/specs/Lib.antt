@@ -11,3 +11,4 @@ pub mod NativeIndex
 pub mod Scripts
 pub mod Manifests
 pub mod Made
+pub mod Lazy

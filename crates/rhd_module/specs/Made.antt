@@ -1,6 +1,6 @@
 -- The modules of manifests.
-use Rattle.std.specs.Prelude.{◌≡◌, ℕ, zero, suc, true, false, List, [], ◌∷◌, Result, Ok, Err, ⊤}
-use Rattle.std.specs.List.{list_any, Contains}
+use Rattle.std.specs.Prelude.{◌≡◌, ℕ, zero, suc, true, false, List, [], ◌∷◌, None, Result, Ok, Err, ⊤}
+use Rattle.std.specs.List.{Contains}
 use Rattle.std.specs.Map.{keys_of}
 use Rattle.rhd_value.specs.Tree.{Bytes}
 use Rattle.rhd_hash.specs.declared.mixer.Seeds.{Seeds}
@@ -12,7 +12,7 @@ use Rattle.rhd_manifest.specs.Manifest.{ManifestLists, manifest_at}
 use Rattle.rhd_manifest.specs.Rank.{rank, walk}
 use Rattle.rhd_module.specs.Contents.{with_sub}
 use Rattle.rhd_module.specs.Index.{NoneClash, indexed}
-use Rattle.rhd_module.specs.Manifests.{with_contents, with_manifest, is_banned_entry, RefusesIndexers}
+use Rattle.rhd_module.specs.Manifests.{with_contents, with_manifest, first_banned, RefusesIndexers}
 use Rattle.rhd_module.specs.Tree.{ModuleTree, empty_module}
 use Rattle.rhd_module.specs.Walk.{tree}
 
@@ -49,8 +49,8 @@ MadeClash seeds table ids OutOfMemory = ⊤
 MadeClash seeds table ids (HashCollision held other) = (id : ManifestId) × Contains ids id × Clashing seeds (keys_of (tree (made seeds table id))) held other
 MadeClash seeds table ids fault = ⊥
 
--- What making the module of a manifest answers: a banned indexer of it or of a manifest below it refuses it, and then two keys of the index of its module, or of one below it, if they clash.
+-- What making the module of a manifest answers: a banned indexer of it or of a manifest below it refuses it, and where there is none, two keys of the index of its module, or of one below it, if they clash.
 abbrev pub Makes : Seeds → List ManifestLists → ManifestId → Result ModuleTree DeclFault → Type 0
-Makes seeds table id (Ok m) = (list_any is_banned_entry (rank table id true) ≡ false) × ((i : ManifestId) → Contains (walk table id) i → IsMadeApart seeds table i) × (m ≡ made seeds table id)
-Makes seeds table id (Err (IndexerNotAllowed key)) = RefusesIndexers {A = ManifestId} (rank table id true) (Err (IndexerNotAllowed key))
-Makes seeds table id (Err fault) = MadeClash seeds table (walk table id) fault
+Makes seeds table id (Ok m) = (first_banned (rank table id true) ≡ None) × ((i : ManifestId) → Contains (walk table id) i → IsMadeApart seeds table i) × (m ≡ made seeds table id)
+Makes seeds table id (Err (HashCollision held other)) = (first_banned (rank table id true) ≡ None) × MadeClash seeds table (walk table id) (HashCollision held other)
+Makes seeds table id (Err fault) = RefusesIndexers {A = ManifestId} (rank table id true) (Err fault)

@@ -1,6 +1,6 @@
 -- How manifests are added to a module.
-use Rattle.std.specs.Prelude.{◌≡◌, Bool, true, false, List, [], ◌∷◌, ◌++◌, map, Result, Ok, Err, ⊤}
-use Rattle.std.specs.List.{list_any, Contains}
+use Rattle.std.specs.Prelude.{◌≡◌, Bool, true, false, List, [], ◌∷◌, ◌++◌, map, reverse, Option, None, Some, Result, Ok, Err, ⊤}
+use Rattle.std.specs.List.{find}
 use Rattle.std.specs.Map.{keys_of}
 use Rattle.rhd_value.specs.Tree.{Bytes, Tree}
 use Rattle.rhd_value.specs.Entries.{put as put_var}
@@ -43,16 +43,20 @@ combined table id m = with_contents (all_vars table id) (all_types table id) (wi
 abbrev pub is_banned_entry : Entry → Bool
 is_banned_entry e = is_banned e.name e.param_types
 
--- some of these is refused exactly where one is such an indexer; want of memory has no cause
+-- the first such indexer, from the lowest precedence to the highest
+abbrev pub first_banned : List Entry → Option Entry
+first_banned es = find is_banned_entry (reverse es)
+
+-- they are refused exactly where there is such an indexer, with the key of the first; want of memory has no cause
 abbrev pub RefusesIndexers : {A : Type 0} → List Entry → Result A DeclFault → Type 0
-RefusesIndexers es (Ok answer) = list_any is_banned_entry es ≡ false
+RefusesIndexers es (Ok answer) = first_banned es ≡ None
 RefusesIndexers es (Err OutOfMemory) = ⊤
-RefusesIndexers es (Err (IndexerNotAllowed key)) = (e : Entry) × Contains es e × (is_banned_entry e ≡ true) × (key ≡ entry_key e)
+RefusesIndexers es (Err (IndexerNotAllowed key)) = (e : Entry) × (first_banned es ≡ Some e) × (key ≡ entry_key e)
 RefusesIndexers es (Err fault) = ⊥
 
 -- What adding a manifest answers, and the module that it leaves: a banned indexer of it or of a manifest below it refuses it.
 abbrev pub AddsManifest : {A : Type 0} → List ManifestLists → ManifestId → ModuleTree → ModuleTree → Result A DeclFault → ModuleTree → Type 0
-AddsManifest table id old done (Ok answer) new = (list_any is_banned_entry (rank table id true) ≡ false) × (new ≡ done)
+AddsManifest table id old done (Ok answer) new = (first_banned (rank table id true) ≡ None) × (new ≡ done)
 AddsManifest table id old done (Err fault) new = RefusesIndexers {A = ManifestId} (rank table id true) (Err fault) × (new ≡ old)
 
 -- what is listed, as declarations under their keys

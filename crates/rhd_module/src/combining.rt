@@ -22,7 +22,11 @@ use std::alloc::Global;
 use std::rc::Rc;
 
 /// Puts variables in, one after the other.
-fn put_vars(alloc: Global, vars: &mut Entries, more: &[(Text, Dynamic)]) -> Result<(), OutOfMemory>
+pub(crate) fn put_vars(
+    alloc: Global,
+    vars: &mut Entries,
+    more: &[(Text, Dynamic)],
+) -> Result<(), OutOfMemory>
     ensures { OnOk result (vars.new ≡ put_vars more.now vars.old) }
 {
     for (name, value) in more {
@@ -32,7 +36,7 @@ fn put_vars(alloc: Global, vars: &mut Entries, more: &[(Text, Dynamic)]) -> Resu
 }
 
 /// Puts custom types in, one after the other.
-fn put_types(
+pub(crate) fn put_types(
     alloc: Global,
     types: &mut CustomTypesCollection,
     more: &[(Text, Text)],

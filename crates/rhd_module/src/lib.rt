@@ -5,6 +5,8 @@ mod combining;
 mod contents;
 mod index;
 mod law;
+mod lazy;
+mod manifest_calls;
 mod manifests;
 mod module;
 mod native_index;
@@ -15,6 +17,7 @@ mod setters;
 mod shared;
 
 pub use law::{a_declaration_leaves_the_others, a_key_finds_its_first_declaration};
+pub use manifest_calls::{EntryCalls, ManifestCalls};
 pub use module::Module;
 pub use registration::{FuncRegistration, is_pure_by_name, script_declaration, script_key};
 pub use rhd_decl::{

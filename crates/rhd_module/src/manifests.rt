@@ -1,7 +1,7 @@
 //! Manifests in modules.
 
-ghost use Rattle.std.specs.Prelude.{◌≡◌, ◌||◌, ◌∷◌, [], ℕ, true, false, map, reverse, OnOk, OnErr, IfOk, IfErr, IfSome, IfNone};
-ghost use Rattle.std.specs.List.{list_any, find, Contains};
+ghost use Rattle.std.specs.Prelude.{◌≡◌, ◌||◌, ◌∷◌, [], ℕ, true, map, reverse, OnOk, OnErr, IfOk, IfErr};
+ghost use Rattle.std.specs.List.{find};
 ghost use Rattle.std.specs.Option.{option_copied};
 ghost use Rattle.rhd_hash.specs.Filter.{is_marked};
 ghost use Rattle.rhd_hash.specs.Table.{HasOwnHashes};
@@ -11,7 +11,7 @@ ghost use Rattle.rhd_manifest.specs.Listing.{listed_in};
 ghost use Rattle.rhd_manifest.specs.Rank.{rank};
 ghost use Rattle.rhd_module.specs.Below.{lists_dynamic};
 ghost use Rattle.rhd_module.specs.Index.{IsClash};
-ghost use Rattle.rhd_module.specs.Manifests.{with_listed, with_manifest, is_banned_entry, RefusesIndexers, AddsManifest, with_pairs, put_back, put_all, registered_pairs, RegistersListed};
+ghost use Rattle.rhd_module.specs.Manifests.{with_listed, with_manifest, is_banned_entry, first_banned, RefusesIndexers, AddsManifest, with_pairs, put_back, put_all, registered_pairs, RegistersListed};
 ghost use Rattle.rhd_module.specs.Registered.{put};
 ghost use Rattle.rhd_module.specs.Tree.{empty_module};
 
@@ -44,10 +44,9 @@ fn find_banned(entries: &[FnManifestEntry]) -> Option<&FnManifestEntry>
     None
 }
 
-/// One of all that some manifests list.
+/// The first of all that some manifests list, from the lowest precedence to the highest.
 fn find_banned_in(parts: &[Rc<EntryList>]) -> Option<&FnManifestEntry>
-    ensures none { IfNone result (list_any is_banned_entry (listed_in parts.now) ≡ false) }
-    ensures some { IfSome result (λ e. Contains (listed_in parts.now) e.now × (is_banned_entry e.now ≡ true)) }
+    ensures { option_copied result ≡ first_banned (listed_in parts.now) }
 {
     for part in parts {
         let found = find_banned(part.as_slice());
@@ -164,7 +163,7 @@ fn register_declared(target: &mut Module, alloc: Global, declared: &Module) -> R
 
 /// A module in which what another one lists is declared, from the lowest precedence to the highest, and
 /// over it what that one declares.
-fn registered(alloc: Global, lists: &Module) -> Result<Module, DeclFault>
+pub(crate) fn registered(alloc: Global, lists: &Module) -> Result<Module, DeclFault>
     ensures ok { IfOk result (λ m. m ≡ with_pairs (registered_pairs lists.now.own) m.own.indexed (empty_module lists.now.own.seeds)) }
     ensures apart { IfOk result (λ m. HasOwnHashes lists.now.own.seeds (keys_of (registered_pairs lists.now.own))) }
     ensures clash { IfErr result (IsClash lists.now.own.seeds (keys_of (registered_pairs lists.now.own))) }

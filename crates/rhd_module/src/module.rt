@@ -12,10 +12,10 @@ ghost use Rattle.rhd_hash.specs.Table.{HasOwnHashes};
 ghost use Rattle.rhd_hash.specs.Refusal.{IsRefusal};
 ghost use Rattle.rhd_hash.specs.declared.fault.TableFault.{TableFault};
 ghost use Rattle.rhd_decl.specs.Collisions.{collision};
-ghost use Rattle.rhd_module.specs.Tree.{empty_module};
+ghost use Rattle.rhd_module.specs.Tree.{empty_module, subs_of};
 ghost use Rattle.rhd_manifest.specs.Entry.{entry_decl};
 ghost use Rattle.rhd_manifest.specs.Rank.{find_entry};
-ghost use Rattle.rhd_module.specs.Below.{has_slot, lists_dynamic};
+ghost use Rattle.rhd_module.specs.Below.{has_slot, may_list_dynamic};
 ghost use Rattle.rhd_module.specs.Shown.{own_decl};
 ghost use Rattle.rhd_module.specs.Registered.{put, with_decl, Puts};
 ghost use Rattle.rhd_module.specs.Contents.{commented, comment_on, with_comments};
@@ -282,6 +282,51 @@ impl Module {
         self.listed = Listing::new(alloc);
     }
 
+    /// A copy with the declarations of another module in the place of its own and with other sub-modules,
+    /// which lists nothing. It isn't indexed.
+    pub(crate) fn dup_with(
+        &self,
+        alloc: Global,
+        other: Module,
+        subs: BTreeMap<Text, Rc<Module>>,
+    ) -> Result<Module, OutOfMemory>
+        requires seeds { other.own.seeds ≡ self.now.own.seeds }
+        requires listed { other.own.listed ≡ [] }
+        ensures { IfOk result (λ copy. copy ≡ record {
+            own = record self.now.own { eager = other.own.eager; manifests = []; listed = []; indexed = false };
+            subs = subs_of subs.entries }) }
+    {
+        let id = self.share_id(alloc)?;
+        let doc = self.doc.dup(alloc)?;
+        let types = self.types.dup(alloc)?;
+        let vars = self.vars.dup(alloc)?;
+        let index = self.index.clone()?;
+        let mut flags = self.flags.dup();
+        flags.set_indexed(false);
+        let Module {
+            eager,
+            filter,
+            natives,
+            scripts,
+            ..
+        } = other;
+        Ok(Module {
+            id,
+            doc,
+            types,
+            vars,
+            eager,
+            manifests: Vec::new(alloc),
+            listed: Listing::new(alloc),
+            subs,
+            flags,
+            filter,
+            index,
+            natives,
+            scripts,
+        })
+    }
+
     /// Sets the comments of the declaration under a key. Answers whether there is one; a listed function is
     /// none.
     pub fn set_fn_comments(
@@ -352,10 +397,10 @@ impl Module {
         self.manifests.as_slice()
     }
 
-    /// False only where it lists no function with a parameter of any type whose name and number of
-    /// parameters have this hash.
+    /// Whether it lists functions, and has one, listed or declared, with a parameter of any type whose name
+    /// and number of parameters have a hash equal to this one modulo 64.
     pub fn may_list_dynamic_fn(&self, hash: u64) -> bool
-        ensures { result ≡ false → lists_dynamic self.now.own.seeds hash self.now.own.listed ≡ false }
+        ensures { result ≡ may_list_dynamic self.now.own.seeds hash self.now.own }
     {
         !self.listed.is_empty() && !self.filter.is_absent(hash)
     }
@@ -368,8 +413,8 @@ impl Module {
         self.eager.iter()
     }
 
-    /// Whether a native that isn't listed is declared under this name each of whose types is the argument's kind, or,
-    /// behind the first `exact` ones, `Dynamic`.
+    /// Whether a native that isn't listed is declared under this name each of whose types is the
+    /// argument's kind, or, behind the first `exact` ones, `Dynamic`.
     pub fn may_match(&self, exact: usize, name: &Text, kinds: &[TypeTag]) -> bool
         ensures { result ≡ may_match self.now exact name.now kinds.now }
     {

@@ -4,12 +4,15 @@ ghost use Rattle.std.specs.Prelude.{◌≡◌, None, [], OnOk, OnErr, IfOk};
 ghost use Rattle.rhd_func.specs.Infos.{infos_of};
 ghost use Rattle.rhd_module.specs.Contents.{with_id, named, with_doc, with_var, with_type, cleared, with_sub};
 ghost use Rattle.rhd_module.specs.Index.{Indexes};
+ghost use Rattle.rhd_module.specs.Lazy.{RegistersTree};
+ghost use Rattle.rhd_module.specs.Manifests.{AddsManifest, combined};
 ghost use Rattle.rhd_module.specs.Registered.{Puts, Registers, RegistersBoth, RegistersRaw, native_at, registered_decl, script_key, script_decl};
 
 use crate::module::Module;
 use crate::registration::FuncRegistration;
 use rhd_decl::{DeclFault, FuncMetadata};
-use rhd_func::{Natives, RhaiFunc, SharedDef};
+use rhd_func::{ManifestId, Natives, RhaiFunc, SharedDef};
+use rhd_manifest::Manifests;
 use rhd_value::{Dynamic, FnId, OutOfMemory, Text, TypeTag};
 use std::alloc::Global;
 use std::marker::Model;
@@ -228,5 +231,31 @@ impl SharedModule {
         let module = Rc::make_mut(&mut self.module)?;
         module.set_script_fn(alloc, def)?;
         Ok(())
+    }
+
+    /// Adds a manifest, flattened, to this owner's module, as `Module::combine_manifest` does. The module is
+    /// copied first where it has other owners.
+    pub fn combine_manifest(
+        &mut self,
+        alloc: Global,
+        manifests: &Manifests,
+        id: ManifestId,
+    ) -> Result<(), DeclFault>
+        ensures { AddsManifest manifests.now id self.old (combined manifests.now id self.old) result self.new }
+    {
+        let module = Rc::make_mut(&mut self.module)?;
+        module.combine_manifest(alloc, manifests, id)
+    }
+
+    /// Registers what is listed in this owner's module and below it, as `Module::register_lazy_functions`
+    /// does. The module is copied first where something is listed and it has other owners.
+    pub fn register_lazy_functions(&mut self, alloc: Global) -> Result<(), DeclFault>
+        ensures { RegistersTree self.old result self.new }
+    {
+        if !self.module.has_lazy_functions() {
+            return Ok(());
+        }
+        let module = Rc::make_mut(&mut self.module)?;
+        module.register_lazy_functions(alloc)
     }
 }
