@@ -11,6 +11,9 @@ pub mod Fills
 pub mod Kept
 pub mod Absent
 pub mod Listed
+pub mod Lookups
+pub mod SamePairs
+pub mod SameTrees
 pub mod Banned
 pub mod Registers
 pub mod Combined

@@ -5,6 +5,7 @@ pub mod Shown
 pub mod Registered
 pub mod Walk
 pub mod Below
+pub mod OwnKeys
 pub mod Index
 pub mod Matching
 pub mod NativeIndex

@@ -16,7 +16,10 @@ mod script_search;
 mod setters;
 mod shared;
 
-pub use law::{a_declaration_leaves_the_others, a_key_finds_its_first_declaration};
+pub use law::{
+    a_declaration_leaves_the_others, a_key_finds_its_first_declaration,
+    registering_keeps_what_is_found,
+};
 pub use manifest_calls::{EntryCalls, ManifestCalls};
 pub use module::Module;
 pub use registration::{FuncRegistration, is_pure_by_name, script_declaration, script_key};
