@@ -19,7 +19,7 @@ use Rattle.rhd_hash.specs.Matching.{types_match, key_matches}
 use Rattle.rhd_manifest.specs.Entry.{Entry, entry_key, entry_decl}
 use Rattle.rhd_manifest.specs.Rank.{find_entry}
 use Rattle.rhd_module.proofs.Absent.{absent_qualified}
-use Rattle.rhd_module.proofs.Listed.{shown_past}
+use Rattle.rhd_module.proofs.Listed.{shown_past, none_dynamic}
 use Rattle.rhd_module.specs.Below.{may_be_dynamic, lists_dynamic}
 use Rattle.rhd_module.specs.Matching.{may_match}
 use Rattle.rhd_module.specs.Tree.{ModuleTree, Pairs}
@@ -81,7 +81,7 @@ no_own layer n name kinds types params m matches dynamic l h =
     let r = any_parts (may_match m n name kinds) (may_list name params m) h in
     ap (option_map (λ (d : Declaration). record { layer = layer; func = d.func; source = m.own.id }))
     (shown_past m.own.seeds m.own.eager m.own.listed (Native None name types) (no_entry n name kinds types m.own.eager matches r.0)
-    ∙ ap (option_map (entry_decl m.own.seeds)) (none_listed m.own.seeds name types params m.own.listed dynamic l r.1))
+    ∙ ap (option_map (entry_decl m.own.seeds)) (none_listed m.own.seeds name types params m.own.listed dynamic l (none_dynamic m.own.seeds (untyped m.own.seeds name params) m.own.eager m.own.listed r.1)))
 
 no_place : (layer : ℕ → Layer) (n : ℕ) (name : Bytes) (kinds types : List TypeTag) (params k : ℕ) (ms : List ModuleTree) → types_match n types kinds ≡ true → any_dynamic types ≡ true → length types ≡ params
     → any_may_show n name params kinds ms ≡ false → first_of (λ y. pick_at (Native None name types) (place_of layer y)) (enumerate_from k ms) ≡ None

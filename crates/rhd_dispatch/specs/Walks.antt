@@ -10,7 +10,7 @@ use Rattle.rhd_hash.specs.declared.key.Key.{Key}
 use Rattle.rhd_hash.specs.declared.key.Key.TheVariants.{Native}
 use Rattle.rhd_hash.specs.Parts.{untyped}
 use Rattle.rhd_func.specs.declared.func.RhaiFunc.{RhaiFunc}
-use Rattle.rhd_module.specs.Below.{may_contain, lists_dynamic}
+use Rattle.rhd_module.specs.Below.{may_contain, may_list_dynamic}
 use Rattle.rhd_module.specs.Matching.{may_match}
 use Rattle.rhd_module.specs.Shown.{shown}
 use Rattle.rhd_module.specs.Tree.{ModuleTree}
@@ -89,9 +89,9 @@ may_have name params m = may_contain m (untyped m.own.seeds name params)
 abbrev pub any_may_have : Bytes → ℕ → Imports → Bool
 any_may_have name params es = list_any (λ e. may_have name params e.1) es
 
--- a module lists a native of this name with so many parameters, one of which is `Dynamic`, or one whose hash is the same modulo 64
+-- a module lists something, and has a native with so many parameters of this name, one of which is `Dynamic`, or one whose hash is the same modulo 64
 abbrev pub may_list : Bytes → ℕ → ModuleTree → Bool
-may_list name params m = lists_dynamic m.own.seeds (untyped m.own.seeds name params) m.own.listed
+may_list name params m = may_list_dynamic m.own.seeds (untyped m.own.seeds name params) m.own
 
 -- it declares a native of this name for these kinds, the first n of whose types are exact, or may list one
 abbrev pub may_show : ℕ → Bytes → ℕ → List TypeTag → ModuleTree → Bool

@@ -49,15 +49,15 @@ pub(crate) struct NativesOf<'a> {
     pub name: HashedName<'a>,
 }
 
-/// Whether some module may have a native of this name for these kinds, one of whose types is `Dynamic`,
-/// where the types before a place are exact. False only where none declares and none lists one.
+/// Whether some module declares a native of this name for these kinds, where the types before a place are
+/// exact, or may list one that has a type `Dynamic`.
 fn any_may_match(
     modules: &[SharedModule],
     place: usize,
     name: HashedName,
     kinds: &[TypeTag],
 ) -> bool
-    ensures { result ≡ false → any_may_show place name.entry.name.now name.entry.params kinds.now modules.now ≡ false }
+    ensures { result ≡ any_may_show place name.entry.name.now name.entry.params kinds.now modules.now }
 {
     for shared in modules {
         let module = shared.module();

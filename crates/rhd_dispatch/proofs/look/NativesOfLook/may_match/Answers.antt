@@ -16,7 +16,7 @@ returns g c none types matches dynamic =
     let indexed : Imports → Bool = λ es. all_indexed es in
     not_found c.args.self.now.state.now.lib c.args.self.now.engine.now.globals c.args.self.now.state.now.imports c.args.self.now.engine.now.statics c.args.place name c.args.kinds.now types
     c.as_slice-2.ensures.indexed (ap indexed (sym c.static_modules.ensures) ∙ c.any_static_may_have.ensures.indexed) matches dynamic
-    (show c.global_modules.result.now c.args.self.now.engine.now.globals c.global_modules.ensures ∙ c.any_may_match.ensures c.if-any_may_match.false)
-    (show c.as_slice.result.now c.args.self.now.state.now.lib c.as_slice.ensures ∙ c.any_may_match-2.ensures c.if-any_may_match-2.false)
+    (show c.global_modules.result.now c.args.self.now.engine.now.globals c.global_modules.ensures ∙ sym c.any_may_match.ensures ∙ c.if-any_may_match.false)
+    (show c.as_slice.result.now c.args.self.now.state.now.lib c.as_slice.ensures ∙ sym c.any_may_match-2.ensures ∙ c.if-any_may_match-2.false)
     (have c.as_slice-2.result.now c.args.self.now.state.now.imports c.as_slice-2.ensures.items ∙ sym c.any_import_may_have.ensures ∙ c.if-any_import_may_have.false)
     (have c.static_modules.result.now c.args.self.now.engine.now.statics c.static_modules.ensures ∙ sym c.any_static_may_have.ensures.found ∙ none)
