@@ -2,6 +2,7 @@
 //! bodies and hosts other than those of this crate may be handed in. The program of rows runs texts.
 
 mod foreign;
+mod listings;
 mod sessions;
 mod values;
 
