@@ -1,5 +1,5 @@
 -- How what is listed in a module and below it is registered.
-use Rattle.std.specs.Prelude.{◌≡◌, ◌⊎◌, Bool, not, true, ◌||◌, List, [], ◌∷◌, ◌++◌, if◌then◌else◌, Result, Ok, Err, ⊤}
+use Rattle.std.specs.Prelude.{◌≡◌, ◌⊎◌, ◌||◌, List, [], ◌∷◌, ◌++◌, if◌then◌else◌, Result, Ok, Err, ⊤}
 use Rattle.std.specs.List.{AllByRecursion, Contains}
 use Rattle.std.specs.Map.{keys_of}
 use Rattle.rhd_hash.specs.Table.{HasOwnHashes, Clashing}
@@ -8,7 +8,7 @@ use Rattle.rhd_decl.specs.declared.fault.DeclFault.TheVariants.{HashCollision, O
 use Rattle.rhd_module.specs.Below.{lists_any, some_below, some_in}
 use Rattle.rhd_module.specs.Index.{NoneClash, indexed}
 use Rattle.rhd_module.specs.Manifests.{registered, registered_pairs}
-use Rattle.rhd_module.specs.Tree.{ModuleTree, Lists, Subs, no_subs, sub}
+use Rattle.rhd_module.specs.Tree.{ModuleTree, Subs, no_subs, sub}
 use Rattle.rhd_module.specs.Walk.{tree}
 
 -- a module with what it lists registered, and with these sub-modules

@@ -7,7 +7,7 @@ use Rattle.rhd_hash.specs.declared.mixer.Seeds.{Seeds}
 use Rattle.rhd_hash.specs.Table.{Clashing}
 use Rattle.rhd_func.specs.declared.access.ManifestId.{ManifestId}
 use Rattle.rhd_decl.specs.declared.fault.DeclFault.{DeclFault}
-use Rattle.rhd_decl.specs.declared.fault.DeclFault.TheVariants.{HashCollision, IndexerNotAllowed, OutOfMemory}
+use Rattle.rhd_decl.specs.declared.fault.DeclFault.TheVariants.{HashCollision, OutOfMemory}
 use Rattle.rhd_manifest.specs.Manifest.{ManifestLists, manifest_at}
 use Rattle.rhd_manifest.specs.Rank.{rank, walk}
 use Rattle.rhd_module.specs.Contents.{with_sub}

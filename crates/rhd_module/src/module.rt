@@ -293,8 +293,9 @@ impl Module {
         requires seeds { other.own.seeds ≡ self.now.own.seeds }
         requires listed { other.own.listed ≡ [] }
         ensures { IfOk result (λ copy. copy ≡ record {
-            own = record self.now.own { eager = other.own.eager; manifests = []; listed = []; indexed = false };
-            subs = subs_of subs.entries }) }
+          own = record self.now.own { eager = other.own.eager; manifests = []; listed = []; indexed = false };
+          subs = subs_of subs.entries;
+        }) }
     {
         let id = self.share_id(alloc)?;
         let doc = self.doc.dup(alloc)?;

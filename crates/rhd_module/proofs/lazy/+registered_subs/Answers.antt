@@ -8,7 +8,7 @@ use Rattle.std.specs.Map.{keys_of}
 use Rattle.rhd_value.specs.Tree.{Bytes}
 use Rattle.rhd_module.specs.Below.{lists_any, some_in}
 use Rattle.rhd_module.specs.Index.{indexed, NoneClash, IsClash}
-use Rattle.rhd_module.specs.Lazy.{with_registered, registered_subs, touched, touched_below, HasApartTable, HasApartTree, RegisterClash}
+use Rattle.rhd_module.specs.Lazy.{with_registered, registered_subs, touched_below, HasApartTable, HasApartTree, RegisterClash}
 use Rattle.rhd_module.specs.Manifests.{registered_pairs}
 use Rattle.rhd_module.specs.Tree.{ModuleTree, Subs, subs_of}
 use Rattle.rhd_module.specs.Walk.{tree}

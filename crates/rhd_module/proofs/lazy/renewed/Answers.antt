@@ -1,4 +1,4 @@
-use Rattle.std.proofs.Common.{◌≡◌, List, [], false, ap, subst, ◌∙◌}
+use Rattle.std.proofs.Common.{◌≡◌, [], false, ap, subst, ◌∙◌}
 use Rattle.std.specs.Map.{keys_of}
 use Rattle.rhd_module.specs.Index.{NoneClash}
 use Rattle.rhd_module.specs.Lazy.{with_registered}
