@@ -53,7 +53,7 @@ put_step : (n : ℕ) (k : Key) (d : Declaration) (p : Key × Declaration) (ps : 
 put_step n k d p ps true h all ih = both (is_held n d) (pairs_held n ps) h (parts (is_held n p.1) (pairs_held n ps) all).1
 put_step n k d p ps false h all ih = both (is_held n p.1) (pairs_held n (put k d ps)) (parts (is_held n p.1) (pairs_held n ps) all).0 ih
 
-put_held : (n : ℕ) (k : Key) (d : Declaration) (ps : Pairs) → is_held n d ≡ true → pairs_held n ps ≡ true → pairs_held n (put k d ps) ≡ true
+pub put_held : (n : ℕ) (k : Key) (d : Declaration) (ps : Pairs) → is_held n d ≡ true → pairs_held n ps ≡ true → pairs_held n (put k d ps) ≡ true
 put_held n k d [] h all = both (is_held n d) true h refl
 put_held n k d (p ∷ ps) h all = put_step n k d p ps (key_eq k p.0) h all (put_held n k d ps h (parts (is_held n p.1) (pairs_held n ps) all).1)
 

@@ -22,7 +22,7 @@ use Rattle.rhd_engine.specs.Lists.{Imports, module_of, put_module, second}
 use Rattle.rhd_engine.proofs.HeldLaws.{is_held, pairs_held, both, parts, found_held, shown_held}
 use Rattle.rhd_engine.proofs.Indexed.{all_put, all_found}
 
-three : (a b c : Bool) → a ≡ true → b ≡ true → c ≡ true → (a && (b && c)) ≡ true
+pub three : (a b c : Bool) → a ≡ true → b ≡ true → c ≡ true → (a && (b && c)) ≡ true
 three a b c p q r = both a (b && c) p (both b c q r)
 
 -- Modules.

@@ -1,5 +1,6 @@
 pub mod HeldLaws
 pub mod HeldTrees
+pub mod HeldManifests
 pub mod Indexed
 pub mod PathLaws
 pub mod Placed

@@ -3,6 +3,7 @@ use Rattle.std.specs.Prelude.{◌≡◌, ℕ, List}
 use Rattle.rhd_value.specs.declared.tag.FnId.{FnId}
 use Rattle.rhd_hash.specs.declared.mixer.Seeds.{Seeds}
 use Rattle.rhd_func.specs.Natives.{NativeInfo}
+use Rattle.rhd_manifest.specs.Manifest.{ManifestLists}
 use Rattle.rhd_module.specs.Tree.{ModuleTree}
 pub use Rattle.rhd_engine.specs.Lists.{Imports}
 pub use Rattle.rhd_engine.specs.declared.builtins.Operator.{Operator}
@@ -15,6 +16,7 @@ pub record EngineLists : Type 0 where
   pub statics : Imports  -- in ascending order of name
   pub natives : List NativeInfo  -- by number
   pub iterators : ℕ  -- how many functions that iterate are held; none yet
+  pub manifests : List ManifestLists  -- by number
   pub builtins : List (Operator × FnId)  -- the functions of operators between two kinds
   pub seeds : Seeds  -- under which its modules hash their keys
   pub limits : Limits

@@ -4,6 +4,7 @@ use Rattle.std.specs.List.{list_all}
 use Rattle.rhd_value.specs.declared.tag.FnId.{FnId}
 use Rattle.rhd_func.specs.declared.func.RhaiFunc.{RhaiFunc}
 use Rattle.rhd_func.specs.declared.func.RhaiFunc.TheVariants.{Pure, Method, Iterator, Plugin, StaticPlugin, Script}
+use Rattle.rhd_manifest.specs.Manifest.{ManifestLists}
 use Rattle.rhd_module.specs.Tree.{ModuleTree, Lists, Subs, no_subs, sub}
 use Rattle.rhd_engine.specs.declared.builtins.Operator.{Operator}
 use Rattle.rhd_engine.specs.Lists.{Imports}
@@ -37,6 +38,10 @@ all_held natives ms = list_all (names_held natives) ms
 -- and those of each module with a name
 abbrev pub named_held : ℕ → Imports → Bool
 named_held natives es = list_all (λ e. names_held natives e.1) es
+
+-- and those of the entries of each manifest
+abbrev pub table_held : ℕ → List ManifestLists → Bool
+table_held natives table = list_all (λ m. list_all (λ e. nat_lt e.func.0 natives) m.entries) table
 
 -- and those of the built-ins
 abbrev pub builtins_held : ℕ → List (Operator × FnId) → Bool

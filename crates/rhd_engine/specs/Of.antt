@@ -11,6 +11,7 @@ lists_of info engine = record {
   statics = engine.statics;
   natives = infos_of info engine.natives;
   iterators = 0;
+  manifests = engine.manifests;
   builtins = engine.builtins;
   seeds = engine.seeds;
   limits = engine.limits;

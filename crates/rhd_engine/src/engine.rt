@@ -1,7 +1,7 @@
 //! An engine: a table of natives, and what is registered for all calls.
 
 ghost use Rattle.std.specs.Prelude.{◌≡◌, ◌≤◌, ◌<◌, true, IfOk, length};
-ghost use Rattle.rhd_engine.specs.Held.{all_held, named_held, builtins_held};
+ghost use Rattle.rhd_engine.specs.Held.{all_held, named_held, builtins_held, table_held};
 
 use crate::builtins::Builtins;
 use crate::limits::{Limits, Printers};
@@ -9,6 +9,7 @@ use crate::lists::ModuleList;
 use crate::statics::ModuleMap;
 use rhd_func::Natives;
 use rhd_hash::Seeds;
+use rhd_manifest::Manifests;
 use rhd_module::{Module, SharedModule};
 use rhd_value::OutOfMemory;
 use std::alloc::Global;
@@ -18,6 +19,8 @@ use std::alloc::Global;
 pub struct Engine {
     /// The natives that it was made with, whose numbers its declarations name.
     pub natives: Natives,
+    /// The table of manifests, of which modules are made when they are asked for. It stays as it was handed in.
+    pub manifests: Manifests,
     /// The modules whose functions all calls find. The first is the global namespace, into which natives
     /// are registered.
     pub globals: ModuleList,
@@ -27,6 +30,7 @@ pub struct Engine {
     seeds: Seeds,
     limits: Limits,
     printers: Printers,
+    ghost manifests_held: { table_held (length natives.items.items) manifests ≡ true },
     ghost globals_held: { all_held (length natives.items.items) globals ≡ true },
     ghost statics_held: { named_held (length natives.items.items) statics ≡ true },
     ghost has_namespace: { 0 < length globals },
@@ -36,14 +40,16 @@ pub struct Engine {
 
 impl Engine {
     ghost use Rattle.rhd_func.specs.Infos.{infos_of};
+    ghost use Rattle.rhd_manifest.specs.Fits.{fits};
     ghost use Rattle.rhd_engine.specs.Of.{lists_of};
     ghost use Rattle.rhd_engine.specs.Start.{start_lists};
 
     /// An engine with an empty global namespace and no static module. Its built-ins are held by the
-    /// natives, and its modules hash their keys under these seeds.
+    /// natives, which its manifests fit, and its modules hash their keys under these seeds.
     pub fn new(
         alloc: Global,
         natives: Natives,
+        manifests: Manifests,
         builtins: Builtins,
         seeds: Seeds,
         limits: Limits,
@@ -51,8 +57,9 @@ impl Engine {
     ) -> Result<Engine, OutOfMemory>
         requires level { limits.level ≤ 1000 }
         requires builtins { builtins_held (length natives.items.items) builtins ≡ true }
+        requires fits { fits (infos_of info natives) manifests ≡ true }
         ensures natives { IfOk result (λ engine. engine.natives ≡ natives) }
-        ensures lists { IfOk result (λ engine. lists_of info engine ≡ start_lists (infos_of info natives) seeds limits builtins printers) }
+        ensures lists { IfOk result (λ engine. lists_of info engine ≡ start_lists (infos_of info natives) manifests seeds limits builtins printers) }
     {
         let mut globals = ModuleList::new(alloc);
         let empty = Module::new(alloc, seeds)?;
@@ -60,6 +67,7 @@ impl Engine {
         globals.push(namespace)?;
         Ok(Engine {
             natives,
+            manifests,
             globals,
             statics: ModuleMap::new(alloc),
             builtins,
@@ -74,6 +82,13 @@ impl Engine {
         ensures { result.now ≡ self.now.natives }
     {
         &self.natives
+    }
+
+    /// The table of manifests.
+    pub fn manifests(&self) -> &Manifests
+        ensures { result.now ≡ self.now.manifests }
+    {
+        &self.manifests
     }
 
     /// The modules whose functions all calls find, in order.

@@ -10,7 +10,7 @@ invariant_of-self g c =
     let is = c.register_both_in_first.ensures in
     let count = registers_both_first_count (infos_of (λ z. (goal.PluginFunc-dyn g z).info z.1) engine.natives) c.in_ok-get_reg.get_reg c.args.get c.in_ok-set_reg.set_reg c.args.set engine.globals c.register_both_in_first.new.self c.register_both_in_first.result is in
     let held = registers_both_by_table (λ z. (goal.PluginFunc-dyn g z).info z.1) engine.natives c.in_ok-get_reg.get_reg c.args.get c.in_ok-set_reg.set_reg c.args.set engine.globals c.register_both_in_first.new.self c.register_both_in_first.result is engine.globals_held in
-    record { globals_held = held; statics_held = engine.statics_held; has_namespace = omega (arith, count, engine.has_namespace); builtins_held = engine.builtins_held; limited = engine.limited }
+    record { manifests_held = engine.manifests_held; globals_held = held; statics_held = engine.statics_held; has_namespace = omega (arith, count, engine.has_namespace); builtins_held = engine.builtins_held; limited = engine.limited }
 
 pub returns-clause-kept : goal.returns-clause-kept
 unfolding lists_of

@@ -12,7 +12,7 @@ invariant_of-self g c =
     let put = c.insert_second.ensures in
     let held = second_or_not (λ (ms : List ModuleTree). all_held n ms ≡ true) c.args.added engine.globals c.insert_second.new.self c.insert_second.result put.ok put.err (second_held n c.args.added engine.globals c.requires engine.globals_held) engine.globals_held in
     let count = second_or_not (λ (ms : List ModuleTree). 0 < length ms) c.args.added engine.globals c.insert_second.new.self c.insert_second.result put.ok put.err (second_count c.args.added engine.globals) engine.has_namespace in
-    record { globals_held = held; statics_held = engine.statics_held; has_namespace = count; builtins_held = engine.builtins_held; limited = engine.limited }
+    record { manifests_held = engine.manifests_held; globals_held = held; statics_held = engine.statics_held; has_namespace = count; builtins_held = engine.builtins_held; limited = engine.limited }
 
 pub returns-clause-kept : goal.returns-clause-kept
 unfolding lists_of
