@@ -67,7 +67,7 @@ told_refused {w2} {f2} w f command fault number held is d = subst (λ (x : DeclF
 
 -- an unknown number is the cause
 by_unknown : (w : World) (f : Frame) (command : Command) (fault : DeclFault) → first_of unknown_of (operands w f command) ≡ Some fault → cause w f command ≡ Some fault
-by_unknown w f command fault is = ap (λ (u : Option DeclFault). first_some (u ∷ not_callable command ∷ indexer_not_allowed w.engine.natives command ∷ [])) is
+by_unknown w f command fault is = ap (λ (u : Option DeclFault). first_some (u ∷ not_callable command ∷ indexer_not_allowed w.engine.natives w.engine.manifests command ∷ [])) is
 
 first_unknown : (number held : ℕ) (more : List (ℕ × ℕ)) (below : Bool) → nat_lt number held ≡ below → below ≡ false → first_of unknown_of ((number, held) ∷ more) ≡ Some (UnknownNumber number held)
 first_unknown number held more true is e = absurd cc
@@ -93,7 +93,7 @@ refused_second w f command first all number held n h more is below en eh past =
     refused (found ∙ (λ i. Some (UnknownNumber (sym en i) (sym eh i))))
 
 -- all operands are held, and nothing else refuses the command
-pub none_refuses : (w : World) (f : Frame) (command : Command) → first_of unknown_of (operands w f command) ≡ None → not_callable command ≡ None → indexer_not_allowed w.engine.natives command ≡ None → cause w f command ≡ None
+pub none_refuses : (w : World) (f : Frame) (command : Command) → first_of unknown_of (operands w f command) ≡ None → not_callable command ≡ None → indexer_not_allowed w.engine.natives w.engine.manifests command ≡ None → cause w f command ≡ None
 none_refuses w f command unknown callable allowed = λ i. first_some (unknown i ∷ callable i ∷ allowed i ∷ [])
 
 pub one_held : (number held : ℕ) → number < held → first_of unknown_of ((number, held) ∷ []) ≡ None
@@ -229,7 +229,7 @@ static_goes w f name id m new r is places =
     by none changes (Err (UnknownNumber number count)) places = absurd places
 
 -- a question about a module that is held
-pub asked_goes : (w : World) (f : Frame) (command : Command) (id : ModuleId) (m : ModuleTree) (reply same : Reply) → operands w f command ≡ (id.0, length w.modules) ∷ [] → not_callable command ≡ None → indexer_not_allowed w.engine.natives command ≡ None → slice_get w.modules id.0 ≡ Some m
+pub asked_goes : (w : World) (f : Frame) (command : Command) (id : ModuleId) (m : ModuleTree) (reply same : Reply) → operands w f command ≡ (id.0, length w.modules) ∷ [] → not_callable command ≡ None → indexer_not_allowed w.engine.natives w.engine.manifests command ≡ None → slice_get w.modules id.0 ≡ Some m
     → change w f command ≡ Some (record { reply = same; world = w; frame = f; tables = [] }) → reply ≡ same → Declares w f command reply w f
 asked_goes w f command id m reply same is callable allowed there changes e =
     let none = none_refuses w f command (ap (first_of unknown_of) is ∙ one_held id.0 (length w.modules) (slice_get_within w.modules id.0 m there)) callable allowed in

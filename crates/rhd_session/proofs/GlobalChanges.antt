@@ -76,12 +76,12 @@ or_none None = refl
 or_none (Some fault) = refl
 
 -- a native's number and an indexer are all that refuses a registration for all calls
-fn_caused : (w : World) (f : Frame) (name : Bytes) (id : FnId) → cause w f (commands.RegisterFn name id) ≡ first_some (unheld w.engine.natives (Some id) ∷ indexer_not_allowed w.engine.natives (commands.RegisterFn name id) ∷ [])
-fn_caused w f name id = ap (λ (u : Option DeclFault). first_some (u ∷ indexer_not_allowed w.engine.natives (commands.RegisterFn name id) ∷ [])) (or_none (unheld w.engine.natives (Some id)))
+fn_caused : (w : World) (f : Frame) (name : Bytes) (id : FnId) → cause w f (commands.RegisterFn name id) ≡ first_some (unheld w.engine.natives (Some id) ∷ indexer_not_allowed w.engine.natives w.engine.manifests (commands.RegisterFn name id) ∷ [])
+fn_caused w f name id = ap (λ (u : Option DeclFault). first_some (u ∷ indexer_not_allowed w.engine.natives w.engine.manifests (commands.RegisterFn name id) ∷ [])) (or_none (unheld w.engine.natives (Some id)))
 
 raw_caused : (w : World) (f : Frame) (name : Bytes) (types : List TypeTag) (id : FnId)
-    → cause w f (commands.RegisterRaw name types id) ≡ first_some (unheld w.engine.natives (Some id) ∷ None ∷ indexer_not_allowed w.engine.natives (commands.RegisterRaw name types id) ∷ [])
-raw_caused w f name types id = ap (λ (u : Option DeclFault). first_some (u ∷ None ∷ indexer_not_allowed w.engine.natives (commands.RegisterRaw name types id) ∷ [])) (or_none (unheld w.engine.natives (Some id)))
+    → cause w f (commands.RegisterRaw name types id) ≡ first_some (unheld w.engine.natives (Some id) ∷ None ∷ indexer_not_allowed w.engine.natives w.engine.manifests (commands.RegisterRaw name types id) ∷ [])
+raw_caused w f name types id = ap (λ (u : Option DeclFault). first_some (u ∷ None ∷ indexer_not_allowed w.engine.natives w.engine.manifests (commands.RegisterRaw name types id) ∷ [])) (or_none (unheld w.engine.natives (Some id)))
 
 pub fn_goes : (w w2 : World) (f : Frame) (name : Bytes) (id : FnId) (reg : FuncRegistration) (new : List ModuleTree) (r : Result (Unit {0}) DeclFault) → reg ≡ fn_registration w.engine.natives name id → RegistersFirst w.engine.natives reg id w.engine.globals r new
     → w2 ≡ in_globals w new → Goes w f (commands.RegisterFn name id) r w2 f

@@ -2,4 +2,5 @@ pub mod Placed
 pub mod Lists
 pub mod Declared
 pub mod ModuleChanges
+pub mod ManifestChanges
 pub mod GlobalChanges

@@ -1,15 +1,17 @@
 -- How the code carries out the commands that declare something: the machine's own words. `Declares` says what they answer and leave.
-use Rattle.std.specs.Prelude.{◌≡◌, Bool, true, false, List, [], ◌∷◌, Option, None, Some, Result, Ok, Err}
+use Rattle.std.specs.Prelude.{◌≡◌, Bool, true, false, not, nat_lt, List, [], ◌∷◌, length, Option, None, Some, Result, Ok, Err}
 use Rattle.std.specs.List.{AllByRecursion, Contains}
-use Rattle.rhd_value.specs.Firsts.{first_some}
+use Rattle.rhd_value.specs.Firsts.{first_some, where_holds}
 use Rattle.rhd_value.specs.declared.tag.FnId.{FnId}
 use Rattle.rhd_value.specs.declared.memory.OutOfMemory.{OutOfMemory}
 use Rattle.rhd_hash.specs.Table.{Clashing}
 use Rattle.rhd_func.specs.Natives.{NativeInfo}
 use Rattle.rhd_func.specs.Funcs.{native_of, iter_fn_of}
 use Rattle.rhd_func.specs.declared.access.IterId.{IterId}
+use Rattle.rhd_func.specs.declared.access.ManifestId.{ManifestId}
 use Rattle.rhd_decl.specs.declared.fault.DeclFault.{DeclFault}
-use Rattle.rhd_decl.specs.declared.fault.DeclFault.TheVariants.{HashCollision, OutOfMemory as no_memory}
+use Rattle.rhd_decl.specs.declared.fault.DeclFault.TheVariants.{HashCollision, UnknownNumber, OutOfMemory as no_memory}
+use Rattle.rhd_manifest.specs.Manifest.{ManifestLists}
 use Rattle.rhd_module.specs.Tree.{ModuleTree}
 use Rattle.rhd_module.specs.Registered.{unheld}
 use Rattle.rhd_engine.specs.Engine.{Frame}
@@ -18,7 +20,7 @@ use Rattle.rhd_call.specs.declared.command.Command.TheVariants as commands
 use Rattle.rhd_call.specs.declared.reply.Reply.{Reply}
 use Rattle.rhd_call.specs.declared.reply.Reply.TheVariants.{Done, Refused}
 use Rattle.rhd_machine.specs.World.{World}
-use Rattle.rhd_session.specs.Commands.{ChangedModule, Keyed, module_change, not_callable, indexer_not_allowed}
+use Rattle.rhd_session.specs.Commands.{ChangedModule, Keyed, with_made, without_keys, module_change, not_callable, indexer_not_allowed}
 use Rattle.rhd_session.specs.Answered.{Declares, NoClash}
 
 -- the native that a command registers in a module
@@ -27,28 +29,42 @@ native_in (commands.Native m reg id) = Some id
 native_in (commands.RawNative m name namespace types func) = native_of func
 native_in command = None
 
+-- the manifest that a command adds to a module
+abbrev pub manifest_in : Command → Option ManifestId
+manifest_in (commands.CombineManifest m id) = Some id
+manifest_in command = None
+
+-- its number isn't held
+abbrev pub unheld_manifest : List ManifestLists → Option ManifestId → Option DeclFault
+unheld_manifest table None = None
+unheld_manifest table (Some id) = where_holds (not (nat_lt id.0 (length table))) (UnknownNumber id.0 (length table))
+
 -- the function that iterates that a command would register in a module
 abbrev pub iterator_in : Command → Option IterId
 iterator_in (commands.RawNative m name namespace types func) = iter_fn_of func
 iterator_in command = None
 
 -- why a command doesn't change a module that is held, but for a collision
-abbrev pub module_cause : List NativeInfo → Command → Option DeclFault
-module_cause natives command = first_some (unheld natives (native_in command) ∷ not_callable command ∷ indexer_not_allowed natives command ∷ [])
+abbrev pub module_cause : List NativeInfo → List ManifestLists → Command → Option DeclFault
+module_cause natives table command = first_some (unheld natives (native_in command) ∷ unheld_manifest table (manifest_in command) ∷ not_callable command ∷ indexer_not_allowed natives table command ∷ [])
 
 -- what changing a module answers, and the module that it leaves
-abbrev pub ChangesModule : List NativeInfo → Command → ModuleTree → Result (Unit {0}) DeclFault → ModuleTree → Type 0
-ChangesModule natives command old (Ok u) new = (module_cause natives command ≡ None) × AllByRecursion NoClash (module_change natives command old).tables × (new ≡ (module_change natives command old).tree)
-ChangesModule natives command old (Err no_memory) new = new ≡ old
-ChangesModule natives command old (Err (HashCollision held other)) new =
-    (module_cause natives command ≡ None) × ((table : Keyed) × Contains (module_change natives command old).tables table × Clashing table.seeds table.keys held other) × (new ≡ old)
-ChangesModule natives command old (Err fault) new = (module_cause natives command ≡ Some fault) × (new ≡ old)
+abbrev pub ChangesModule : List NativeInfo → List ManifestLists → Command → ModuleTree → Result (Unit {0}) DeclFault → ModuleTree → Type 0
+ChangesModule natives table command old (Ok u) new = (module_cause natives table command ≡ None) × AllByRecursion NoClash (module_change natives table command old).tables × (new ≡ (module_change natives table command old).tree)
+ChangesModule natives table command old (Err no_memory) new = new ≡ old
+ChangesModule natives table command old (Err (HashCollision held other)) new =
+    (module_cause natives table command ≡ None) × ((table : Keyed) × Contains (module_change natives table command old).tables table × Clashing table.seeds table.keys held other) × (new ≡ old)
+ChangesModule natives table command old (Err fault) new = (module_cause natives table command ≡ Some fault) × (new ≡ old)
 
 -- what a command that answers nothing else than that it is done, comes to
 abbrev pub Goes : World → Frame → Command → Result (Unit {0}) DeclFault → World → Frame → Type 0
 Goes w f command (Ok u) w2 f2 = Declares w f command Done w2 f2
 Goes w f command (Err no_memory) w2 f2 = (w2 ≡ w) × (f2 ≡ f)
 Goes w f command (Err fault) w2 f2 = Declares w f command (Refused fault) w2 f2
+
+-- a module that is made for a command, and is then the last, is what it answers and leaves
+abbrev pub MadeFor : World → Frame → Command → ModuleTree → Type 0
+MadeFor w f command m = let c = with_made w f (without_keys m) in Declares w f command c.reply c.world f
 
 -- the command changes no numbered module by itself, and answers nothing but that it is done
 abbrev pub is_told : Command → Bool

@@ -12,16 +12,23 @@ use Rattle.rhd_hash.specs.declared.mixer.Seeds.{Seeds}
 use Rattle.rhd_func.specs.Natives.{NativeInfo}
 use Rattle.rhd_func.specs.Funcs.{is_method, is_iter, is_script}
 use Rattle.rhd_func.specs.declared.access.FnNamespace.{FnNamespace}
+use Rattle.rhd_func.specs.declared.access.ManifestId.{ManifestId}
 use Rattle.rhd_func.specs.declared.access.FnNamespace.TheVariants.{Global}
 use Rattle.rhd_func.specs.declared.func.RhaiFunc.{RhaiFunc}
 use Rattle.rhd_func.specs.declared.func.RhaiFunc.TheVariants as funcs
 use Rattle.rhd_decl.specs.declared.fault.DeclFault.{DeclFault}
-use Rattle.rhd_decl.specs.declared.fault.DeclFault.TheVariants.{UnknownNumber, NotCallable}
+use Rattle.rhd_decl.specs.declared.fault.DeclFault.TheVariants.{IndexerNotAllowed, UnknownNumber, NotCallable}
+use Rattle.rhd_manifest.specs.Entry.{entry_key}
+use Rattle.rhd_manifest.specs.Manifest.{ManifestLists}
+use Rattle.rhd_manifest.specs.Rank.{rank, walk}
 use Rattle.rhd_module.specs.declared.registration.FuncRegistration.{FuncRegistration}
 use Rattle.rhd_module.specs.Tree.{ModuleTree, empty_module}
 use Rattle.rhd_module.specs.Shown.{own_decl}
 use Rattle.rhd_module.specs.Walk.{tree}
 use Rattle.rhd_module.specs.Index.{indexed}
+use Rattle.rhd_module.specs.Lazy.{registered_tree, touched, touched_below}
+use Rattle.rhd_module.specs.Made.{made}
+use Rattle.rhd_module.specs.Manifests.{combined, first_banned, registered_pairs}
 use Rattle.rhd_module.specs.Contents.{with_id, with_doc, with_var, with_type, with_sub, cleared, counts}
 use Rattle.rhd_decl.specs.NativeKeys.{native_key}
 use Rattle.rhd_module.specs.Registered.{with_decl, native_at, native_decl, registered_decl, new_registration, script_key, script_decl, banned}
@@ -48,6 +55,9 @@ native_operand w id = (id.0, length w.engine.natives)
 abbrev pub module_operand : World → ModuleId → ℕ × ℕ
 module_operand w id = (id.0, length w.modules)
 
+abbrev pub manifest_operand : World → ManifestId → ℕ × ℕ
+manifest_operand w id = (id.0, length w.engine.manifests)
+
 abbrev pub func_operands : World → RhaiFunc → List (ℕ × ℕ)
 func_operands w (funcs.Pure id context pure volatile) = native_operand w id ∷ []
 func_operands w (funcs.Method id context pure volatile) = native_operand w id ∷ []
@@ -70,6 +80,9 @@ operands w f (commands.SetType m type_name display) = module_operand w m ∷ []
 operands w f (commands.Native m reg id) = module_operand w m ∷ native_operand w id ∷ []
 operands w f (commands.RawNative m name namespace types func) = module_operand w m ∷ func_operands w func
 operands w f (commands.Script m def) = module_operand w m ∷ []
+operands w f (commands.FromManifest id) = manifest_operand w id ∷ []
+operands w f (commands.CombineManifest m id) = module_operand w m ∷ manifest_operand w id ∷ []
+operands w f (commands.RegisterLazy m) = module_operand w m ∷ []
 operands w f (commands.Index m) = module_operand w m ∷ []
 operands w f (commands.SubModule m name sub) = module_operand w m ∷ module_operand w sub ∷ []
 operands w f (commands.Clear m) = module_operand w m ∷ []
@@ -97,17 +110,23 @@ abbrev pub not_callable : Command → Option DeclFault
 not_callable (commands.RawNative m name namespace types func) = where_holds (is_iter func || is_script func) NotCallable
 not_callable command = None
 
--- a banned indexer is registered
-abbrev pub indexer_not_allowed : List NativeInfo → Command → Option DeclFault
-indexer_not_allowed natives (commands.Native m reg id) = let info = native_at natives id in banned info.is_method reg.name info.types
-indexer_not_allowed natives (commands.RawNative m name namespace types func) = banned (is_method natives func) name types
-indexer_not_allowed natives (commands.RegisterFn name id) = let info = native_at natives id in banned info.is_method name info.types
-indexer_not_allowed natives (commands.RegisterRaw name types id) = banned true name types
-indexer_not_allowed natives command = None
+-- a manifest, or one below it, lists a banned indexer: the first from the lowest precedence to the highest
+abbrev pub banned_listed : List ManifestLists → ManifestId → Option DeclFault
+banned_listed table id = option_map (λ e. IndexerNotAllowed (entry_key e)) (first_banned (rank table id true))
+
+-- a banned indexer is registered, or listed
+abbrev pub indexer_not_allowed : List NativeInfo → List ManifestLists → Command → Option DeclFault
+indexer_not_allowed natives table (commands.Native m reg id) = let info = native_at natives id in banned info.is_method reg.name info.types
+indexer_not_allowed natives table (commands.RawNative m name namespace types func) = banned (is_method natives func) name types
+indexer_not_allowed natives table (commands.RegisterFn name id) = let info = native_at natives id in banned info.is_method name info.types
+indexer_not_allowed natives table (commands.RegisterRaw name types id) = banned true name types
+indexer_not_allowed natives table (commands.FromManifest id) = banned_listed table id
+indexer_not_allowed natives table (commands.CombineManifest m id) = banned_listed table id
+indexer_not_allowed natives table command = None
 
 -- the first cause of a refusal that holds, but for a collision
 abbrev pub cause : World → Frame → Command → Option DeclFault
-cause w f command = first_some (unknown_number w f command ∷ not_callable command ∷ indexer_not_allowed w.engine.natives command ∷ [])
+cause w f command = first_some (unknown_number w f command ∷ not_callable command ∷ indexer_not_allowed w.engine.natives w.engine.manifests command ∷ [])
 
 -- the keys of a table, with the seeds under which they are hashed
 pub record Keyed : Type 0 where
@@ -120,6 +139,10 @@ eager_keys m = record { seeds = m.own.seeds; keys = keys_of m.own.eager }
 -- the keys of a module's tree
 abbrev pub tree_keys : ModuleTree → Keyed
 tree_keys m = record { seeds = m.own.seeds; keys = keys_of (tree m) }
+
+-- the keys of what a module lists and declares, registered
+abbrev pub registered_keys : ModuleTree → Keyed
+registered_keys m = record { seeds = m.own.seeds; keys = keys_of (registered_pairs m.own) }
 
 -- a module as a command leaves it, and the tables in it that aren't as before
 pub record ChangedModule : Type 0 where
@@ -153,22 +176,30 @@ target (commands.SetType m type_name display) = Some m
 target (commands.Native m reg id) = Some m
 target (commands.RawNative m name namespace types func) = Some m
 target (commands.Script m def) = Some m
+target (commands.CombineManifest m id) = Some m
+target (commands.RegisterLazy m) = Some m
 target (commands.Index m) = Some m
 target (commands.Clear m) = Some m
 target command = None
 
+-- what is listed in its tree, registered: each module of it in which something is listed, or below which, has a new table, and the sub-modules among them are indexed
+abbrev pub all_registered : ModuleTree → ChangedModule
+all_registered m = record { tree = registered_tree m; tables = map registered_keys (touched m) ++ map (λ child. tree_keys (registered_tree child)) (touched_below m.subs) }
+
 -- what it makes of that module
-abbrev pub module_change : List NativeInfo → Command → ModuleTree → ChangedModule
-module_change natives (commands.SetId m id) old = without_keys (with_id id old)
-module_change natives (commands.SetDoc m doc) old = without_keys (with_doc doc old)
-module_change natives (commands.SetVar m name value) old = without_keys (with_var name value old)
-module_change natives (commands.SetType m type_name display) old = without_keys (with_type type_name display [] old)
-module_change natives (commands.Native m reg id) old = with_keys (registered natives reg id old)
-module_change natives (commands.RawNative m name namespace types func) old = with_keys (registered_raw natives (raw_registration name namespace) types func old)
-module_change natives (commands.Script m def) old = with_keys (with_decl (script_key def) (script_decl old.own.seeds def None) old)
-module_change natives (commands.Index m) old = record { tree = indexed old; tables = tree_keys old ∷ [] }
-module_change natives (commands.Clear m) old = without_keys (cleared old)
-module_change natives command old = without_keys old
+abbrev pub module_change : List NativeInfo → List ManifestLists → Command → ModuleTree → ChangedModule
+module_change natives table (commands.SetId m id) old = without_keys (with_id id old)
+module_change natives table (commands.SetDoc m doc) old = without_keys (with_doc doc old)
+module_change natives table (commands.SetVar m name value) old = without_keys (with_var name value old)
+module_change natives table (commands.SetType m type_name display) old = without_keys (with_type type_name display [] old)
+module_change natives table (commands.Native m reg id) old = with_keys (registered natives reg id old)
+module_change natives table (commands.RawNative m name namespace types func) old = with_keys (registered_raw natives (raw_registration name namespace) types func old)
+module_change natives table (commands.Script m def) old = with_keys (with_decl (script_key def) (script_decl old.own.seeds def None) old)
+module_change natives table (commands.CombineManifest m id) old = without_keys (combined table id old)
+module_change natives table (commands.RegisterLazy m) old = all_registered old
+module_change natives table (commands.Index m) old = record { tree = indexed old; tables = tree_keys old ∷ [] }
+module_change natives table (commands.Clear m) old = without_keys (cleared old)
+module_change natives table command old = without_keys old
 
 -- what a command answers and leaves where nothing refuses it; no two keys of one of the tables may clash
 pub record Change : Type 0 where
@@ -183,6 +214,14 @@ with_module w f m new = record { reply = Done; world = record w { modules = slic
 
 abbrev pub changed : World → Frame → ModuleId → (ModuleTree → ChangedModule) → Option Change
 changed w f m change = option_map (λ old. with_module w f m (change old)) (slice_get w.modules m.0)
+
+-- one module more is made, which gets the next number
+abbrev pub with_made : World → Frame → ChangedModule → Change
+with_made w f new = record { reply = Made (record { 0 = length w.modules }); world = record w { modules = w.modules ++ new.tree ∷ [] }; frame = f; tables = new.tables }
+
+-- the module of a manifest, with the keys of the trees of it and of all below it
+abbrev pub made_of : Seeds → List ManifestLists → ManifestId → ChangedModule
+made_of seeds table id = record { tree = made seeds table id; tables = map (λ i. tree_keys (made seeds table i)) (walk table id) }
 
 -- only the first global module changes
 abbrev pub with_globals : World → Frame → List ModuleTree → List Keyed → Change
@@ -220,10 +259,11 @@ but_last (a ∷ b ∷ more) = a ∷ but_last (b ∷ more)
 -- what a command that changes a module by itself, answers and leaves
 abbrev pub changed_by : World → Frame → Command → Option ModuleId → Option Change
 changed_by w f command None = None
-changed_by w f command (Some m) = changed w f m (module_change w.engine.natives command)
+changed_by w f command (Some m) = changed w f m (module_change w.engine.natives w.engine.manifests command)
 
 abbrev pub change : World → Frame → Command → Option Change
-change w f commands.NewModule = Some (record { reply = Made (record { 0 = length w.modules }); world = record w { modules = w.modules ++ empty_module w.engine.seeds ∷ [] }; frame = f; tables = [] })
+change w f commands.NewModule = Some (with_made w f (without_keys (empty_module w.engine.seeds)))
+change w f (commands.FromManifest id) = Some (with_made w f (made_of w.engine.seeds w.engine.manifests id))
 change w f (commands.SubModule m name sub) = option_and_then (λ child. changed w f m (λ old. without_keys (with_sub name child old))) (slice_get w.modules sub.0)
 change w f (commands.RegisterFn name id) = Some (changed_first w f (registered w.engine.natives (fn_registration w.engine.natives name id) id))
 change w f (commands.RegisterRaw name types id) = Some (changed_first w f (registered_raw w.engine.natives (raw_registration name Global) types (raw_func name types id)))

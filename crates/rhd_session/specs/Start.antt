@@ -3,6 +3,7 @@ use Rattle.std.specs.Prelude.{List, []}
 use Rattle.rhd_value.specs.declared.tag.FnId.{FnId}
 use Rattle.rhd_hash.specs.declared.mixer.Seeds.{Seeds}
 use Rattle.rhd_func.specs.Natives.{NativeInfo}
+use Rattle.rhd_manifest.specs.Manifest.{ManifestLists}
 use Rattle.rhd_engine.specs.declared.builtins.Operator.{Operator}
 use Rattle.rhd_engine.specs.Start.{start_lists}
 use Rattle.rhd_engine.specs.declared.limits.Limits.{Limits}
@@ -10,8 +11,8 @@ use Rattle.rhd_engine.specs.declared.limits.Printers.{Printers}
 use Rattle.rhd_machine.specs.World.{World, Moment, moment}
 
 -- a new engine, and no modules; its frame is that of a new state
-abbrev pub start_world : List NativeInfo → Seeds → Limits → List (Operator × FnId) → Printers → World
-start_world natives seeds limits builtins printers = record { engine = start_lists natives seeds limits builtins printers; modules = [] }
+abbrev pub start_world : List NativeInfo → List ManifestLists → Seeds → Limits → List (Operator × FnId) → Printers → World
+start_world natives table seeds limits builtins printers = record { engine = start_lists natives table seeds limits builtins printers; modules = [] }
 
 -- no call is begun
 abbrev pub start_moment : {H B : Type 0} → H → B → Moment H B

@@ -1,20 +1,23 @@
 //! How a session carries out the commands that declare something.
 
-ghost use Rattle.std.specs.Prelude.{◌≡◌, ◌≤◌, ◌<◌, ◌+◌, ◌^◌, true, false, Some, None, is_some, Err, IfOk, OnErr, IfSome, IfNone, length, slice_get};
+ghost use Rattle.std.specs.Prelude.{List, ◌≡◌, ◌≤◌, ◌<◌, ◌+◌, ◌^◌, true, false, Some, None, is_some, Err, IfOk, IfErr, OnErr, IfSome, IfNone, length, slice_get};
 ghost use Rattle.std.specs.Option.{option_copied};
 ghost use Rattle.rhd_module.specs.Registered.{RegistersRaw};
 ghost use Rattle.rhd_decl.specs.declared.fault.DeclFault.TheVariants.{UnknownNumber};
 ghost use Rattle.rhd_func.specs.Infos.{infos_of};
+ghost use Rattle.rhd_func.specs.Natives.{NativeInfo};
+ghost use Rattle.rhd_call.specs.declared.command.ModuleId.{ModuleId as Number};
 ghost use Rattle.rhd_call.specs.declared.command.Command.TheVariants as commands;
 ghost use Rattle.rhd_session.specs.Answered.{Declares};
-ghost use Rattle.rhd_session.specs.Changing.{is_told, iterator_in, ChangesModule, Goes, IsReply};
+ghost use Rattle.rhd_session.specs.Changing.{is_told, iterator_in, ChangesModule, Goes, IsReply, MadeFor};
 ghost use Rattle.rhd_session.specs.Commands.{target, raw_registration};
 
 use crate::session::Session;
 use rhd_call::{Command, ModuleId, Reply};
 use rhd_engine::{fn_registration, raw_func};
-use rhd_func::{FnNamespace, IterId, Natives, RhaiFunc};
+use rhd_func::{FnNamespace, IterId, ManifestId, Natives, RhaiFunc};
 use rhd_hash::Key;
+use rhd_manifest::Manifests;
 use rhd_module::{DeclFault, FuncRegistration, Module, SharedModule};
 use rhd_value::{FnId, OutOfMemory, Text, TypeTag, Types};
 use std::alloc::Global;
@@ -52,6 +55,8 @@ pub(crate) fn target(command: &Command) -> Option<ModuleId>
         Command::Native { module: id, .. } => Some(*id),
         Command::RawNative { module: id, .. } => Some(*id),
         Command::Script { module: id, .. } => Some(*id),
+        Command::CombineManifest { module: id, .. } => Some(*id),
+        Command::RegisterLazy { module: id } => Some(*id),
         Command::Index { module: id } => Some(*id),
         Command::Clear { module: id } => Some(*id),
         _ => None,
@@ -114,16 +119,33 @@ fn register_raw(
     changed.register_raw(alloc, reg, natives, types, func)
 }
 
+/// Adds the manifest of a number to a module, flattened, with all variables and custom types of it.
+fn combine(
+    alloc: Global,
+    manifests: &Manifests,
+    changed: &mut SharedModule,
+    id: ManifestId,
+) -> Result<(), DeclFault>
+    ensures { (natives : List NativeInfo) (m : Number) → ChangesModule natives manifests.now (commands.CombineManifest m id) changed.old result changed.new }
+{
+    let at = id.0 as usize;
+    if at >= manifests.len() {
+        return Err(unknown(id.0, manifests.len()));
+    }
+    changed.combine_manifest(alloc, manifests, id)
+}
+
 /// Changes a module as a command says that changes one module by itself.
 fn change(
     alloc: Global,
     natives: &Natives,
+    manifests: &Manifests,
     changed: &mut SharedModule,
     command: Command,
 ) -> Result<(), DeclFault>
     requires changes { is_some (target command) ≡ true }
     requires plain { iterator_in command ≡ None }
-    ensures { ChangesModule (infos_of info natives.now) command changed.old result changed.new }
+    ensures { ChangesModule (infos_of info natives.now) manifests.now command changed.old result changed.new }
 {
     match command {
         Command::SetId { id, .. } => Ok(changed.set_id(alloc, id)?),
@@ -151,6 +173,8 @@ fn change(
             func,
         ),
         Command::Script { def, .. } => changed.set_script_fn(alloc, def),
+        Command::CombineManifest { manifest, .. } => combine(alloc, manifests, changed, manifest),
+        Command::RegisterLazy { .. } => changed.register_lazy_functions(alloc),
         Command::Index { .. } => changed.build_index(alloc),
         Command::Clear { .. } => Ok(changed.clear(alloc)?),
         _ => unreachable!(),
@@ -158,6 +182,7 @@ fn change(
 }
 
 impl Session {
+    ghost use Rattle.rhd_engine.specs.Held.{names_held};
     ghost use Rattle.rhd_session.specs.Of.{natives_of, world_of, frame_of, modules_of, calls_begun_of};
 
     /// Makes an empty module.
@@ -175,6 +200,47 @@ impl Session {
         let made = SharedModule::new(alloc, Module::new(alloc, seeds)?)?;
         self.modules.push(made)?;
         Ok(Reply::Made(id))
+    }
+
+    /// The module of the manifest of a number.
+    fn module_of(&self, alloc: Global, id: ManifestId) -> Result<SharedModule, DeclFault>
+        ensures made { IfOk result (λ made. MadeFor (world_of info self.now) (frame_of self.now) (commands.FromManifest id) made) }
+        ensures held { IfOk result (λ made. names_held (length (natives_of self.now).items.items) made ≡ true) }
+        ensures refused { IfErr result (λ fault. Goes (world_of info self.now) (frame_of self.now) (commands.FromManifest id) (Err fault) (world_of info self.now) (frame_of self.now)) }
+    {
+        let manifests = &self.engine.manifests;
+        let at = id.0 as usize;
+        if at >= manifests.len() {
+            return Err(unknown(id.0, manifests.len()));
+        }
+        match Module::from_manifest(alloc, manifests, self.engine.seeds(), id) {
+            Ok(made) => Ok(SharedModule::new(alloc, made)?),
+            Err(fault) => Err(fault),
+        }
+    }
+
+    /// Makes the module of a manifest.
+    pub(crate) fn from_manifest(
+        &mut self,
+        alloc: Global,
+        manifest: ManifestId,
+    ) -> Result<Reply, OutOfMemory>
+        requires { length (modules_of self.old) < 2 ^ 32 }
+        ensures applied { IfOk result (λ reply. Declares (world_of info self.old) (frame_of self.old) (commands.FromManifest manifest) reply (world_of info self.new) (frame_of self.new)) }
+        ensures failed { OnErr result (world_of info self.new ≡ world_of info self.old) }
+        ensures frame { frame_of self.new ≡ frame_of self.old }
+        ensures natives { natives_of self.new ≡ natives_of self.old }
+        ensures begun { calls_begun_of self.new ≡ calls_begun_of self.old }
+        ensures count { length (modules_of self.new) ≤ length (modules_of self.old) + 1 }
+    {
+        let number = self.modules.len() as u32;
+        match self.module_of(alloc, manifest) {
+            Ok(made) => {
+                self.modules.push(made)?;
+                Ok(Reply::Made(ModuleId(number)))
+            }
+            Err(fault) => reply_of(Err(fault)),
+        }
     }
 
     /// The refusal of a command that changes a module by itself, where it names a number that isn't held.
@@ -229,7 +295,9 @@ impl Session {
     {
         let engine = &self.engine;
         let natives = &engine.natives;
-        change(alloc, natives, &mut self.modules[id.0 as usize], command)
+        let manifests = &engine.manifests;
+        let changed = &mut self.modules[id.0 as usize];
+        change(alloc, natives, manifests, changed, command)
     }
 
     /// Puts a module, as it is now, under a name into a module.

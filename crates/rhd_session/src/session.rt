@@ -3,6 +3,7 @@
 ghost use Rattle.std.specs.Prelude.{◌≡◌, ◌≤◌, ◌<◌, ◌+◌, ◌^◌, ◌++◌, ◌∷◌, [], true, false, None, IfOk, OnOk, OnErr, length, vec_len, vec_capacity};
 ghost use Rattle.rhd_func.specs.Infos.{infos_of};
 ghost use Rattle.rhd_call.specs.declared.reply.Reply.{Reply};
+ghost use Rattle.rhd_manifest.specs.Fits.{fits};
 ghost use Rattle.rhd_engine.specs.Held.{all_held, builtins_held};
 ghost use Rattle.rhd_engine.specs.Start.{start_frame};
 ghost use Rattle.rhd_machine.specs.Held.{frame_held};
@@ -20,6 +21,7 @@ use rhd_engine::{Builtins, Engine, GlobalRuntimeState, Limits, Printers};
 use rhd_func::{Bodies, CallRequest, Host, Natives};
 use rhd_hash::Seeds;
 use rhd_machine::{begun, fill};
+use rhd_manifest::Manifests;
 use rhd_module::{DeclFault, SharedModule};
 use rhd_value::OutOfMemory;
 use std::alloc::Global;
@@ -39,11 +41,12 @@ pub struct Session {
 impl Session {
     ghost use Rattle.rhd_session.specs.Of.{natives_of, world_of, frame_of, modules_of, calls_begun_of, moment_of, session_setting};
 
-    /// A session in which nothing is registered. Its built-ins are held by the natives, and its modules hash
-    /// their keys under these seeds.
+    /// A session in which nothing is registered. Its built-ins are held by the natives, which its manifests
+    /// fit, and its modules hash their keys under these seeds.
     pub fn new(
         alloc: Global,
         natives: Natives,
+        manifests: Manifests,
         seeds: Seeds,
         limits: Limits,
         builtins: Builtins,
@@ -51,14 +54,15 @@ impl Session {
     ) -> Result<Session, OutOfMemory>
         requires level { limits.level ≤ 1000 }
         requires builtins { builtins_held (length natives.items.items) builtins ≡ true }
+        requires fits { fits (infos_of info natives) manifests ≡ true }
         ensures natives { IfOk result (λ session. natives_of session ≡ natives) }
-        ensures world { IfOk result (λ session. world_of info session ≡ start_world (infos_of info natives) seeds limits builtins printers) }
+        ensures world { IfOk result (λ session. world_of info session ≡ start_world (infos_of info natives) manifests seeds limits builtins printers) }
         ensures frame { IfOk result (λ session. frame_of session ≡ start_frame) }
         ensures modules { IfOk result (λ session. modules_of session ≡ []) }
         ensures begun { IfOk result (λ session. calls_begun_of session ≡ 0) }
     {
         Ok(Session {
-            engine: Engine::new(alloc, natives, builtins, seeds, limits, printers)?,
+            engine: Engine::new(alloc, natives, manifests, builtins, seeds, limits, printers)?,
             state: GlobalRuntimeState::new(alloc),
             modules: Vec::new(alloc),
             begun: 0,
@@ -98,6 +102,7 @@ impl Session {
     {
         match command {
             Command::NewModule => self.new_module(alloc),
+            Command::FromManifest { manifest } => self.from_manifest(alloc, *manifest),
             Command::Count { module: id } => Ok(self.count(*id)),
             Command::Contains { module: id, key } => Ok(self.contains(*id, key)),
             _ => unreachable!(),

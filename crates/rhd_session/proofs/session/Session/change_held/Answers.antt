@@ -11,7 +11,7 @@ invariant_of-self-clause-modules_held g c =
     let there = at_place c.args.self.now.modules.items c.args.id.0 c.index_mut.result.now c.requires.held c.index_mut.ensures.value in
     let held = all_at _ c.args.self.now.modules.items c.args.id.0 c.index_mut.result.now c.args.self.now.modules_held there in
     all_set _ c.args.self.now.modules.items c.args.id.0 c.change.new.changed c.args.self.now.modules_held
-    (held_by_table (λ z. (goal.PluginFunc-dyn g z).info z.1) c.args.self.now.engine.natives c.args.command c.index_mut.result.now c.change.new.changed c.change.result c.change.ensures held)
+    (held_by_table (λ z. (goal.PluginFunc-dyn g z).info z.1) c.args.self.now.engine.natives c.args.self.now.engine.manifests c.args.command c.index_mut.result.now c.change.new.changed c.change.result c.change.ensures c.args.self.now.engine.manifests_held held)
 
 pub returns-clause-goes : goal.returns-clause-goes
 unfolding lists_of

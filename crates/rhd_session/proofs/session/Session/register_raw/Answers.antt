@@ -14,10 +14,10 @@ invariant_of-engine-2 g c =
     let is = c.register_raw_in_first.ensures in
     let count = registers_raw_first_count (infos_of (λ z. (goal.PluginFunc-dyn g z).info z.1) engine.natives) c.in-Ok.reg c.as_slice-types.result.now c.raw_func-func.result engine.globals c.register_raw_in_first.new.self c.register_raw_in_first.result is in
     let held = registers_raw_by_table (λ z. (goal.PluginFunc-dyn g z).info z.1) engine.natives c.in-Ok.reg c.as_slice-types.result.now c.raw_func-func.result engine.globals c.register_raw_in_first.new.self c.register_raw_in_first.result is engine.globals_held in
-    record { globals_held = held; has_namespace = omega (arith, count, engine.has_namespace); statics_held = engine.statics_held; builtins_held = engine.builtins_held; limited = engine.limited }
+    record { manifests_held = engine.manifests_held; globals_held = held; has_namespace = omega (arith, count, engine.has_namespace); statics_held = engine.statics_held; builtins_held = engine.builtins_held; limited = engine.limited }
 
 pub invariant_of-engine : goal.invariant_of-engine
-invariant_of-engine g c = let engine = c.args.self.now.engine in record { globals_held = engine.globals_held; has_namespace = engine.has_namespace; statics_held = engine.statics_held; builtins_held = engine.builtins_held; limited = engine.limited }
+invariant_of-engine g c = let engine = c.args.self.now.engine in record { manifests_held = engine.manifests_held; globals_held = engine.globals_held; has_namespace = engine.has_namespace; statics_held = engine.statics_held; builtins_held = engine.builtins_held; limited = engine.limited }
 
 pub returns-in_default-clause-goes : goal.returns-in_default-clause-goes
 unfolding lists_of

@@ -26,7 +26,7 @@ invariant_of-engine g c =
     let added = all_at _ c.args.self.now.modules.items c.args.id.0 c.index.result.now c.args.self.now.modules_held there in
     let is = subst (λ (m : ModuleTree). Places c.seeds-seeds.result c.args.name m engine.statics c.register_static.result c.register_static.new.self) (c.in-Ok.ensures) c.register_static.ensures in
     let held = places_held _ c.seeds-seeds.result c.args.name c.index.result.now engine.statics c.register_static.new.self c.register_static.result is added engine.statics_held in
-    record { globals_held = engine.globals_held; has_namespace = engine.has_namespace; statics_held = held; builtins_held = engine.builtins_held; limited = engine.limited }
+    record { manifests_held = engine.manifests_held; globals_held = engine.globals_held; has_namespace = engine.has_namespace; statics_held = held; builtins_held = engine.builtins_held; limited = engine.limited }
 
 pub returns-clause-goes : goal.returns-clause-goes
 unfolding lists_of
