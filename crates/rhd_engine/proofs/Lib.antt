@@ -1,6 +1,7 @@
 pub mod HeldLaws
 pub mod HeldTrees
 pub mod HeldManifests
+pub mod HeldLazy
 pub mod Indexed
 pub mod PathLaws
 pub mod Placed

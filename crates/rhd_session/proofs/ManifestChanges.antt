@@ -1,11 +1,12 @@
 -- Commands on manifests, and on what modules list.
-use Rattle.std.proofs.Common.{◌≡◌, ◌≤◌, ◌<◌, ℕ, Bool, true, false, not, List, [], ◌∷◌, ◌++◌, length, refl, sym, ap, subst, ◌∙◌, arith}
-use Rattle.std.specs.Prelude.{zero, suc, ◌⊎◌, inl, inr, Option, Some, None, Result, Ok, Err, nat_lt, map, if◌then◌else◌}
+use Rattle.std.proofs.Common.{◌≡◌, ◌≤◌, ◌<◌, ℕ, Bool, true, false, not, List, [], ◌∷◌, ◌++◌, inl, inr, length, refl, sym, ap, subst, ◌∙◌, arith}
+use Rattle.std.specs.Prelude.{zero, suc, ◌⊎◌, Option, Some, None, Result, Ok, Err, nat_lt, map, if◌then◌else◌}
 use Rattle.std.specs.List.{AllByRecursion, Contains}
 use Rattle.std.specs.Option.{option_or, option_map}
 use Rattle.std.proofs.lemmas.Bool.{lt-ltb, le-ltb}
 use Rattle.std.proofs.lemmas.List.Elements.{Contains-append_left, Contains-append_right}
 use Rattle.rhd_value.specs.Firsts.{first_of, where_holds}
+use Rattle.rhd_value.specs.Tree.{Bytes}
 use Rattle.rhd_hash.specs.declared.key.Key.{Key}
 use Rattle.rhd_hash.specs.declared.mixer.Seeds.{Seeds}
 use Rattle.rhd_hash.specs.Table.{Clashing}
@@ -152,7 +153,7 @@ made_seeds : (seeds : Seeds) (table : List ManifestLists) (id : ManifestId) → 
 made_seeds seeds table id = subs_seeds (made_to id.0 seeds table) (manifest_at table id).subs (own_made seeds table id)
 
 module _ (w : World) (f : Frame) (id : ManifestId) where
-  made_keys : ManifestId → Keyed
+  abbrev made_keys : ManifestId → Keyed
   made_keys i = tree_keys (made w.engine.seeds w.engine.manifests i)
 
   -- its number isn't held

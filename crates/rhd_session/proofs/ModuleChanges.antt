@@ -54,7 +54,7 @@ puts_change natives table command known k d old new (Ok u) none is puts =
 puts_change natives table command known k d old new (Err no_memory) none is puts = puts
 puts_change natives table command known k d old new (Err (HashCollision held other)) none is puts = (
   none ∙ puts.0,
-  subst (λ (c : ChangedModule). (table : Keyed) × Contains c.tables table × Clashing table.seeds table.keys held other) (sym is) (eager_keys (with_decl k d old), (0, omega arith, refl), puts.1),
+  subst (λ (c : ChangedModule). (keyed : Keyed) × Contains c.tables keyed × Clashing keyed.seeds keyed.keys held other) (sym is) (eager_keys (with_decl k d old), (0, omega arith, refl), puts.1),
   puts.2,
 )
 puts_change natives table command known k d old new (Err (IndexerNotAllowed key)) none is puts = (none ∙ puts.0, puts.1)

@@ -53,7 +53,7 @@ abbrev pub ChangesModule : List NativeInfo → List ManifestLists → Command �
 ChangesModule natives table command old (Ok u) new = (module_cause natives table command ≡ None) × AllByRecursion NoClash (module_change natives table command old).tables × (new ≡ (module_change natives table command old).tree)
 ChangesModule natives table command old (Err no_memory) new = new ≡ old
 ChangesModule natives table command old (Err (HashCollision held other)) new =
-    (module_cause natives table command ≡ None) × ((table : Keyed) × Contains (module_change natives table command old).tables table × Clashing table.seeds table.keys held other) × (new ≡ old)
+    (module_cause natives table command ≡ None) × ((keyed : Keyed) × Contains (module_change natives table command old).tables keyed × Clashing keyed.seeds keyed.keys held other) × (new ≡ old)
 ChangesModule natives table command old (Err fault) new = (module_cause natives table command ≡ Some fault) × (new ≡ old)
 
 -- what a command that answers nothing else than that it is done, comes to
