@@ -15,4 +15,5 @@ pub mod HeldNatives
 pub mod CallLaws
 pub mod SessionLaws
 pub mod BodyLaws
+pub mod ManifestFits
 pub mod TextHolds

@@ -54,6 +54,11 @@ text_complete : (natives : List NativeInfo) (n : ℕ) (t : SessionText) (ls : Li
 text_complete natives n t [] u w = ap (λ (v : SessionText). let r : Said = Ok v in r) (sym w)
 text_complete natives n t (line ∷ more) u w = rw (after_complete natives n t w.1 line w.0 w.2 w.3) (text_complete natives (n + 1) w.1 more u w.4)
 
+-- reading goes on behind a line that is read
+pub goes_on : (natives : List NativeInfo) (n : ℕ) (t v : SessionText) (line : List ℕ) (more ls : List (List ℕ)) (r : Said) → ls ≡ line ∷ more → after_line natives n t line ≡ Some v → text_from natives n t ls ≡ r → text_from natives (n + 1) v more ≡ r
+goes_on natives n t v line more ls r e step so_far =
+    sym (ap (λ (o : Option SessionText). next n o (λ u. text_from natives (n + 1) u more)) step) ∙ sym (ap (λ (x : List (List ℕ)). text_from natives n t x) e) ∙ so_far
+
 -- ---- the first bad line
 
 stop_step : (natives : List NativeInfo) (m n : ℕ) (t : SessionText) (o : Option SessionText) (line : List ℕ) (ls : List (List ℕ)) → after_line natives m t line ≡ o → next m o (λ v. text_from natives (m + 1) v ls) ≡ Err n → ((v : SessionText) → text_from natives (m + 1) v ls ≡ Err n → IsBadAfter natives (m + 1) v n ls) → IsBadAfter natives m t n (line ∷ ls)

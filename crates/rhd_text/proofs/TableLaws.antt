@@ -7,10 +7,13 @@ use Rattle.rhd_text.specs.declared.part.Part.{Part}
 use Rattle.rhd_text.specs.declared.place.Place.{Place}
 use Rattle.rhd_text.specs.declared.keyword.Keyword.{Keyword}
 use Rattle.rhd_text.specs.declared.keyword.Keyword.TheVariants.{Seeds, Limits, Printer, Builtin, Host, Body, Ret, Fail, Register, RegisterRaw, RegisterType, Module}
-use Rattle.rhd_text.specs.declared.keyword.Keyword.TheVariants.{SetId, SetDoc, SetVar, SetType, Native, Raw, RawIter, RawScript, Script, Submodule, Clear, Count, HasNative, HasScript, Lib, PopLib, Index, Global, Static, Import, PopImport, Call}
+use Rattle.rhd_text.specs.declared.keyword.Keyword.TheVariants.{SetId, SetDoc, SetVar, SetType, Native, Raw, RawIter, RawScript, Script, Submodule, Clear, Count, HasNative, HasScript, Lib, PopLib, Index, Global, Static, Import, PopImport}
+use Rattle.rhd_text.specs.declared.keyword.Keyword.TheVariants.{Manifest, Call}
 use Rattle.rhd_text.specs.declared.keyword.CallWord.{CallWord}
 use Rattle.rhd_text.specs.declared.keyword.CallWord.TheVariants as words
-use Rattle.rhd_text.specs.Rows.{call_form, step, all_calls, form, all_keywords, line_forms, step_forms}
+use Rattle.rhd_text.specs.declared.keyword.ManifestWord.{ManifestWord}
+use Rattle.rhd_text.specs.declared.keyword.ManifestWord.TheVariants as lists
+use Rattle.rhd_text.specs.Rows.{call_form, step, all_calls, manifest_form, form, all_keywords, line_forms, step_forms}
 use Rattle.rhd_syntax.specs.Spans.{bare}
 use Rattle.rhd_text.specs.Grammar.{part, IsLine}
 use Rattle.rhd_syntax.specs.Reading.{word_at}
@@ -55,6 +58,28 @@ step_found words.QualRef = refl
 steps_sound : IsSound CallWord Part step_forms
 steps_sound = record { placed = λ w. call_placed true w; found = step_found; shows = call_shows }
 
+-- ---- manifests
+
+manifest_placed : (w : ManifestWord) → well_placed (manifest_form w).operands ≡ true
+manifest_placed lists.Manifest = refl
+manifest_placed lists.Entry = refl
+manifest_placed lists.Sub = refl
+manifest_placed lists.Var = refl
+manifest_placed lists.Type = refl
+manifest_placed lists.FromManifest = refl
+manifest_placed lists.CombineManifest = refl
+manifest_placed lists.RegisterLazy = refl
+
+manifest_shows : (w : ManifestWord) (rest : List ℕ) → begins_no_part ((manifest_form w).spelling ++ rest) ≡ false
+manifest_shows lists.Manifest rest = refl
+manifest_shows lists.Entry rest = refl
+manifest_shows lists.Sub rest = refl
+manifest_shows lists.Var rest = refl
+manifest_shows lists.Type rest = refl
+manifest_shows lists.FromManifest rest = refl
+manifest_shows lists.CombineManifest rest = refl
+manifest_shows lists.RegisterLazy rest = refl
+
 -- ---- lines
 
 line_placed : (k : Keyword) → well_placed (form k).operands ≡ true
@@ -91,6 +116,7 @@ line_placed Global = refl
 line_placed Static = refl
 line_placed Import = refl
 line_placed PopImport = refl
+line_placed (Manifest w) = manifest_placed w
 line_placed (Call w) = call_placed false w
 
 line_found : (k : Keyword) → keyword_in form all_keywords (form k).spelling ≡ Some k
@@ -128,6 +154,14 @@ line_found Global = refl
 line_found Static = refl
 line_found Import = refl
 line_found PopImport = refl
+line_found (Manifest lists.Manifest) = refl
+line_found (Manifest lists.Entry) = refl
+line_found (Manifest lists.Sub) = refl
+line_found (Manifest lists.Var) = refl
+line_found (Manifest lists.Type) = refl
+line_found (Manifest lists.FromManifest) = refl
+line_found (Manifest lists.CombineManifest) = refl
+line_found (Manifest lists.RegisterLazy) = refl
 line_found (Call words.Call) = refl
 line_found (Call words.CallNative) = refl
 line_found (Call words.Ref) = refl
@@ -171,6 +205,7 @@ line_shows Global rest = refl
 line_shows Static rest = refl
 line_shows Import rest = refl
 line_shows PopImport rest = refl
+line_shows (Manifest w) rest = manifest_shows w rest
 line_shows (Call w) rest = call_shows w rest
 
 lines_sound : IsSound Keyword Part line_forms

@@ -33,6 +33,8 @@ use Rattle.rhd_text.specs.declared.part.Part.{Part}
 use Rattle.rhd_text.specs.declared.part.Part.TheVariants as parts
 use Rattle.rhd_text.specs.declared.keyword.CallWord.{CallWord}
 use Rattle.rhd_text.specs.declared.keyword.CallWord.TheVariants as words
+use Rattle.rhd_text.specs.declared.keyword.ManifestWord.{ManifestWord}
+use Rattle.rhd_text.specs.declared.keyword.ManifestWord.TheVariants as lists
 use Rattle.rhd_text.specs.declared.keyword.Keyword.{Keyword}
 use Rattle.rhd_text.specs.declared.keyword.Keyword.TheVariants as keywords
 use Rattle.rhd_text.specs.declared.requests.Handing.{Handing}
@@ -250,6 +252,17 @@ defining w command = record {
   part = λ place. from_then definition defined (option_map (λ d. parts.Command (command d.0 d.1)));
 }
 
+-- THE ROWS about manifests
+abbrev pub manifest_form : ManifestWord → Form Part
+manifest_form lists.Manifest = record { spelling = codes "manifest"; operands = []; part = λ place. Some parts.Manifest }
+manifest_form lists.Entry = record { spelling = codes "entry"; operands = WORD ∷ NUM ∷ OPTIONAL (codes "global") ∷ []; part = λ place f n global. Some (parts.Entry f (record { 0 = n }) (found_in global)) }
+manifest_form lists.Sub = record { spelling = codes "sub"; operands = WORD ∷ NUM ∷ []; part = λ place f n. Some (parts.Sub f (record { 0 = n })) }
+manifest_form lists.Var = record { spelling = codes "mvar"; operands = WORD ∷ VALUE ∷ []; part = λ place f t. Some (parts.ManifestVar f t) }
+manifest_form lists.Type = record { spelling = codes "mtype"; operands = WORD ∷ WORD ∷ []; part = λ place type text. Some (parts.ManifestType type text) }
+manifest_form lists.FromManifest = record { spelling = codes "from-manifest"; operands = NUM ∷ []; part = λ place n. Some (parts.Command (commands.FromManifest (record { 0 = n }))) }
+manifest_form lists.CombineManifest = record { spelling = codes "combine-manifest"; operands = NUM ∷ NUM ∷ []; part = λ place m n. Some (parts.Command (commands.CombineManifest (record { 0 = m }) (record { 0 = n }))) }
+manifest_form lists.RegisterLazy = record { spelling = codes "register-lazy"; operands = NUM ∷ []; part = λ place m. Some (parts.Command (commands.RegisterLazy (record { 0 = m }))) }
+
 -- THE ROWS
 abbrev pub form : Keyword → Form Part
 form keywords.Seeds = record { spelling = codes "seeds"; operands = LONG ∷ LONG ∷ LONG ∷ []; part = λ place a b m. Some (parts.Seeds (record { seed0 = a; seed1 = b; mask = m })) }
@@ -293,6 +306,7 @@ form keywords.Global = record { spelling = codes "global"; operands = NUM ∷ []
 form keywords.Static = record { spelling = codes "static"; operands = WORD ∷ NUM ∷ []; part = λ place f m. Some (parts.Command (commands.StaticModule f (record { 0 = m }))) }
 form keywords.Import = record { spelling = codes "import"; operands = WORD ∷ NUM ∷ []; part = λ place f m. Some (parts.Command (commands.PushImport f (record { 0 = m }))) }
 form keywords.PopImport = record { spelling = codes "pop-import"; operands = []; part = λ place. Some (parts.Command commands.PopImport) }
+form (keywords.Manifest w) = manifest_form w
 form (keywords.Call w) = called w
 
 -- all keywords, the more frequent ones first
@@ -305,6 +319,8 @@ all_keywords =
     ∷ keywords.Import ∷ keywords.PopImport ∷ keywords.Global ∷ keywords.Static ∷ keywords.Index
     ∷ keywords.SetId ∷ keywords.SetDoc ∷ keywords.SetVar ∷ keywords.SetType ∷ keywords.Submodule ∷ keywords.Clear ∷ keywords.RawIter ∷ keywords.RawScript
     ∷ keywords.Count ∷ keywords.HasNative ∷ keywords.HasScript
+    ∷ keywords.Manifest lists.FromManifest ∷ keywords.Manifest lists.CombineManifest ∷ keywords.Manifest lists.RegisterLazy
+    ∷ keywords.Manifest lists.Entry ∷ keywords.Manifest lists.Sub ∷ keywords.Manifest lists.Var ∷ keywords.Manifest lists.Type ∷ keywords.Manifest lists.Manifest
     ∷ keywords.Body ∷ keywords.Ret ∷ keywords.Fail ∷ keywords.Host ∷ keywords.Builtin ∷ keywords.Seeds ∷ keywords.Limits ∷ keywords.Printer ∷ []
 
 -- THE LINES OF A SESSION TEXT, and those that stand after `do`

@@ -1,12 +1,16 @@
 -- WHAT A SESSION TEXT SAYS: its lines one after the other, and which line is the first bad one.
 use Rattle.std.specs.Prelude.{◌≡◌, ℕ, ◌+◌, ◌-◌, ◌&&◌, ◌==◌, nat_le, nat_lt, not, Bool, true, false, List, [], ◌∷◌, ◌++◌, length, slice_set, Option, Some, None, Result, Ok, Err, if◌then◌else◌}
-use Rattle.std.specs.Option.{is_none}
+use Rattle.std.specs.Option.{is_none, option_map}
 use Rattle.std.specs.List.{slice_get}
 use Rattle.rhd_value.specs.Tree.{Bytes, Tree}
 use Rattle.rhd_value.specs.Entries.{put}
 use Rattle.rhd_value.specs.declared.tag.FnId.{FnId}
 use Rattle.rhd_hash.specs.declared.mixer.Seeds.{Seeds}
 use Rattle.rhd_func.specs.Natives.{NativeInfo}
+use Rattle.rhd_func.specs.declared.access.FnNamespace.{FnNamespace}
+use Rattle.rhd_func.specs.declared.access.ManifestId.{ManifestId}
+use Rattle.rhd_manifest.specs.Entry.{entry_of}
+use Rattle.rhd_manifest.specs.Manifest.{ManifestLists, no_lists, manifest_at, with_manifest, with_entry, with_sub, with_var, with_type}
 use Rattle.rhd_engine.specs.declared.builtins.Operator.{Operator}
 use Rattle.rhd_engine.specs.Operators.{put_builtin}
 use Rattle.rhd_call.specs.declared.command.Command.{Command}
@@ -27,7 +31,7 @@ use Rattle.rhd_text.specs.Grammar.{IsLine}
 
 -- what a text without lines says
 abbrev pub empty_text : SessionText
-empty_text = record { seeds = None; limits = None; printers = record { print = false; debug = false }; builtins = []; hosts = []; bodies = []; commands = [] }
+empty_text = record { seeds = None; limits = None; printers = record { print = false; debug = false }; builtins = []; hosts = []; manifests = []; bodies = []; commands = [] }
 
 -- whether headers may still stand: no command has come
 abbrev pub takes_headers : SessionText → Bool
@@ -60,6 +64,36 @@ with_builtin natives t operator id = if is_held natives id then Some (record t {
 -- what the host answers for a name, in the place of an earlier answer
 unfoldable pub with_host : SessionText → Bytes → Tree → SessionText
 with_host t name value = record t { hosts = put name value t.hosts }
+
+-- the number of the latest manifest, where there is one
+unfoldable pub latest_manifest : SessionText → Option ManifestId
+latest_manifest t = if length t.manifests == 0 then None else Some (record { 0 = length t.manifests - 1 })
+
+-- the latest manifest changed; none where there is none
+unfoldable pub in_manifest : (ManifestLists → ManifestLists) → SessionText → Option SessionText
+in_manifest change t = option_map (λ id. record t { manifests = with_manifest id (change (manifest_at t.manifests id)) t.manifests }) (latest_manifest t)
+
+-- the next manifest begins
+unfoldable pub with_new_manifest : SessionText → SessionText
+with_new_manifest t = record t { manifests = t.manifests ++ no_lists ∷ [] }
+
+-- the latest manifest lists a native under a name, with the types that it has; it is held
+unfoldable pub with_manifest_entry : List NativeInfo → SessionText → Bytes → FnId → FnNamespace → Option SessionText
+with_manifest_entry natives t name id namespace = if is_held natives id then in_manifest (with_entry (entry_of natives name namespace id)) t else None
+
+-- the latest manifest gets a sub-manifest, of a lower number than it
+unfoldable pub with_manifest_sub : SessionText → Bytes → ManifestId → Option SessionText
+with_manifest_sub t name sub = do
+  id ← latest_manifest t
+  if nat_lt sub.0 id.0 then in_manifest (with_sub name sub) t else None
+
+-- the latest manifest gets a variable
+unfoldable pub with_manifest_var : SessionText → Bytes → Tree → Option SessionText
+with_manifest_var t name value = in_manifest (with_var name value) t
+
+-- the latest manifest gets a custom type: the name of a type, and the name by which it is shown
+unfoldable pub with_manifest_type : SessionText → Bytes → Bytes → Option SessionText
+with_manifest_type t type_name display = in_manifest (with_type type_name display) t
 
 -- a body without calls and end
 abbrev pub new_body : BodyPlan
@@ -107,6 +141,11 @@ added natives t (parts.Limits limits) = with_limits t limits
 added natives t (parts.Printer printer) = Some (with_printer t printer)
 added natives t (parts.Builtin op left right id) = with_builtin natives t (record { token = op; left = left; right = right }) id
 added natives t (parts.Host name value) = Some (with_host t name value)
+added natives t parts.Manifest = Some (with_new_manifest t)
+added natives t (parts.Entry name id namespace) = with_manifest_entry natives t name id namespace
+added natives t (parts.Sub name sub) = with_manifest_sub t name sub
+added natives t (parts.ManifestVar name value) = with_manifest_var t name value
+added natives t (parts.ManifestType type_name display) = with_manifest_type t type_name display
 added natives t parts.Body = Some (with_body t)
 added natives t (parts.Do call) = with_call t call
 added natives t (parts.End end) = with_end t end

@@ -8,6 +8,7 @@ ghost use Rattle.rhd_syntax.specs.Answers.{Gives};
 
 use crate::body::BodyEnd;
 use crate::keyword::{CallWord, Keyword, call_of, keyword_of};
+use crate::manifest_forms::manifest_row_at;
 use crate::module_forms::{
     clear_at, count_at, doc_at, has_native_at, has_script_at, id_at, index_at, native_at, raw_at,
     raw_iter_at, raw_script_at, register_at, register_raw_at, register_type_at, script_at,
@@ -294,6 +295,7 @@ fn row_at(alloc: Global, keyword: Keyword, bytes: &[u8], place: Place) -> Result
         Keyword::Static => static_at(alloc, bytes, place),
         Keyword::Import => import_at(alloc, bytes, place),
         Keyword::PopImport => pop_import_at(bytes, place),
+        Keyword::Manifest(word) => manifest_row_at(alloc, bytes, place, word),
         Keyword::Call(call) => call_at(alloc, bytes, place, call),
     }
 }

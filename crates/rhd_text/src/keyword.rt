@@ -1,7 +1,7 @@
 //! Keywords: the words that lines and calls begin with.
 
 ghost use Rattle.std.specs.Prelude.{◌≡◌};
-ghost use Rattle.rhd_text.specs.Rows.{call_form, all_calls, step, form, all_keywords};
+ghost use Rattle.rhd_text.specs.Rows.{call_form, all_calls, step, manifest_form, form, all_keywords};
 ghost use Rattle.rhd_text.specs.ReadRows.{keyword_in};
 
 /// The word of a call.
@@ -30,6 +30,36 @@ impl CallWord {
             CallWord::MethodNative => b"method-native",
             CallWord::Qual => b"qual",
             CallWord::QualRef => b"qual-ref",
+        }
+    }
+}
+
+/// The word that a line about manifests begins with.
+#[derive(Clone, Copy, Debug, PartialEq, Eq)]
+pub enum ManifestWord {
+    Manifest,
+    Entry,
+    Sub,
+    Var,
+    Type,
+    FromManifest,
+    CombineManifest,
+    RegisterLazy,
+}
+
+impl ManifestWord {
+    fn spelling(self) -> &'static [u8]
+        ensures { result.now ≡ (manifest_form self).spelling }
+    {
+        match self {
+            ManifestWord::Manifest => b"manifest",
+            ManifestWord::Entry => b"entry",
+            ManifestWord::Sub => b"sub",
+            ManifestWord::Var => b"mvar",
+            ManifestWord::Type => b"mtype",
+            ManifestWord::FromManifest => b"from-manifest",
+            ManifestWord::CombineManifest => b"combine-manifest",
+            ManifestWord::RegisterLazy => b"register-lazy",
         }
     }
 }
@@ -70,6 +100,7 @@ pub enum Keyword {
     Static,
     Import,
     PopImport,
+    Manifest(ManifestWord),
     Call(CallWord),
 }
 
@@ -111,6 +142,7 @@ impl Keyword {
             Keyword::Static => b"static",
             Keyword::Import => b"import",
             Keyword::PopImport => b"pop-import",
+            Keyword::Manifest(word) => word.spelling(),
             Keyword::Call(call) => call.spelling(),
         }
     }
@@ -160,7 +192,7 @@ fn keyword_in(keywords: &[Keyword], word: &[u8]) -> Option<Keyword>
 }
 
 /// All keywords, the more frequent ones first.
-const ALL: [Keyword; 41] = [
+const ALL: [Keyword; 49] = [
     Keyword::Call(CallWord::Call),
     Keyword::Call(CallWord::Ref),
     Keyword::Call(CallWord::Method),
@@ -194,6 +226,14 @@ const ALL: [Keyword; 41] = [
     Keyword::Count,
     Keyword::HasNative,
     Keyword::HasScript,
+    Keyword::Manifest(ManifestWord::FromManifest),
+    Keyword::Manifest(ManifestWord::CombineManifest),
+    Keyword::Manifest(ManifestWord::RegisterLazy),
+    Keyword::Manifest(ManifestWord::Entry),
+    Keyword::Manifest(ManifestWord::Sub),
+    Keyword::Manifest(ManifestWord::Var),
+    Keyword::Manifest(ManifestWord::Type),
+    Keyword::Manifest(ManifestWord::Manifest),
     Keyword::Body,
     Keyword::Ret,
     Keyword::Fail,

@@ -9,6 +9,7 @@ mod keyword;
 mod laws;
 mod line;
 mod lines;
+mod manifest_forms;
 mod module_forms;
 mod part;
 mod place;

@@ -128,7 +128,7 @@ pub fn type_line_at(alloc: Global, bytes: &[u8], place: Place) -> Result<Part, S
 }
 
 /// Whether a function is found by all calls.
-fn found_in(global: bool) -> FnNamespace
+pub fn found_in(global: bool) -> FnNamespace
     ensures { result ≡ found_in global }
 {
     match global {

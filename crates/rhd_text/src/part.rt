@@ -6,6 +6,7 @@ ghost use Rattle.rhd_text.specs.Session.{is_header};
 use crate::body::{BodyEnd, CallPlan};
 use rhd_call::Command;
 use rhd_engine::Limits;
+use rhd_func::{FnNamespace, ManifestId};
 use rhd_hash::Seeds;
 use rhd_names::OpToken;
 use rhd_syntax::Printer;
@@ -31,6 +32,29 @@ pub enum Part {
     Host {
         name: Text,
         answer: Dynamic,
+    },
+    /// The beginning of the next manifest.
+    Manifest,
+    /// A native that the latest manifest lists under a name.
+    Entry {
+        name: Text,
+        func: FnId,
+        namespace: FnNamespace,
+    },
+    /// A sub-manifest of the latest manifest.
+    Sub {
+        name: Text,
+        sub: ManifestId,
+    },
+    /// A variable of the latest manifest.
+    ManifestVar {
+        name: Text,
+        value: Dynamic,
+    },
+    /// A custom type of the latest manifest: the name of a type, and the name by which it is shown.
+    ManifestType {
+        type_name: Text,
+        display: Text,
     },
     /// The beginning of the next body.
     Body,

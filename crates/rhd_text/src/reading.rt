@@ -1,9 +1,10 @@
 //! Reading a text.
 
-ghost use Rattle.std.specs.Prelude.{◌≡◌, true, ℕ, ◌<◌, ◌≤◌, ◌^◌, length, IfOk, IfSome, OnOk, IsTrue};
+ghost use Rattle.std.specs.Prelude.{◌≡◌, true, ℕ, ◌+◌, ◌<◌, ◌≤◌, ◌^◌, length, IfOk, IfSome, OnOk, IsTrue};
 ghost use Rattle.std.specs.Str.{is_utf8};
 ghost use Rattle.std.specs.Str.Lines.{lines};
 ghost use Rattle.rhd_func.specs.Infos.{infos_of};
+ghost use Rattle.rhd_manifest.specs.Fits.{fits};
 ghost use Rattle.rhd_engine.specs.Held.{builtins_held};
 ghost use Rattle.rhd_text.specs.declared.session.SessionText.{SessionText};
 ghost use Rattle.rhd_text.specs.Session.{IsSession, IsFirstBad, ReadsText, ReadsNoOther, NamesNoOther};
@@ -31,7 +32,8 @@ fn read_line(
     known: bool,
     natives: &Natives,
 ) -> Result<(), Stop>
-    requires { IsTrue known → is_utf8 line.now ≡ true }
+    requires known { IsTrue known → is_utf8 line.now ≡ true }
+    requires manifests { length said.old.manifests + 1 < 2 ^ 32 }
     ensures { StepGives result said.old said.new (after_line (infos_of info natives.now) place.line said.old line.now) }
 {
     if !known && !is_text(line) {
@@ -82,6 +84,8 @@ pub fn read_text(alloc: Global, bytes: &[u8], natives: &Natives) -> Result<Sessi
     ensures limits { IfOk result (λ t. IfSome t.limits (λ l. l.level ≤ 1000)) }
     // The natives of the built-in functions are held.
     ensures builtins { IfOk result (λ t. builtins_held (length natives.now.items.items) t.builtins ≡ true) }
+    // What the manifests list fits the natives.
+    ensures manifests { IfOk result (λ t. fits (infos_of info natives.now) t.manifests ≡ true) }
     // A command takes a line, and a line takes a byte.
     ensures count { IfOk result (λ t. length t.commands ≤ length bytes.now) }
 {

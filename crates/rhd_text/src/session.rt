@@ -1,16 +1,18 @@
 //! What a text says.
 
-ghost use Rattle.std.specs.Prelude.{◌≡◌, IfOk, Some};
+ghost use Rattle.std.specs.Prelude.{◌≡◌, ◌+◌, ◌<◌, ◌^◌, length, IfOk, IfSome, Some};
 ghost use Rattle.rhd_func.specs.Infos.{infos_of};
 ghost use Rattle.rhd_text.specs.Session.{empty_text, takes_headers, is_held, with_seeds, with_limits, with_printer, with_builtin, with_host, with_body, with_call, with_end, with_command, added, with_part};
+ghost use Rattle.rhd_text.specs.Session.{latest_manifest, with_new_manifest, with_manifest_entry, with_manifest_sub, with_manifest_var, with_manifest_type};
 ghost use Rattle.rhd_syntax.specs.Answers.{StepGives};
 
 use crate::body::{BodyEnd, BodyPlans, CallPlan};
 use crate::part::Part;
 use rhd_call::{Command, Commands};
 use rhd_engine::{Builtins, Limits, Printers};
-use rhd_func::Natives;
+use rhd_func::{FnNamespace, ManifestId, Natives};
 use rhd_hash::Seeds;
+use rhd_manifest::Manifests;
 use rhd_names::OpToken;
 use rhd_syntax::{Printer, Stop};
 use rhd_value::{Dynamic, Entries, FnId, OutOfMemory, Text, TypeTag};
@@ -37,6 +39,8 @@ pub struct SessionText {
     pub builtins: Builtins,
     /// What the host answers, by the name of the call.
     pub hosts: Entries,
+    /// The manifests, by their numbers.
+    pub manifests: Manifests,
     /// The bodies, by their numbers.
     pub bodies: BodyPlans,
     /// What the session is told to do, in order.
@@ -54,6 +58,7 @@ impl SessionText {
             printers: Printers::NONE,
             builtins: Builtins::new(alloc),
             hosts: Entries::new(alloc),
+            manifests: Manifests::new(alloc),
             bodies: BodyPlans::new(alloc),
             commands: Commands::new(alloc),
         }
@@ -69,6 +74,7 @@ impl SessionText {
             printers: self.printers,
             builtins: self.builtins.dup(alloc)?,
             hosts: self.hosts.dup(alloc)?,
+            manifests: self.manifests.dup(alloc)?,
             bodies: self.bodies.dup(alloc)?,
             commands: self.commands.dup(alloc)?,
         })
@@ -138,6 +144,94 @@ impl SessionText {
         Ok(self.hosts.insert(name, answer)?)
     }
 
+    /// The number of the latest manifest; none where none was begun.
+    #[tactic(auto, unfolding(crate::specs::Session::latest_manifest))]
+    fn latest_manifest(&self) -> Option<ManifestId>
+        requires { length self.now.manifests < 2 ^ 32 }
+        ensures latest { result ≡ latest_manifest self.now }
+        ensures held { IfSome result (λ id. id.0 < length self.now.manifests) }
+    {
+        let count = self.manifests.len();
+        if count == 0 {
+            return None;
+        }
+        Some(ManifestId((count - 1) as u32))
+    }
+
+    #[tactic(auto, unfolding(crate::specs::Session::with_new_manifest))]
+    fn begin_manifest(&mut self, alloc: Global) -> Result<(), Stop>
+        requires { length self.old.manifests + 1 < 2 ^ 32 }
+        ensures { StepGives result self.old self.new (Some (with_new_manifest self.old)) }
+    {
+        self.manifests.push(alloc)?;
+        Ok(())
+    }
+
+    #[tactic(auto, unfolding(crate::specs::Session::in_manifest, crate::specs::Session::with_manifest_entry), using(crate::proofs::HeldNatives::count_infos))]
+    fn add_entry(
+        &mut self,
+        alloc: Global,
+        name: Text,
+        func: FnId,
+        namespace: FnNamespace,
+        natives: &Natives,
+    ) -> Result<(), Stop>
+        requires { length self.old.manifests < 2 ^ 32 }
+        ensures { StepGives result self.old self.new (with_manifest_entry (infos_of info natives.now) self.old name func namespace) }
+    {
+        if !is_held(natives, func) {
+            return Err(Stop::Bad);
+        }
+        let Some(id) = self.latest_manifest() else {
+            return Err(Stop::Bad);
+        };
+        Ok(
+            self.manifests
+                .push_entry(alloc, natives, id, name, namespace, func)?,
+        )
+    }
+
+    #[tactic(auto, unfolding(crate::specs::Session::in_manifest, crate::specs::Session::with_manifest_sub))]
+    fn add_sub(&mut self, alloc: Global, name: Text, sub: ManifestId) -> Result<(), Stop>
+        requires { length self.old.manifests < 2 ^ 32 }
+        ensures { StepGives result self.old self.new (with_manifest_sub self.old name sub) }
+    {
+        let Some(id) = self.latest_manifest() else {
+            return Err(Stop::Bad);
+        };
+        if sub.0 >= id.0 {
+            return Err(Stop::Bad);
+        }
+        Ok(self.manifests.push_sub(alloc, id, name, sub)?)
+    }
+
+    #[tactic(auto, unfolding(crate::specs::Session::in_manifest, crate::specs::Session::with_manifest_var))]
+    fn add_manifest_var(&mut self, alloc: Global, name: Text, value: Dynamic) -> Result<(), Stop>
+        requires { length self.old.manifests < 2 ^ 32 }
+        ensures { StepGives result self.old self.new (with_manifest_var self.old name value) }
+    {
+        let Some(id) = self.latest_manifest() else {
+            return Err(Stop::Bad);
+        };
+        Ok(self.manifests.push_var(alloc, id, name, value)?)
+    }
+
+    #[tactic(auto, unfolding(crate::specs::Session::in_manifest, crate::specs::Session::with_manifest_type))]
+    fn add_manifest_type(
+        &mut self,
+        alloc: Global,
+        type_name: Text,
+        display: Text,
+    ) -> Result<(), Stop>
+        requires { length self.old.manifests < 2 ^ 32 }
+        ensures { StepGives result self.old self.new (with_manifest_type self.old type_name display) }
+    {
+        let Some(id) = self.latest_manifest() else {
+            return Err(Stop::Bad);
+        };
+        Ok(self.manifests.push_type(alloc, id, type_name, display)?)
+    }
+
     #[tactic(auto, unfolding(crate::specs::Session::with_body))]
     fn begin_body(&mut self, alloc: Global) -> Result<(), Stop>
         ensures { StepGives result self.old self.new (Some (with_body self.old)) }
@@ -168,6 +262,7 @@ impl SessionText {
 
     /// Adds a part wherever it stands, where it is allowed; else all stays as it was.
     fn add(&mut self, alloc: Global, part: Part, natives: &Natives) -> Result<(), Stop>
+        requires manifests { length self.old.manifests + 1 < 2 ^ 32 }
         ensures { StepGives result self.old self.new (added (infos_of info natives.now) self.old part) }
     {
         match part {
@@ -184,6 +279,17 @@ impl SessionText {
                 id,
             } => self.set_builtin(alloc, op, left, right, id, natives),
             Part::Host { name, answer } => self.set_host(name, answer),
+            Part::Manifest => self.begin_manifest(alloc),
+            Part::Entry {
+                name,
+                func,
+                namespace,
+            } => self.add_entry(alloc, name, func, namespace, natives),
+            Part::Sub { name, sub } => self.add_sub(alloc, name, sub),
+            Part::ManifestVar { name, value } => self.add_manifest_var(alloc, name, value),
+            Part::ManifestType { type_name, display } => {
+                self.add_manifest_type(alloc, type_name, display)
+            }
             Part::Body => self.begin_body(alloc),
             Part::Do(call) => self.add_call(call),
             Part::End(end) => self.end_body(end),
@@ -194,6 +300,7 @@ impl SessionText {
     /// Adds what a line says, where it may stand there; else all stays as it was.
     #[tactic(auto, unfolding(crate::specs::Session::with_part))]
     pub fn add_part(&mut self, alloc: Global, part: Part, natives: &Natives) -> Result<(), Stop>
+        requires manifests { length self.old.manifests + 1 < 2 ^ 32 }
         ensures { StepGives result self.old self.new (with_part (infos_of info natives.now) self.old part) }
     {
         if part.is_header() && !self.takes_headers() {

@@ -3,7 +3,7 @@ use Rattle.std.specs.Str.Lines.{lines}
 use Rattle.rhd_func.specs.Infos.{infos_of}
 use Rattle.rhd_text.proofs.HeldNatives.{count_infos}
 use Rattle.rhd_text.proofs.SessionLaws.{reads, reads_no_other, names_no_other}
-use Rattle.rhd_text.proofs.TextHolds.{read_holds, limits_allowed, natives_held, commands_few}
+use Rattle.rhd_text.proofs.TextHolds.{read_holds, limits_allowed, natives_held, manifests_fit, commands_few}
 use Rattle.rhd_text.proofs.reading.read_text.Goals as goal
 
 pub returns-clause-reads : goal.returns-clause-reads
@@ -26,6 +26,11 @@ returns-clause-builtins g c =
     natives_held natives (length c.args.natives.now.items.items) (length (lines c.args.bytes.now)) c.read_lines.result
     (count_infos (λ z. (goal.PluginFunc-dyn g z).info z.1) c.args.natives.now)
     (read_holds natives (lines c.args.bytes.now) c.read_lines.result (returns-clause-reads g c))
+
+pub returns-clause-manifests : goal.returns-clause-manifests
+returns-clause-manifests g c =
+    let natives = infos_of (λ z. (goal.PluginFunc-dyn g z).info z.1) c.args.natives.now in
+    manifests_fit natives (length (lines c.args.bytes.now)) c.read_lines.result (read_holds natives (lines c.args.bytes.now) c.read_lines.result (returns-clause-reads g c))
 
 pub returns-clause-count : goal.returns-clause-count
 returns-clause-count g c =
