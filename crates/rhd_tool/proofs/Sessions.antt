@@ -22,8 +22,9 @@ pub none_answered : (h : Handed) (text : SessionText) (commands : List Command) 
 none_answered h text commands replies e = rw e (record { world = start_of h.natives text; frame = start_frame; after = start_moment text.hosts text.bodies; answered = (refl, refl, refl) })
 
 -- the world of a new session with the seeds and the limits that a text sets
-pub start_same : (natives : List NativeInfo) (text : SessionText) (w : World) (s : Seeds) (l : Limits) → w ≡ start_world natives s l text.builtins text.printers → s ≡ seeds_of text → l ≡ limits_of text → w ≡ start_of natives text
-start_same natives text w s l e seeds limits = e ∙ (λ i. start_world natives (seeds i) (limits i) text.builtins text.printers)
+pub start_same : (natives : List NativeInfo) (text : SessionText) (w : World) (s : Seeds) (l : Limits)
+    → w ≡ start_world natives text.manifests s l text.builtins text.printers → s ≡ seeds_of text → l ≡ limits_of text → w ≡ start_of natives text
+start_same natives text w s l e seeds limits = e ∙ (λ i. start_world natives text.manifests (seeds i) (limits i) text.builtins text.printers)
 
 -- replies from there on are those of a new session
 begun_anew : (h : Handed) (text : SessionText) (commands : List Command) (replies : List Reply) (o : Objects Hosts Bodies) (w : World) (f : Frame) (before : Moment Hosts Bodies) (world : World) (frame : Frame) (after : Moment Hosts Bodies)

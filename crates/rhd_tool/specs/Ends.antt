@@ -56,7 +56,7 @@ seeds_of text = unwrap_or text.seeds default_seeds
 
 -- a new session with what the text sets
 abbrev pub start_of : List NativeInfo → SessionText → World
-start_of natives text = start_world natives (seeds_of text) (limits_of text) text.builtins text.printers
+start_of natives text = start_world natives text.manifests (seeds_of text) (limits_of text) text.builtins text.printers
 
 -- the replies answer the commands, one after the other, in a new session with what the text sets, and with its host and bodies
 pub record IsAnswered (h : Handed) (text : SessionText) (commands : List Command) (replies : List Reply) : Type 0 where

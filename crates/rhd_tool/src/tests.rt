@@ -3,6 +3,7 @@
 
 mod foreign;
 mod listings;
+mod manifests;
 mod sessions;
 mod values;
 

@@ -4,6 +4,7 @@ ghost use Rattle.std.specs.Prelude.{ℕ, Some, ◌^◌, ◌≡◌, ◌≢◌, �
 ghost use Rattle.std.specs.Io.KnownBytes.{Appends};
 ghost use Rattle.std.specs.Str.Lines.{lines};
 ghost use Rattle.rhd_func.specs.Infos.{infos_of};
+ghost use Rattle.rhd_manifest.specs.Fits.{fits};
 ghost use Rattle.rhd_engine.specs.Held.{builtins_held};
 ghost use Rattle.rhd_text.specs.declared.session.SessionText.{SessionText};
 ghost use Rattle.rhd_text.specs.Session.{IsSession, IsFirstBad};
@@ -101,6 +102,7 @@ fn write_replies<K: Sink>(alloc: Global, replies: Replies, sink: &mut K) -> Tool
 fn answer(alloc: Global, natives: Natives, text: SessionText) -> Result<Replies, Stopped>
     requires level { (limits_of text).level ≤ 1000 }
     requires builtins { builtins_held (length natives.items.items) text.builtins ≡ true }
+    requires fits { fits (infos_of info natives) text.manifests ≡ true }
     requires count { length text.commands < 2 ^ 32 }
     ensures all { IfOk result (IsAnswered (handed_of allows_call allows_resume info natives) text text.commands) }
     ensures count { IfOk result (λ replies. length replies ≡ length text.commands) }
@@ -112,6 +114,7 @@ fn answer(alloc: Global, natives: Natives, text: SessionText) -> Result<Replies,
         printers,
         builtins,
         hosts,
+        manifests,
         bodies,
         commands,
     } = text;
@@ -119,7 +122,8 @@ fn answer(alloc: Global, natives: Natives, text: SessionText) -> Result<Replies,
     let limits = limits.unwrap_or(Limits::DEFAULT);
     let mut host = TableHost::new(hosts);
     let mut bodies = PlanBodies::new(bodies);
-    let Ok(mut session) = Session::new(alloc, natives, seeds, limits, builtins, printers) else {
+    let Ok(mut session) = Session::new(alloc, natives, manifests, seeds, limits, builtins, printers)
+    else {
         return Err(Stopped {
             replies: Replies::new(alloc),
         });
@@ -136,6 +140,7 @@ fn answer_and_write<K: Sink>(
 ) -> ToolEnd
     requires level { (limits_of text).level ≤ 1000 }
     requires builtins { builtins_held (length natives.items.items) text.builtins ≡ true }
+    requires fits { fits (infos_of info natives) text.manifests ≡ true }
     requires count { length text.commands < 2 ^ 32 }
     ensures statuses { (result.status ≡ 0) ⊎ (result.status ≡ 4) ⊎ (result.status ≡ 5) }
     ensures line { result.line ≡ 0 }

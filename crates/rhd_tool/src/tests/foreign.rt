@@ -7,6 +7,7 @@ use rhd_func::{
     Bodies, CallDone, CallRequest, CallShape, Carry, Host, HostAnswer, NativeCallContext,
     NativeStep, Natives, PluginFunc, ScriptFuncDef,
 };
+use rhd_manifest::Manifests;
 use rhd_session::Session;
 use rhd_text::{print_replies, read_call};
 use rhd_value::{Dynamic, EvalAltResult, OutOfMemory, Position, Text, TypeTag, Values};
@@ -166,9 +167,12 @@ fn commands(alloc: Global) -> Commands {
 fn check_run(rt: &impl Abort, alloc: Global, natives: Natives) {
     let builtins = Builtins::new(alloc);
     assert!(rt; builtins.fits(&natives), "no built-in function");
+    let manifests = Manifests::new(alloc);
+    assert!(rt; manifests.fits(&natives), "no manifest");
     let made = Session::new(
         alloc,
         natives,
+        manifests,
         SEEDS,
         Limits::DEFAULT,
         builtins,

@@ -13,6 +13,7 @@ use rhd_func::{
     BodyId, CallRequest, CallShape, FnAccess, HostAnswer, NativeCallContext, Natives, PluginFunc,
     RhaiFunc, ScriptFuncDef, SharedDef,
 };
+use rhd_manifest::Manifests;
 use rhd_module::{Module, SharedModule};
 use rhd_names::OpToken;
 use rhd_session::Session;
@@ -163,9 +164,12 @@ fn a_session_answers_twice(rt: HostRuntime) {
     let set = builtins.set(alloc, OpToken::Plus, TypeTag::Int, TypeTag::Int, FnId(7));
     holds(&rt, set.is_ok(), "a built-in function");
     assert!(&rt; builtins.fits(&natives), "natives that are held");
+    let manifests = Manifests::new(alloc);
+    assert!(&rt; manifests.fits(&natives), "no manifest");
     let made = Session::new(
         alloc,
         natives,
+        manifests,
         SEEDS,
         Limits::DEFAULT,
         builtins,
