@@ -10,7 +10,7 @@ use Rattle.rhd_value.specs.declared.tag.FnId.{FnId}
 use Rattle.rhd_func.specs.Natives.{NativeInfo}
 use Rattle.rhd_func.specs.declared.access.FnNamespace.{FnNamespace}
 use Rattle.rhd_func.specs.declared.access.ManifestId.{ManifestId}
-use Rattle.rhd_manifest.specs.Entry.{Entry, entry_of}
+use Rattle.rhd_manifest.specs.Entry.{entry_of}
 use Rattle.rhd_manifest.specs.Fits.{native_fits, entry_fits, manifest_fits, fits}
 use Rattle.rhd_manifest.specs.Manifest.{ManifestLists, no_lists, manifest_at, with_manifest, with_entry}
 use Rattle.rhd_syntax.proofs.Agrees.{and_parts}
