@@ -12,7 +12,7 @@ use std::alloc::Global;
 use std::process::Abort;
 
 /// A manifest more.
-fn push(rt: &impl Abort, alloc: Global, manifests: &mut Manifests) -> ManifestId {
+pub fn push(rt: &impl Abort, alloc: Global, manifests: &mut Manifests) -> ManifestId {
     assert!(rt; manifests.len() < 10, "a few manifests");
     match manifests.push(alloc) {
         Ok(id) => id,
@@ -21,7 +21,7 @@ fn push(rt: &impl Abort, alloc: Global, manifests: &mut Manifests) -> ManifestId
 }
 
 /// A native under a name in a manifest.
-fn list(
+pub fn list(
     rt: &impl Abort,
     alloc: Global,
     manifests: &mut Manifests,
@@ -41,7 +41,7 @@ fn list(
 }
 
 /// A sub-manifest.
-fn nest(
+pub fn nest(
     rt: &impl Abort,
     alloc: Global,
     manifests: &mut Manifests,
