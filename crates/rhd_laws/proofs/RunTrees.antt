@@ -6,7 +6,7 @@ use Rattle.rhd_func.specs.declared.request.CallRequest.{CallRequest}
 use Rattle.rhd_decl.specs.declared.fault.DeclFault.{DeclFault}
 use Rattle.rhd_decl.specs.declared.fault.DeclFault.TheVariants.{HashCollision}
 use Rattle.rhd_call.specs.declared.command.Command.{Command}
-use Rattle.rhd_call.specs.declared.command.Command.TheVariants.{NewModule, SetId, SetDoc, SetVar, SetType, Native, RawNative, Script, SubModule, Index, Clear, RegisterFn, RegisterRaw, RegisterType, GlobalModule, StaticModule, PushLib, PopLib, PushImport, PopImport, Call, Contains}
+use Rattle.rhd_call.specs.declared.command.Command.TheVariants.{NewModule, SetId, SetDoc, SetVar, SetType, Native, RawNative, Script, SubModule, FromManifest, CombineManifest, RegisterLazy, Index, Clear, RegisterFn, RegisterRaw, RegisterType, GlobalModule, StaticModule, PushLib, PopLib, PushImport, PopImport, Call, Contains}
 use Rattle.rhd_call.specs.declared.command.Command.TheVariants.{Count as CountOf}
 use Rattle.rhd_call.specs.declared.command.ModuleId.{ModuleId}
 use Rattle.rhd_call.specs.declared.node.CallNode.{CallNode}
@@ -65,6 +65,9 @@ change_tree w f (SetType m a b) c root h is = mapped_tree _ (slice_get w.modules
 change_tree w f (Native m reg n) c root h is = mapped_tree _ (slice_get w.modules m.0) c root (λ old. done_tree root) h is
 change_tree w f (RawNative m name namespace types func) c root h is = mapped_tree _ (slice_get w.modules m.0) c root (λ old. done_tree root) h is
 change_tree w f (Script m def) c root h is = mapped_tree _ (slice_get w.modules m.0) c root (λ old. done_tree root) h is
+change_tree w f (FromManifest id) c root h is = one_tree _ c root (made_tree _ root) h is
+change_tree w f (CombineManifest m id) c root h is = mapped_tree _ (slice_get w.modules m.0) c root (λ old. done_tree root) h is
+change_tree w f (RegisterLazy m) c root h is = mapped_tree _ (slice_get w.modules m.0) c root (λ old. done_tree root) h is
 change_tree w f (Index m) c root h is = mapped_tree _ (slice_get w.modules m.0) c root (λ old. done_tree root) h is
 change_tree w f (Clear m) c root h is = mapped_tree _ (slice_get w.modules m.0) c root (λ old. done_tree root) h is
 change_tree w f (SubModule m name sub) c root h is = then_tree _ (slice_get w.modules sub.0) c root (λ child e. mapped_tree _ (slice_get w.modules m.0) c root (λ old. done_tree root) e) h is
@@ -109,6 +112,9 @@ module _ {H B : Type 0} (o : Objects H B) where
   replied_tree w w2 f f2 before after (Native m reg n) reply root r is = absurd (applied_tree root r.0 is)
   replied_tree w w2 f f2 before after (RawNative m name namespace types func) reply root r is = absurd (applied_tree root r.0 is)
   replied_tree w w2 f f2 before after (Script m def) reply root r is = absurd (applied_tree root r.0 is)
+  replied_tree w w2 f f2 before after (FromManifest id) reply root r is = absurd (applied_tree root r.0 is)
+  replied_tree w w2 f f2 before after (CombineManifest m id) reply root r is = absurd (applied_tree root r.0 is)
+  replied_tree w w2 f f2 before after (RegisterLazy m) reply root r is = absurd (applied_tree root r.0 is)
   replied_tree w w2 f f2 before after (Index m) reply root r is = absurd (applied_tree root r.0 is)
   replied_tree w w2 f f2 before after (Clear m) reply root r is = absurd (applied_tree root r.0 is)
   replied_tree w w2 f f2 before after (SubModule m name sub) reply root r is = absurd (applied_tree root r.0 is)
