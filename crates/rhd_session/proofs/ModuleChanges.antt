@@ -191,7 +191,7 @@ left w id old new is same = ap (λ (ms : List ModuleTree). record w { modules = 
 
 -- what a change of a module comes to in its world
 pub module_goes : (w w2 : World) (f : Frame) (command : Command) (id : ModuleId) (old new : ModuleTree) (r : Result (Unit {0}) DeclFault) → target command ≡ Some id → iterator_in command ≡ None → slice_get w.modules id.0 ≡ Some old
-    → w2 ≡ record w { modules = slice_set w.modules id.0 new } → ChangesModule w.engine.natives command old r new → Goes w f command r w2 f
+    → w2 ≡ record w { modules = slice_set w.modules id.0 new } → ChangesModule w.engine.natives w.engine.manifests command old r new → Goes w f command r w2 f
 module_goes w w2 f command id old new (Ok u) at plain is made goes =
     let below = lt-ltb id.0 (length w.modules) (slice_get_within w.modules id.0 old is) in
     done_in w w2 f f command (with_module w f id (module_change w.engine.natives w.engine.manifests command old)) (cause_held w f command id at plain below ∙ goes.0) (change_held w f command id old at is) goes.1
