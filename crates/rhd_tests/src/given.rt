@@ -56,7 +56,7 @@ pub fn text(alloc: Global, word: &str) -> Text {
 
 /// Whether there is a text, and which.
 pub fn is_text(text: Option<&Text>, word: &str) -> bool
-    ensures { result ≡ option_map_or (λ t. text_eq t word.now) (option_copied text) false }
+    ensures { result ≡ option_map_or (λ t. text_eq t word.now) (option_copied text.entry) false }
 {
     match text {
         Some(text) => text.as_str() == word,
@@ -66,7 +66,7 @@ pub fn is_text(text: Option<&Text>, word: &str) -> bool
 
 /// Whether there is a value, and which number it is.
 pub fn is_int(value: Option<&Dynamic>, number: i64) -> bool
-    ensures { result ≡ option_map_or (λ n. int_eq n number) (option_and_then (λ v. int_in v.kind) (option_copied value)) false }
+    ensures { result ≡ option_map_or (λ n. int_eq n number) (option_and_then (λ v. int_in v.kind) (option_copied value.entry)) false }
 {
     match value {
         Some(value) => match value.as_int() {
