@@ -75,8 +75,13 @@ or_none None = refl
 or_none (Some fault) = refl
 
 -- the same command
-pub same_changes : (natives : List NativeInfo) (table : List ManifestLists) (command same : Command) (old new : ModuleTree) (r : Result (Unit {0}) DeclFault) → command ≡ same → ChangesModule natives table same old r new → ChangesModule natives table command old r new
+same_changes : (natives : List NativeInfo) (table : List ManifestLists) (command same : Command) (old new : ModuleTree) (r : Result (Unit {0}) DeclFault) → command ≡ same → ChangesModule natives table same old r new → ChangesModule natives table command old r new
 same_changes natives table command same old new r is does = subst (λ (c : Command). ChangesModule natives table c old r new) (sym is) does
+
+-- adding a manifest as the command that says so
+pub combine_changes : (natives : List NativeInfo) (table : List ManifestLists) (command : Command) (m : ModuleId) (id : ManifestId) (old new : ModuleTree) (r : Result (Unit {0}) DeclFault) → command ≡ commands.CombineManifest m id
+    → ((natives : List NativeInfo) (m : ModuleId) → ChangesModule natives table (commands.CombineManifest m id) old r new) → ChangesModule natives table command old r new
+combine_changes natives table command m id old new r is does = same_changes natives table command (commands.CombineManifest m id) old new r is (does natives m)
 
 -- its number isn't held
 pub combine_unheld : (natives : List NativeInfo) (table : List ManifestLists) (m : ModuleId) (id : ManifestId) (old : ModuleTree) (fault : DeclFault) (n h : ℕ) → fault ≡ UnknownNumber n h → n ≡ id.0 → h ≡ length table → length table ≤ id.0
@@ -192,6 +197,11 @@ made_replied w w2 f id m number made n is =
     (subst (λ (x : World). Declares w f (commands.FromManifest id) (Made (record { 0 = length w.modules })) x f) (sym is) made)
 
 -- a held module is put last
-pub all_pushed : (n : ℕ) (ms : List ModuleTree) (m : ModuleTree) → all_held n ms ≡ true → names_held n m ≡ true → all_held n (ms ++ m ∷ []) ≡ true
-all_pushed n [] m all h = both (names_held n m) true h refl
-all_pushed n (x ∷ ms) m all h = let p = parts (names_held n x) (all_held n ms) all in both (names_held n x) (all_held n (ms ++ m ∷ [])) p.0 (all_pushed n ms m p.1 h)
+last_held : (n : ℕ) (ms : List ModuleTree) (m : ModuleTree) → all_held n ms ≡ true → names_held n m ≡ true → all_held n (ms ++ m ∷ []) ≡ true
+last_held n [] m all h = both (names_held n m) true h refl
+last_held n (x ∷ ms) m all h = let p = parts (names_held n x) (all_held n ms) all in both (names_held n x) (all_held n (ms ++ m ∷ [])) p.0 (last_held n ms m p.1 h)
+
+-- or it isn't
+pub last_or_not : (n : ℕ) (put : Bool) (ms new : List ModuleTree) (m : ModuleTree) → new ≡ (if put then ms ++ m ∷ [] else ms) → all_held n ms ≡ true → names_held n m ≡ true → all_held n new ≡ true
+last_or_not n true ms new m is all h = ap (all_held n) is ∙ last_held n ms m all h
+last_or_not n false ms new m is all h = ap (all_held n) is ∙ all

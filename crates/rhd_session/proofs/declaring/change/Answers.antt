@@ -1,4 +1,4 @@
-use Rattle.rhd_session.proofs.ManifestChanges.{same_changes, lazy_changes}
+use Rattle.rhd_session.proofs.ManifestChanges.{combine_changes, lazy_changes}
 use Rattle.rhd_session.proofs.ModuleChanges.{native_changes, raw_changes, script_changes, index_changes}
 use Rattle.rhd_session.proofs.declaring.change.Goals as goal
 
@@ -15,7 +15,7 @@ pub returns-in-Index : goal.returns-in-Index
 returns-in-Index g c = index_changes _ _ c.args.command _ c.args.changed.now _ c.build_index.result c.in-Index.is c.build_index.ensures
 
 pub returns-in-CombineManifest : goal.returns-in-CombineManifest
-returns-in-CombineManifest g c = same_changes _ _ c.args.command _ c.args.changed.now _ c.combine.result c.in-CombineManifest.is (c.combine.ensures _ _)
+returns-in-CombineManifest g c = combine_changes _ _ c.args.command _ _ c.args.changed.now _ c.combine.result c.in-CombineManifest.is c.combine.ensures
 
 pub returns-in-RegisterLazy : goal.returns-in-RegisterLazy
 returns-in-RegisterLazy g c = lazy_changes _ _ c.args.command _ c.args.changed.now _ c.register_lazy_functions.result c.in-RegisterLazy.is c.register_lazy_functions.ensures

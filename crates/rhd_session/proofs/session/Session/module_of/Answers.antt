@@ -1,5 +1,5 @@
-use Rattle.std.proofs.Common.{◌≡◌, ◌≤◌, ◌<◌, length, refl, sym, rules, arith, ap, subst, ◌∙◌, true}
-use Rattle.std.specs.Prelude.{Result, Ok, Err}
+use Rattle.std.proofs.Common.{◌≡◌, ◌≤◌, length, refl, sym, rules, arith, ap, subst, ◌∙◌}
+use Rattle.std.specs.Prelude.{Ok, Err}
 use Rattle.rhd_hash.specs.declared.mixer.Seeds.{Seeds}
 use Rattle.rhd_module.specs.Made.{Makes}
 use Rattle.rhd_module.specs.Tree.{ModuleTree}
