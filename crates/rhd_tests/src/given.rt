@@ -1,6 +1,6 @@
 //! What tests are made of: small values, keys and scripts.
 
-ghost use Rattle.std.specs.Prelude.{◌≡◌, true, false, None, Ok};
+ghost use Rattle.std.specs.Prelude.{◌≡◌, false, None, Ok};
 ghost use Rattle.std.specs.Option.{option_and_then, option_copied, option_map_or};
 ghost use Rattle.std.specs.Ordering.{int_eq};
 ghost use Rattle.rhd_value.specs.Kinds.{int_in};
@@ -31,9 +31,7 @@ pub const CLASHING: Seeds = Seeds {
 };
 
 /// Stops the test where something doesn't hold.
-pub fn holds(rt: &impl Abort, fact: bool, what: &str)
-    ensures { fact ≡ true }
-{
+pub fn holds(rt: &impl Abort, fact: bool, what: &str) {
     assert!(rt; fact, "{what}");
 }
 
