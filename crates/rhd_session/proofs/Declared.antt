@@ -1,6 +1,6 @@
 -- What the commands that declare something answer and leave.
 use Rattle.std.proofs.Common.{◌≡◌, ◌≤◌, ◌<◌, ℕ, Bool, true, false, not, List, [], ◌∷◌, ◌++◌, length, refl, sym, ap, subst, ◌∙◌, get_or, arith}
-use Rattle.std.specs.Prelude.{zero, suc, ◌||◌, Option, Some, None, Result, Ok, Err, IfOk, OnErr, nat_lt, map, take, slice_get, slice_set, option_map, option_and_then}
+use Rattle.std.specs.Prelude.{zero, suc, Option, Some, None, Result, Ok, Err, IfOk, OnErr, nat_lt, map, slice_get, slice_set, option_map}
 use Rattle.std.specs.List.{AllByRecursion, Contains}
 use Rattle.std.specs.Map.{keys_of}
 use Rattle.std.specs.Option.{option_or}
@@ -9,34 +9,23 @@ use Rattle.std.proofs.lemmas.Option.{slice_get_within}
 use Rattle.rhd_value.specs.Tree.{Bytes}
 use Rattle.rhd_value.specs.Firsts.{first_of, first_some, where_holds}
 use Rattle.rhd_value.specs.declared.memory.OutOfMemory.{OutOfMemory}
-use Rattle.rhd_value.specs.declared.tag.FnId.{FnId}
-use Rattle.rhd_hash.specs.declared.key.Key.{Key}
-use Rattle.rhd_func.specs.Natives.{NativeInfo}
-use Rattle.rhd_func.specs.declared.access.IterId.{IterId}
-use Rattle.rhd_func.specs.declared.func.RhaiFunc.{RhaiFunc}
-use Rattle.rhd_func.specs.declared.func.RhaiFunc.TheVariants as funcs
-use Rattle.rhd_func.specs.Funcs.{native_of, iter_fn_of}
-use Rattle.rhd_decl.specs.declared.declaration.Declaration.{Declaration}
 use Rattle.rhd_decl.specs.declared.fault.DeclFault.{DeclFault}
 use Rattle.rhd_decl.specs.declared.fault.DeclFault.TheVariants.{HashCollision, IndexerNotAllowed, NotCallable, UnknownNumber, OutOfMemory as no_memory}
 use Rattle.rhd_module.specs.Tree.{ModuleTree, empty_module}
-use Rattle.rhd_module.specs.Contents.{with_sub}
-use Rattle.rhd_module.specs.Registered.{with_decl, unheld, Puts}
 use Rattle.rhd_module.specs.Walk.{tree}
 use Rattle.rhd_module.specs.Index.{NoneClash, Indexes, indexed}
 use Rattle.rhd_engine.specs.Engine.{Frame, Imports}
 use Rattle.rhd_engine.specs.Lists.{second}
-use Rattle.rhd_engine.specs.Statics.{with_static, made_static, Places, TreeClear}
-use Rattle.rhd_engine.specs.Registered.{in_first, InFirst}
+use Rattle.rhd_engine.specs.Statics.{with_static, made_static, Places}
 use Rattle.rhd_call.specs.declared.command.Command.{Command}
 use Rattle.rhd_call.specs.declared.command.ModuleId.{ModuleId}
 use Rattle.rhd_call.specs.declared.command.Command.TheVariants as commands
 use Rattle.rhd_call.specs.declared.reply.Reply.{Reply}
 use Rattle.rhd_call.specs.declared.reply.Reply.TheVariants.{Done, Made, Refused}
 use Rattle.rhd_machine.specs.World.{World}
-use Rattle.rhd_session.specs.Commands.{cause, change, Change, ChangedModule, Keyed, eager_keys, tree_keys, with_imports, with_globals, with_statics, with_keys, without_keys, module_change, target, operands, pop_operand, unknown_of, not_callable, indexer_not_allowed, with_module, changed, changed_by, changed_first, with_globals, with_libs, but_last, func_operands}
+use Rattle.rhd_session.specs.Commands.{cause, change, Change, tree_keys, with_imports, with_globals, with_statics, operands, pop_operand, unknown_of, not_callable, indexer_not_allowed, with_globals, with_libs, but_last}
 use Rattle.rhd_session.specs.Answered.{Declares, refused, collided, done, NoClash}
-use Rattle.rhd_session.specs.Changing.{ChangesModule, Goes, IsReply, module_cause, native_in, iterator_in}
+use Rattle.rhd_session.specs.Changing.{Goes, IsReply}
 
 -- Replies.
 

@@ -1,15 +1,13 @@
 -- Commands that change the first global module, or put one module into another.
-use Rattle.std.proofs.Common.{◌≡◌, ◌<◌, ℕ, Bool, true, false, List, [], ◌∷◌, length, refl, sym, ap, subst, ◌∙◌, arith}
+use Rattle.std.proofs.Common.{◌≡◌, ℕ, true, List, [], ◌∷◌, length, refl, sym, ap, subst, ◌∙◌, arith}
 use Rattle.std.specs.Prelude.{Option, Some, None, Result, Ok, Err, OnOk, OnErr, map, take, slice_get, slice_set, option_map, option_and_then}
-use Rattle.std.specs.List.{AllByRecursion, Contains}
 use Rattle.std.specs.Option.{option_or}
 use Rattle.std.proofs.lemmas.Option.{slice_get_within}
 use Rattle.rhd_value.specs.Tree.{Bytes}
-use Rattle.rhd_value.specs.Firsts.{first_of, first_some}
+use Rattle.rhd_value.specs.Firsts.{first_some}
 use Rattle.rhd_value.specs.declared.tag.FnId.{FnId}
 use Rattle.rhd_value.specs.declared.tag.TypeTag.{TypeTag}
 use Rattle.rhd_hash.specs.declared.key.Key.{Key}
-use Rattle.rhd_func.specs.Natives.{NativeInfo}
 use Rattle.rhd_func.specs.declared.func.RhaiFunc.{RhaiFunc}
 use Rattle.rhd_decl.specs.declared.declaration.Declaration.{Declaration}
 use Rattle.rhd_decl.specs.declared.fault.DeclFault.{DeclFault}
@@ -30,8 +28,8 @@ use Rattle.rhd_call.specs.declared.command.ModuleId.{ModuleId}
 use Rattle.rhd_call.specs.declared.command.Command.TheVariants as commands
 use Rattle.rhd_call.specs.declared.reply.Reply.TheVariants.{Done}
 use Rattle.rhd_machine.specs.World.{World}
-use Rattle.rhd_session.specs.Commands.{cause, change, Change, Keyed, eager_keys, without_keys, with_module, changed_first, with_globals, unknown_of, not_callable, indexer_not_allowed, raw_registration}
-use Rattle.rhd_session.specs.Answered.{Declares, refused, collided, NoClash}
+use Rattle.rhd_session.specs.Commands.{cause, change, eager_keys, without_keys, with_module, changed_first, with_globals, indexer_not_allowed, raw_registration}
+use Rattle.rhd_session.specs.Answered.{Declares, refused, collided}
 use Rattle.rhd_session.specs.Changing.{Goes}
 use Rattle.rhd_engine.specs.Held.{names_held, all_held}
 use Rattle.rhd_engine.proofs.HeldLaws.{type_first_held, first_count}

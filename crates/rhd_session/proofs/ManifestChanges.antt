@@ -1,11 +1,11 @@
 -- Commands on manifests, and on what modules list.
 use Rattle.std.proofs.Common.{◌≡◌, ◌≤◌, ◌<◌, ℕ, Bool, true, false, not, List, [], ◌∷◌, ◌++◌, inl, inr, length, refl, sym, ap, subst, ◌∙◌, arith}
-use Rattle.std.specs.Prelude.{zero, suc, ◌⊎◌, Option, Some, None, Result, Ok, Err, nat_lt, map, if◌then◌else◌}
+use Rattle.std.specs.Prelude.{zero, suc, Option, Some, None, Result, Ok, Err, map, if◌then◌else◌}
 use Rattle.std.specs.List.{AllByRecursion, Contains}
 use Rattle.std.specs.Option.{option_or, option_map}
 use Rattle.std.proofs.lemmas.Bool.{lt-ltb, le-ltb}
 use Rattle.std.proofs.lemmas.List.Elements.{Contains-append_left, Contains-append_right}
-use Rattle.rhd_value.specs.Firsts.{first_of, where_holds}
+use Rattle.rhd_value.specs.Firsts.{where_holds}
 use Rattle.rhd_value.specs.Tree.{Bytes}
 use Rattle.rhd_hash.specs.declared.key.Key.{Key}
 use Rattle.rhd_hash.specs.declared.mixer.Seeds.{Seeds}
@@ -33,13 +33,12 @@ use Rattle.rhd_engine.proofs.HeldLaws.{both, parts}
 use Rattle.rhd_call.specs.declared.command.Command.{Command}
 use Rattle.rhd_call.specs.declared.command.Command.TheVariants as commands
 use Rattle.rhd_call.specs.declared.command.ModuleId.{ModuleId}
-use Rattle.rhd_call.specs.declared.reply.Reply.{Reply}
-use Rattle.rhd_call.specs.declared.reply.Reply.TheVariants.{Made, Refused}
+use Rattle.rhd_call.specs.declared.reply.Reply.TheVariants.{Made}
 use Rattle.rhd_machine.specs.World.{World}
-use Rattle.rhd_session.specs.Commands.{cause, change, Keyed, tree_keys, registered_keys, banned_listed, made_of, with_made, without_keys, module_change, ChangedModule}
+use Rattle.rhd_session.specs.Commands.{cause, Keyed, tree_keys, registered_keys, banned_listed}
 use Rattle.rhd_session.specs.Answered.{Declares, refused, collided, done, NoClash}
 use Rattle.rhd_session.specs.Changing.{ChangesModule, Goes, MadeFor, unheld_manifest}
-use Rattle.rhd_session.proofs.Declared.{none_refuses, one_held, refused_first, goes_refused}
+use Rattle.rhd_session.proofs.Declared.{one_held, refused_first, goes_refused}
 
 -- Lists.
 

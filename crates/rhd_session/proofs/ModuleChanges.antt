@@ -1,5 +1,5 @@
 -- Commands that change one module by themselves.
-use Rattle.std.proofs.Common.{◌≡◌, ◌≤◌, ◌<◌, ℕ, Bool, true, false, not, List, [], ◌∷◌, length, refl, sym, ap, subst, ◌∙◌, arith}
+use Rattle.std.proofs.Common.{◌≡◌, ◌≤◌, ◌<◌, ℕ, Bool, true, not, List, [], ◌∷◌, length, refl, sym, ap, subst, ◌∙◌, arith}
 use Rattle.std.specs.Prelude.{◌||◌, Option, Some, None, Result, Ok, Err, nat_lt, slice_get, slice_set, option_map}
 use Rattle.std.specs.List.{AllByRecursion, Contains}
 use Rattle.std.specs.Option.{option_or}
@@ -38,7 +38,7 @@ use Rattle.rhd_func.specs.declared.access.IterId.{IterId}
 use Rattle.rhd_call.specs.declared.reply.Reply.TheVariants.{Refused}
 use Rattle.rhd_call.specs.declared.command.Command.TheVariants as commands
 use Rattle.rhd_machine.specs.World.{World}
-use Rattle.rhd_session.specs.Commands.{cause, change, Keyed, eager_keys, tree_keys, ChangedModule, with_keys, without_keys, module_change, target, operands, func_operands, unknown_of, not_callable, indexer_not_allowed, with_module, raw_registration}
+use Rattle.rhd_session.specs.Commands.{cause, change, Keyed, eager_keys, tree_keys, ChangedModule, with_keys, module_change, target, operands, func_operands, unknown_of, not_callable, indexer_not_allowed, with_module, raw_registration}
 use Rattle.rhd_session.specs.Answered.{Declares, refused, collided, NoClash}
 use Rattle.rhd_session.specs.Changing.{ChangesModule, Goes, module_cause, native_in, manifest_in, unheld_manifest, iterator_in}
 use Rattle.rhd_engine.proofs.HeldLaws.{stays_held, number_held, registered_number, allowed_held, can_be_called, callable_by, infos_count}

@@ -20,7 +20,7 @@ use Rattle.rhd_call.specs.declared.command.Command.TheVariants as commands
 use Rattle.rhd_call.specs.declared.reply.Reply.{Reply}
 use Rattle.rhd_call.specs.declared.reply.Reply.TheVariants.{Done, Refused}
 use Rattle.rhd_machine.specs.World.{World}
-use Rattle.rhd_session.specs.Commands.{ChangedModule, Keyed, with_made, without_keys, module_change, not_callable, indexer_not_allowed}
+use Rattle.rhd_session.specs.Commands.{Keyed, with_made, without_keys, module_change, not_callable, indexer_not_allowed}
 use Rattle.rhd_session.specs.Answered.{Declares, NoClash}
 
 -- the native that a command registers in a module

@@ -1,4 +1,4 @@
-use Rattle.std.proofs.Common.{◌≡◌, ◌≤◌, ◌<◌, length, refl, sym, rules, arith, ap, List, ◌∙◌}
+use Rattle.std.proofs.Common.{refl}
 use Rattle.rhd_engine.specs.Of.{lists_of}
 use Rattle.rhd_engine.proofs.HeldLaws.{all_at, all_set}
 use Rattle.rhd_session.specs.Of.{world_of, frame_of}

@@ -1,10 +1,10 @@
-use Rattle.std.proofs.Common.{◌≡◌, ◌≤◌, length, refl, sym, ap, ◌∙◌, rules}
+use Rattle.std.proofs.Common.{◌≡◌, length, refl, sym, ap, ◌∙◌, rules}
 use Rattle.std.specs.Prelude.{option_map, is_some}
 use Rattle.rhd_module.specs.Tree.{ModuleTree}
 use Rattle.rhd_module.specs.Shown.{own_decl}
 use Rattle.rhd_call.specs.declared.reply.Reply.TheVariants.{Truth}
 use Rattle.rhd_call.specs.declared.command.Command.TheVariants as commands
-use Rattle.rhd_session.specs.Commands.{answering, counted}
+use Rattle.rhd_session.specs.Commands.{answering}
 use Rattle.rhd_session.specs.Of.{world_of, frame_of}
 use Rattle.rhd_session.proofs.Declared.{told_refused, refused_first, asked_goes, past_all}
 use Rattle.rhd_session.proofs.session.Session.contains.Goals as goal

@@ -1,5 +1,5 @@
-use Rattle.std.proofs.Common.{◌≡◌, ◌≤◌, length, refl, sym, ap, ◌∙◌, rules}
-use Rattle.std.specs.Prelude.{option_map, is_some}
+use Rattle.std.proofs.Common.{◌≡◌, length, refl, sym, ap, ◌∙◌, rules}
+use Rattle.std.specs.Prelude.{option_map}
 use Rattle.rhd_module.specs.Tree.{ModuleTree}
 use Rattle.std.proofs.Common.{ℕ}
 use Rattle.rhd_module.specs.Contents.{counts}

@@ -1,7 +1,4 @@
-use Rattle.std.proofs.Common.{◌≡◌, ◌≤◌, ◌<◌, length, refl, rules, arith, ap, List, slice_set, ◌∙◌}
-use Rattle.rhd_module.specs.Tree.{ModuleTree}
-use Rattle.rhd_call.specs.declared.command.Command.TheVariants as commands
-use Rattle.rhd_session.specs.Of.{world_of, frame_of}
+use Rattle.std.proofs.Common.{◌≡◌, length, refl, rules}
 use Rattle.rhd_engine.specs.Of.{lists_of}
 use Rattle.rhd_session.proofs.Declared.{made_goes}
 use Rattle.rhd_session.proofs.session.Session.new_module.Goals as goal

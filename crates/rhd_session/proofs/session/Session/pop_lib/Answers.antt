@@ -1,7 +1,6 @@
-use Rattle.std.proofs.Common.{◌≡◌, ◌≤◌, ◌<◌, length, refl, rules, arith, sym, ap, List, slice_set, ◌∙◌}
+use Rattle.std.proofs.Common.{refl, sym, ap, List, ◌∙◌}
 use Rattle.rhd_module.specs.Tree.{ModuleTree}
 use Rattle.rhd_call.specs.declared.command.Command.TheVariants as commands
-use Rattle.rhd_session.specs.Of.{world_of, frame_of}
 use Rattle.rhd_session.proofs.Declared.{goes_refused, pop_goes, pop_refused}
 use Rattle.rhd_session.proofs.session.Session.pop_lib.Goals as goal
 

@@ -1,9 +1,8 @@
-use Rattle.std.proofs.Common.{◌≡◌, ◌≤◌, ◌<◌, length, refl, sym, rules, arith, ap, subst, List, ◌∙◌}
-use Rattle.std.specs.Prelude.{Result, Ok, Err}
+use Rattle.std.proofs.Common.{◌≡◌, ◌≤◌, ◌<◌, length, refl, rules, arith, subst}
+use Rattle.std.specs.Prelude.{Ok, Err}
 use Rattle.rhd_module.specs.Tree.{ModuleTree}
 use Rattle.rhd_module.specs.Index.{Indexes}
 use Rattle.rhd_call.specs.declared.command.Command.TheVariants as commands
-use Rattle.rhd_session.specs.Of.{world_of, frame_of}
 use Rattle.rhd_session.proofs.Declared.{goes_refused, refused_first, import_goes, import_refused, at_place}
 use Rattle.rhd_session.proofs.session.Session.push_import.Goals as goal
 

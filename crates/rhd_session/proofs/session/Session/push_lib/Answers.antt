@@ -1,7 +1,5 @@
-use Rattle.std.proofs.Common.{◌≡◌, ◌≤◌, ◌<◌, length, refl, rules, arith, ap, List, slice_set, ◌∙◌}
-use Rattle.rhd_module.specs.Tree.{ModuleTree}
+use Rattle.std.proofs.Common.{◌≡◌, ◌≤◌, ◌<◌, length, refl, rules, arith}
 use Rattle.rhd_call.specs.declared.command.Command.TheVariants as commands
-use Rattle.rhd_session.specs.Of.{world_of, frame_of}
 use Rattle.rhd_session.proofs.Declared.{goes_refused, refused_first, push_goes, at_place}
 use Rattle.rhd_session.proofs.session.Session.push_lib.Goals as goal
 

@@ -1,6 +1,4 @@
-use Rattle.std.proofs.Common.{◌≡◌, ◌≤◌, ◌<◌, length, refl, rules, arith, ap, List, slice_set, ◌∙◌}
-use Rattle.rhd_module.specs.Tree.{ModuleTree}
-use Rattle.rhd_call.specs.declared.command.Command.TheVariants as commands
+use Rattle.std.proofs.Common.{refl, arith}
 use Rattle.rhd_session.specs.Of.{world_of, frame_of}
 use Rattle.rhd_func.specs.Infos.{infos_of}
 use Rattle.rhd_engine.specs.Of.{lists_of}

@@ -1,10 +1,9 @@
-use Rattle.std.proofs.Common.{◌≡◌, List, [], refl, ap, ◌∙◌}
+use Rattle.std.proofs.Common.{[], refl, ◌∙◌}
 use Rattle.rhd_module.specs.Contents.{with_type}
-use Rattle.rhd_module.specs.Tree.{ModuleTree}
 use Rattle.rhd_engine.specs.Of.{lists_of}
 use Rattle.rhd_engine.specs.Registered.{in_first}
 use Rattle.rhd_session.specs.Of.{world_of, frame_of}
-use Rattle.rhd_session.proofs.GlobalChanges.{type_goes, type_either, globals_left}
+use Rattle.rhd_session.proofs.GlobalChanges.{type_goes, globals_left}
 use Rattle.rhd_session.proofs.session.Session.register_type.Goals as goal
 
 pub returns-in-Ok-set_type_in_first-clause-goes : goal.returns-in-Ok-set_type_in_first-clause-goes

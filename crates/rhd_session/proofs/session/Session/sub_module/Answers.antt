@@ -1,5 +1,4 @@
-use Rattle.std.proofs.Common.{◌≡◌, ◌≤◌, ◌<◌, length, refl, rules, arith, ap, List, slice_set, ◌∙◌}
-use Rattle.rhd_module.specs.Tree.{ModuleTree}
+use Rattle.std.proofs.Common.{◌≡◌, ◌≤◌, ◌<◌, length, refl, rules, arith, ap, ◌∙◌}
 use Rattle.rhd_module.specs.Contents.{with_sub}
 use Rattle.rhd_call.specs.declared.command.Command.TheVariants as commands
 use Rattle.rhd_session.specs.Of.{world_of, frame_of}
