@@ -10,7 +10,8 @@ mod dispatch;
 mod engine;
 #[cfg(test)]
 mod func;
-pub mod given;
+#[cfg(test)]
+mod given;
 #[cfg(test)]
 mod hash;
 #[cfg(test)]
