@@ -1,17 +1,61 @@
 //! Tables of manifests, and a text and a session with one.
 
-use crate::tests::listings::{list, nest, push};
 use crate::tests::{SEEDS, holds, int, text_of};
 use crate::{PlanBodies, TableHost, kit};
 use rhd_call::{Command, Commands, ModuleId};
 use rhd_engine::{Builtins, Limits, Printers};
-use rhd_func::{ManifestId, Natives, PluginFunc};
+use rhd_func::{FnNamespace, ManifestId, Natives, PluginFunc};
 use rhd_manifest::Manifests;
 use rhd_session::Session;
 use rhd_text::{BodyPlans, read_text};
-use rhd_value::Entries;
+use rhd_value::{Entries, FnId};
 use std::alloc::Global;
 use std::process::Abort;
+
+/// A manifest more.
+fn push(rt: &impl Abort, alloc: Global, manifests: &mut Manifests) -> ManifestId {
+    assert!(rt; manifests.len() < 10, "a few manifests");
+    match manifests.push(alloc) {
+        Ok(id) => id,
+        Err(_) => panic!(rt; "a manifest"),
+    }
+}
+
+/// A native under a name in a manifest.
+fn list(
+    rt: &impl Abort,
+    alloc: Global,
+    manifests: &mut Manifests,
+    natives: &Natives,
+    id: ManifestId,
+    word: &str,
+    func: u32,
+) {
+    assert!(rt;
+        (id.0 as usize) < manifests.len(),
+        "a manifest that is held"
+    );
+    assert!(rt; (func as usize) < natives.len(), "a native that is held");
+    let name = text_of(alloc, word);
+    let put = manifests.push_entry(alloc, natives, id, name, FnNamespace::Internal, FnId(func));
+    holds(rt, put.is_ok(), "listed");
+}
+
+/// A sub-manifest.
+fn nest(
+    rt: &impl Abort,
+    alloc: Global,
+    manifests: &mut Manifests,
+    id: ManifestId,
+    sub: ManifestId,
+) {
+    assert!(rt;
+        (id.0 as usize) < manifests.len() && sub.0 < id.0,
+        "of a lower number"
+    );
+    let put = manifests.push_sub(alloc, id, text_of(alloc, "s"), sub);
+    holds(rt, put.is_ok(), "below it");
+}
 
 /// A variable and a custom type of a manifest.
 fn describe(rt: &impl Abort, alloc: Global, manifests: &mut Manifests, id: ManifestId) {
