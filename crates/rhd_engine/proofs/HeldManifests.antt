@@ -95,7 +95,8 @@ module _ (n : ℕ) (table : List ManifestLists) (all : table_held n table ≡ tr
       let listed = all_append (λ (e : Entry). nat_lt e.func.0 n) (rank table id false) [] (rank_held id false) refl in
       both (listed_held n (rank table id false ++ [])) true listed refl
 
-  with_subs_held : (module_of : ManifestId → ModuleTree) → ((id : ManifestId) → names_held n (module_of id) ≡ true) → (subs : List (Bytes × ManifestId)) (m : ModuleTree) → names_held n m ≡ true → names_held n (with_subs module_of subs m) ≡ true
+  with_subs_held : (module_of : ManifestId → ModuleTree) → ((id : ManifestId) → names_held n (module_of id) ≡ true) → (subs : List (Bytes × ManifestId)) (m : ModuleTree) → names_held n m ≡ true
+      → names_held n (with_subs module_of subs m) ≡ true
   with_subs_held module_of each [] m held = held
   with_subs_held module_of each (s ∷ subs) m held = with_subs_held module_of each subs (with_sub s.0 (module_of s.1) m) (sub_held n s.0 (module_of s.1) m (each s.1) held)
 

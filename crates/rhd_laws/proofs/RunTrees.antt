@@ -6,7 +6,8 @@ use Rattle.rhd_func.specs.declared.request.CallRequest.{CallRequest}
 use Rattle.rhd_decl.specs.declared.fault.DeclFault.{DeclFault}
 use Rattle.rhd_decl.specs.declared.fault.DeclFault.TheVariants.{HashCollision}
 use Rattle.rhd_call.specs.declared.command.Command.{Command}
-use Rattle.rhd_call.specs.declared.command.Command.TheVariants.{NewModule, SetId, SetDoc, SetVar, SetType, Native, RawNative, Script, SubModule, FromManifest, CombineManifest, RegisterLazy, Index, Clear, RegisterFn, RegisterRaw, RegisterType, GlobalModule, StaticModule, PushLib, PopLib, PushImport, PopImport, Call, Contains}
+use Rattle.rhd_call.specs.declared.command.Command.TheVariants.{NewModule, SetId, SetDoc, SetVar, SetType, Native, RawNative, Script, SubModule, FromManifest, CombineManifest, RegisterLazy}
+use Rattle.rhd_call.specs.declared.command.Command.TheVariants.{Index, Clear, RegisterFn, RegisterRaw, RegisterType, GlobalModule, StaticModule, PushLib, PopLib, PushImport, PopImport, Call, Contains}
 use Rattle.rhd_call.specs.declared.command.Command.TheVariants.{Count as CountOf}
 use Rattle.rhd_call.specs.declared.command.ModuleId.{ModuleId}
 use Rattle.rhd_call.specs.declared.node.CallNode.{CallNode}

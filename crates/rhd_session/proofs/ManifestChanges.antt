@@ -74,7 +74,8 @@ or_none None = refl
 or_none (Some fault) = refl
 
 -- the same command
-same_changes : (natives : List NativeInfo) (table : List ManifestLists) (command same : Command) (old new : ModuleTree) (r : Result (Unit {0}) DeclFault) → command ≡ same → ChangesModule natives table same old r new → ChangesModule natives table command old r new
+same_changes : (natives : List NativeInfo) (table : List ManifestLists) (command same : Command) (old new : ModuleTree) (r : Result (Unit {0}) DeclFault) → command ≡ same
+    → ChangesModule natives table same old r new → ChangesModule natives table command old r new
 same_changes natives table command same old new r is does = subst (λ (c : Command). ChangesModule natives table c old r new) (sym is) does
 
 -- adding a manifest as the command that says so
@@ -90,12 +91,14 @@ combine_unheld natives table m id old fault n h is en eh past =
     subst (λ (x : DeclFault). ChangesModule natives table (commands.CombineManifest m id) old (Err x) old) (sym (is ∙ (λ i. UnknownNumber (en i) (eh i)))) (found, refl)
 
 -- its number is held
-pub combine_held : (natives : List NativeInfo) (table : List ManifestLists) (m : ModuleId) (id : ManifestId) (old new : ModuleTree) (r : Result (Unit {0}) DeclFault) → id.0 < length table → AddsManifest table id old (combined table id old) r new
+pub combine_held : (natives : List NativeInfo) (table : List ManifestLists) (m : ModuleId) (id : ManifestId) (old new : ModuleTree) (r : Result (Unit {0}) DeclFault) → id.0 < length table
+    → AddsManifest table id old (combined table id old) r new
     → ChangesModule natives table (commands.CombineManifest m id) old r new
 combine_held natives table m id old new r below adds =
     by (ap (λ (b : Bool). option_or (where_holds (not b) (UnknownNumber id.0 (length table))) (option_or (banned_listed table id) None)) (lt-ltb id.0 (length table) below) ∙ or_none (banned_listed table id)) r adds
   where
-    by : option_or (unheld_manifest table (Some id)) (option_or (banned_listed table id) None) ≡ banned_listed table id → (r : Result (Unit {0}) DeclFault) → AddsManifest table id old (combined table id old) r new → ChangesModule natives table (commands.CombineManifest m id) old r new
+    by : option_or (unheld_manifest table (Some id)) (option_or (banned_listed table id) None) ≡ banned_listed table id → (r : Result (Unit {0}) DeclFault)
+        → AddsManifest table id old (combined table id old) r new → ChangesModule natives table (commands.CombineManifest m id) old r new
     by caused (Ok u) adds = (caused ∙ none_banned table id adds.0, tt, adds.1)
     by caused (Err no_memory) adds = adds.1
     by caused (Err (IndexerNotAllowed key)) adds = (caused ∙ is_banned table id key adds.0.0 adds.0.1 adds.0.2, adds.1)
@@ -115,7 +118,8 @@ registered_seeds m = by (some_in lists_any m)
 abbrev registered_tree_keys : ModuleTree → Keyed
 registered_tree_keys m = tree_keys (registered_tree m)
 
-pub lazy_changes : (natives : List NativeInfo) (table : List ManifestLists) (command : Command) (m : ModuleId) (old new : ModuleTree) (r : Result (Unit {0}) DeclFault) → command ≡ commands.RegisterLazy m → RegistersTree old r new → ChangesModule natives table command old r new
+pub lazy_changes : (natives : List NativeInfo) (table : List ManifestLists) (command : Command) (m : ModuleId) (old new : ModuleTree) (r : Result (Unit {0}) DeclFault) → command ≡ commands.RegisterLazy m
+    → RegistersTree old r new → ChangesModule natives table command old r new
 lazy_changes natives table command m old new r is does = same_changes natives table command (commands.RegisterLazy m) old new r is (by r does)
   where
     tables : List Keyed
@@ -189,7 +193,8 @@ module _ (w : World) (f : Frame) (id : ManifestId) where
   from_refused (UnknownNumber number count) below makes = absurd makes
 
 -- its number is the next, and it is put last
-pub made_replied : (w w2 : World) (f : Frame) (id : ManifestId) (m : ModuleTree) (number : ModuleId) → MadeFor w f (commands.FromManifest id) m → number.0 ≡ length w.modules → w2 ≡ record w { modules = w.modules ++ m ∷ [] } → Declares w f (commands.FromManifest id) (Made number) w2 f
+pub made_replied : (w w2 : World) (f : Frame) (id : ManifestId) (m : ModuleTree) (number : ModuleId) → MadeFor w f (commands.FromManifest id) m → number.0 ≡ length w.modules
+    → w2 ≡ record w { modules = w.modules ++ m ∷ [] } → Declares w f (commands.FromManifest id) (Made number) w2 f
 made_replied w w2 f id m number made n is =
     let same : number ≡ record { 0 = length w.modules } = λ i. record { 0 = n i } in
     subst (λ (x : ModuleId). Declares w f (commands.FromManifest id) (Made x) w2 f) (sym same)
