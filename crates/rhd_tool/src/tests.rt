@@ -2,7 +2,6 @@
 //! bodies and hosts other than those of this crate may be handed in. The program of rows runs texts.
 
 mod foreign;
-mod manifests;
 mod sessions;
 mod values;
 
