@@ -25,7 +25,7 @@ both : (a b : Bool) → (a && b) ≡ true → (a ≡ true) × (b ≡ true)
 both true b h = (refl, h)
 both false b h = absurd cc
 
-all_more : {X : Type 0} (p : X → Bool) (xs : List X) (n : ℕ) (v : X) → list_all p xs ≡ true → p v ≡ true → list_all p (slice_set xs n v) ≡ true
+pub all_more : {X : Type 0} (p : X → Bool) (xs : List X) (n : ℕ) (v : X) → list_all p xs ≡ true → p v ≡ true → list_all p (slice_set xs n v) ≡ true
 all_more p [] n v h e = refl
 all_more p (x ∷ xs) zero v h e = same_and (p v) true e (list_all p xs) true (both (p x) (list_all p xs) h).1
 all_more p (x ∷ xs) (suc n) v h e = same_and (p x) true (both (p x) (list_all p xs) h).0 _ true (all_more p xs n v (both (p x) (list_all p xs) h).1 e)
@@ -34,7 +34,7 @@ pub all_last : {X : Type 0} (p : X → Bool) (xs : List X) (v : X) → p v ≡ t
 all_last p [] v e = ap (λ b. b && true) e
 all_last p (x ∷ xs) v e = ap (λ b. p x && b) (all_last p xs v e)
 
-all_at : {X : Type 0} (p : X → Bool) (xs : List X) (n : ℕ) (none : X) → list_all p xs ≡ true → p none ≡ true → p (unwrap_or (slice_get xs n) none) ≡ true
+pub all_at : {X : Type 0} (p : X → Bool) (xs : List X) (n : ℕ) (none : X) → list_all p xs ≡ true → p none ≡ true → p (unwrap_or (slice_get xs n) none) ≡ true
 all_at p [] n none h e = e
 all_at p (x ∷ xs) zero none h e = (both (p x) (list_all p xs) h).0
 all_at p (x ∷ xs) (suc n) none h e = all_at p xs n none (both (p x) (list_all p xs) h).1 e
@@ -43,7 +43,8 @@ all_at p (x ∷ xs) (suc n) none h e = all_at p xs n none (both (p x) (list_all 
 fits_itself : (n : NativeInfo) (name : Bytes) (namespace : FnNamespace) (func : FnId) → native_fits n (record { name = name; namespace = namespace; func = func; param_types = n.types; is_method = n.is_method }) ≡ true
 fits_itself n name namespace func = same_and _ true ((types_eq-Decides n.types n.types).1 refl) _ true ((booleans_Decides n.is_method n.is_method).1 refl)
 
-entry_fits-of : (natives : List NativeInfo) (name : Bytes) (namespace : FnNamespace) (func : FnId) (o : Option NativeInfo) → slice_get natives func.0 ≡ o
+-- and so does the entry of one in a list
+pub entry_fits-of : (natives : List NativeInfo) (name : Bytes) (namespace : FnNamespace) (func : FnId) (o : Option NativeInfo) → slice_get natives func.0 ≡ o
     → func.0 < length natives → entry_fits natives (entry_of natives name namespace func) ≡ true
 entry_fits-of natives name namespace func None e h = absurd (held natives func.0 h e)
   where

@@ -2,7 +2,7 @@ pub mod Ranks
 pub mod Places
 mod Folds
 mod Tables
-mod Fitting
+pub mod Fitting
 mod Changes
 mod Held
 pub mod Empty

@@ -8,7 +8,7 @@ abbrev pub listed_in : {Z : Type 0} → List (Rc (List Entry) Z) → List Entry
 listed_in [] = []
 listed_in (part ∷ above) = listed_in above ++ reverse part.value
 
--- no function is listed
-abbrev pub lists_none : List Entry → Bool
-lists_none [] = true
-lists_none (e ∷ es) = false
+-- nothing is in a list
+abbrev pub is_none_of : {A : Type 0} → List A → Bool
+is_none_of [] = true
+is_none_of (a ∷ more) = false

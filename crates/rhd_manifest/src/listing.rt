@@ -6,7 +6,7 @@ ghost use Rattle.std.specs.Option.{option_copied};
 ghost use Rattle.rhd_hash.specs.Keys.{key_eq};
 ghost use Rattle.rhd_manifest.specs.Entry.{entry_key};
 ghost use Rattle.rhd_manifest.specs.Index.{index_hash};
-ghost use Rattle.rhd_manifest.specs.Listing.{listed_in, lists_none};
+ghost use Rattle.rhd_manifest.specs.Listing.{listed_in, is_none_of};
 ghost use Rattle.rhd_manifest.specs.Rank.{flattened, rank, find_entry, firsts};
 
 use crate::entry::FnManifestEntry;
@@ -121,7 +121,7 @@ fn firsts_in(alloc: Global, parts: &[Rc<EntryList>]) -> Result<Vec<&FnManifestEn
 
 /// Whether none of these lists has a function.
 fn no_entry(parts: &[Rc<EntryList>]) -> bool
-    ensures { result ≡ lists_none (listed_in parts.now) }
+    ensures { result ≡ is_none_of (listed_in parts.now) }
 {
     for part in parts {
         if !part.as_slice().is_empty() {
@@ -164,7 +164,7 @@ impl Listing {
 
     /// Whether it has no functions.
     pub fn is_empty(&self) -> bool
-        ensures { result ≡ lists_none self.now }
+        ensures { result ≡ is_none_of self.now }
     {
         no_entry(self.parts.as_slice())
     }

@@ -1,6 +1,6 @@
 -- What is listed in a tree, by parts.
 use Rattle.std.proofs.Common.{◌≡◌, Bool, true, false, cond, List, [], ◌∷◌, ◌++◌, refl, sym, ap, subst, ◌∙◌, ◌||◌, ◌⊎◌, arith, inl, inr}
-use Rattle.std.proofs.lemmas.Bool.{cond-true, cond-false}
+use Rattle.std.proofs.lemmas.Bool.{cond-true, cond-false, or_parts}
 use Rattle.std.proofs.lemmas.List.Elements.{Contains-append_left, Contains-append_right}
 use Rattle.std.specs.declared.cmp.Ordering.TheVariants.{Less}
 use Rattle.std.specs.Ordering.{nat_cmp, match_ordering}
@@ -32,7 +32,8 @@ after m = cond (some_in lists_any m) (renewed m) m
 abbrev pub IsBelow : Bytes → List Bytes → Type 0
 IsBelow k ks = AllByRecursion (λ y. slice_cmp nat_cmp k y ≡ Less) ks
 
-all_append : {A : Type 0} (P : A → Type 0) (xs ys : List A) → AllByRecursion P xs → AllByRecursion P ys → AllByRecursion P (xs ++ ys)
+-- what all of two lists have, all of one after the other have
+pub all_append : {A : Type 0} (P : A → Type 0) (xs ys : List A) → AllByRecursion P xs → AllByRecursion P ys → AllByRecursion P (xs ++ ys)
 all_append P [] ys a b = b
 all_append P (x ∷ xs) ys a b = (a.0, all_append P xs ys a.1 b)
 
@@ -124,17 +125,13 @@ renewed_clash m subs more (UnknownNumber n k) is some within (inr c) = c
 renewed_clash m subs more OutOfMemory is some within c = tt
 
 -- below a module in whose tree nothing is listed none is touched
-either : (a b : Bool) → (a || b) ≡ false → (a ≡ false) × (b ≡ false)
-either true b e = absurd cc
-either false b e = (refl, e)
-
 pub below_untouched : (P : ModuleTree → Type 0) (subs : Subs) → some_below lists_any subs ≡ false → AllByRecursion P (touched_below subs)
 below_untouched P no_subs e = tt
 below_untouched P (sub name own subs later) e =
-    let r = either (lists_any own) (some_below lists_any subs || some_below lists_any later) e in
-    let q = either (some_below lists_any subs) (some_below lists_any later) r.1 in
+    let r = or_parts (lists_any own) (some_below lists_any subs || some_below lists_any later) e in
+    let q = or_parts (some_below lists_any subs) (some_below lists_any later) r.1 in
     all_append P (touched (record { own = own; subs = subs })) (touched_below later)
     (none_touched P (record { own = own; subs = subs }) (ap (λ b. b || some_below lists_any subs) r.0 ∙ q.0)) (below_untouched P later q.1)
 
 pub root_untouched : (P : ModuleTree → Type 0) (m : ModuleTree) → some_in lists_any m ≡ false → AllByRecursion P (touched_below m.subs)
-root_untouched P m e = below_untouched P m.subs (either (lists_any m.own) (some_below lists_any m.subs) e).1
+root_untouched P m e = below_untouched P m.subs (or_parts (lists_any m.own) (some_below lists_any m.subs) e).1

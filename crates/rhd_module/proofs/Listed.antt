@@ -3,6 +3,7 @@ use Rattle.std.proofs.Common.{◌≡◌, ℕ, Bool, true, false, ◌||◌, ◌&&
 use Rattle.std.specs.List.{list_any, filter}
 use Rattle.std.specs.Map.{lookup}
 use Rattle.std.specs.Option.{option_map, option_or, option_copied}
+use Rattle.std.proofs.lemmas.Bool.{or_parts}
 use Rattle.std.proofs.lemmas.List.Folds.{list_any-append}
 use Rattle.std.proofs.lemmas.List.Elements.{filter-append}
 use Rattle.rhd_hash.specs.declared.key.Key.{Key}
@@ -10,12 +11,16 @@ use Rattle.rhd_hash.specs.declared.mixer.Seeds.{Seeds}
 use Rattle.rhd_hash.specs.Keys.{key_eq, key_eq-Decides, is_script_key}
 use Rattle.rhd_decl.specs.declared.declaration.Declaration.{Declaration}
 use Rattle.rhd_manifest.specs.Entry.{Entry, entry_key, entry_decl, entry_pair}
-use Rattle.rhd_manifest.specs.Listing.{lists_none}
+use Rattle.rhd_manifest.specs.Listing.{is_none_of}
 use Rattle.rhd_manifest.specs.Rank.{find_entry, firsts}
 use Rattle.rhd_manifest.proofs.Places.{no_script}
 use Rattle.rhd_module.specs.Below.{may_be_dynamic, lists_dynamic}
 use Rattle.rhd_module.specs.Tree.{Pairs}
 use Rattle.rhd_module.specs.Shown.{without, shown_of}
+
+pub twice : (b : Bool) → not (not b) ≡ b
+twice true = refl
+twice false = refl
 
 same_key : (k q : Key) → key_eq k q ≡ true → k ≡ q
 same_key k q e = (key_eq-Decides k q).0 e
@@ -195,14 +200,10 @@ module _ (f : Key → Bool) where
       ∙ ap (λ b. list_any (λ p. f p.0) eager || b) (any_pairs seeds (firsts listed) ∙ any_firsts listed)
 
 -- where a module lists something, and none that it shows has a key that a filter tells of, none of what it lists has
-pub none_dynamic : (seeds : Seeds) (hash : ℕ) (eager : Pairs) (listed : List Entry) → (not (lists_none listed) && list_any (λ p. may_be_dynamic seeds hash p.0) (shown_of seeds eager listed)) ≡ false
+pub none_dynamic : (seeds : Seeds) (hash : ℕ) (eager : Pairs) (listed : List Entry) → (not (is_none_of listed) && list_any (λ p. may_be_dynamic seeds hash p.0) (shown_of seeds eager listed)) ≡ false
     → lists_dynamic seeds hash listed ≡ false
 none_dynamic seeds hash eager [] h = refl
-none_dynamic seeds hash eager (e ∷ es) h = last (list_any (λ p. may_be_dynamic seeds hash p.0) eager) (lists_dynamic seeds hash (e ∷ es)) (sym (any_shown (may_be_dynamic seeds hash) seeds eager (e ∷ es)) ∙ h)
-  where
-    last : (a b : Bool) → (a || b) ≡ false → b ≡ false
-    last true b e = absurd (true≢false e)
-    last false b e = e
+none_dynamic seeds hash eager (e ∷ es) h = (or_parts (list_any (λ p. may_be_dynamic seeds hash p.0) eager) (lists_dynamic seeds hash (e ∷ es)) (sym (any_shown (may_be_dynamic seeds hash) seeds eager (e ∷ es)) ∙ h)).1
 
 pub copied_some : {A : Type 0} (o : Option (Bor A)) → is_some (option_copied o) ≡ is_some o
 copied_some None = refl

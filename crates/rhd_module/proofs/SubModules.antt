@@ -1,5 +1,5 @@
 -- The sub-modules of a map, after one is put and in a search for one.
-use Rattle.std.proofs.Common.{◌≡◌, ℕ, suc, eqb-true, arith, List, [], ◌∷◌, cond, Bool, true, false, ◌==◌, length, Option, None, Some, Bor, refl, ap, ◌∙◌}
+use Rattle.std.proofs.Common.{◌≡◌, List, [], ◌∷◌, cond, Bool, true, false, ◌==◌, length, Option, None, Some, Bor, refl, ap, ◌∙◌}
 use Rattle.std.specs.List.{AllZip}
 use Rattle.std.specs.Option.{option_map, option_copied}
 use Rattle.std.specs.Ordering.{match_ordering, nat_cmp, is_eq}
@@ -12,11 +12,8 @@ use Rattle.std.specs.declared.rc.Rc.{Rc}
 use Rattle.std.proofs.lemmas.Map.Text.{is_eq-slice_cmp}
 use Rattle.rhd_value.specs.Tree.{Bytes}
 use Rattle.rhd_module.specs.Tree.{ModuleTree, sub, subs_of}
-use Rattle.rhd_module.specs.Contents.{put_sub, find_sub, is_none_of, has_no_subs}
-
-not_zero : (n : ℕ) (b : Bool) → (suc n == 0) ≡ b → (suc n == 0) ≡ false
-not_zero n true e = let bad : suc n ≡ 0 = eqb-true (suc n) 0 e in absurd (omega (arith, bad))
-not_zero n false e = e
+use Rattle.rhd_module.specs.Contents.{put_sub, find_sub, has_no_subs}
+use Rattle.rhd_manifest.proofs.Empty.{not_zero}
 
 module _ {Z : Type 0} where
   pub subs_put : (es : List (Bytes × Rc ModuleTree Z)) (k : Bytes) (v : Rc ModuleTree Z) → subs_of (insert_entry (slice_cmp nat_cmp) es k v) ≡ put_sub k v.value (subs_of es)
@@ -48,10 +45,6 @@ module _ {Z : Type 0} where
   pub seen_copied : (o : Option (Bor (Rc ModuleTree Z))) → option_map (λ m. m.now.value) o ≡ option_map (λ m. m.value) (option_copied o)
   seen_copied None = refl
   seen_copied (Some m) = refl
-
-pub none_of : {A : Type 0} (xs : List A) → (length xs == 0) ≡ is_none_of xs
-none_of [] = refl
-none_of (x ∷ xs) = not_zero (length xs) (length (x ∷ xs) == 0) refl
 
 -- shared sub-modules are the same ones
 pub subs_clone : {Z : Type 0} (es fs : List (Bytes × Rc ModuleTree Z)) → AllZip (λ p q. (q.0 ≡ p.0) × (q.1.value ≡ p.1.value)) es fs → subs_of fs ≡ subs_of es

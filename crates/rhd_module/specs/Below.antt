@@ -11,7 +11,7 @@ use Rattle.rhd_hash.specs.Parts.{untyped_key}
 use Rattle.rhd_hash.specs.Filter.{slot}
 use Rattle.rhd_func.specs.Access.{is_global_namespace}
 use Rattle.rhd_manifest.specs.Entry.{Entry, entry_key}
-use Rattle.rhd_manifest.specs.Listing.{lists_none}
+use Rattle.rhd_manifest.specs.Listing.{is_none_of}
 use Rattle.rhd_module.specs.Tree.{ModuleTree, Lists, Subs, no_subs, sub}
 use Rattle.rhd_module.specs.Shown.{shown}
 use Rattle.rhd_module.specs.Contents.{find_sub}
@@ -48,7 +48,7 @@ lists_dynamic seeds hash listed = list_any (λ e. may_be_dynamic seeds hash (ent
 
 -- something is listed
 abbrev pub lists_any : Lists → Bool
-lists_any own = not (lists_none own.listed)
+lists_any own = not (is_none_of own.listed)
 
 -- something is listed, and a declaration or what is listed has such a key
 abbrev pub may_list_dynamic : Seeds → ℕ → Lists → Bool

@@ -14,6 +14,7 @@ use Rattle.rhd_func.specs.declared.func.ScriptFuncDef.{ScriptFuncDef}
 use Rattle.rhd_func.specs.Funcs.{script_def_of}
 use Rattle.rhd_decl.specs.declared.declaration.Declaration.{Declaration}
 use Rattle.rhd_decl.specs.CustomTypes.{type_info, put_type}
+use Rattle.rhd_manifest.specs.Listing.{is_none_of}
 use Rattle.rhd_module.specs.Tree.{ModuleTree, Subs, no_subs, sub, Pairs}
 
 -- an empty id clears
@@ -55,15 +56,11 @@ abbrev pub find_sub : Bytes → Subs → Option ModuleTree
 find_sub name no_subs = None
 find_sub name (sub n own below later) = if text_eq name n then Some (record { own = own; subs = below }) else find_sub name later
 
--- no variable, sub-module, declaration, iterator or manifest
-abbrev pub is_none_of : {A : Type 0} → List A → Bool
-is_none_of [] = true
-is_none_of (a ∷ more) = false
-
 abbrev pub has_no_subs : Subs → Bool
 has_no_subs no_subs = true
 has_no_subs (sub name own below later) = false
 
+-- no variable, sub-module, declaration, iterator or manifest
 abbrev pub is_empty : ModuleTree → Bool
 is_empty m = is_none_of m.own.vars && (has_no_subs m.subs && (is_none_of m.own.eager && (is_none_of m.own.iterators && is_none_of m.own.manifests)))
 

@@ -27,6 +27,7 @@ use Rattle.rhd_module.specs.Tree.{ModuleTree}
 use Rattle.rhd_module.specs.Walk.{tree}
 use Rattle.std.specs.Map.{keys_of}
 use Rattle.rhd_module.proofs.Fills.{none_clash}
+use Rattle.rhd_module.proofs.LazyParts.{all_append}
 use Rattle.rhd_engine.specs.Engine.{Frame}
 use Rattle.rhd_engine.specs.Held.{names_held, all_held}
 use Rattle.rhd_engine.proofs.HeldLaws.{both, parts}
@@ -50,10 +51,6 @@ contains_map f (y ∷ xs) x (suc i, within, is) = let h = contains_map f xs x (i
 all_map : {A B : Type 0} (f : A → B) (P : A → Type 0) (Q : B → Type 0) (xs : List A) → ((x : A) → P x → Q (f x)) → AllByRecursion P xs → AllByRecursion Q (map f xs)
 all_map f P Q [] step all = tt
 all_map f P Q (x ∷ xs) step all = (step x all.0, all_map f P Q xs step all.1)
-
-all_append : {A : Type 0} (P : A → Type 0) (xs ys : List A) → AllByRecursion P xs → AllByRecursion P ys → AllByRecursion P (xs ++ ys)
-all_append P [] ys h k = k
-all_append P (x ∷ xs) ys h k = (h.0, all_append P xs ys h.1 k)
 
 all_each : {A : Type 0} (P : A → Type 0) (xs : List A) → ((x : A) → Contains xs x → P x) → AllByRecursion P xs
 all_each P [] each = tt

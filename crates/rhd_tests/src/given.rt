@@ -1,6 +1,12 @@
 //! What tests are made of: small values, keys and scripts.
 
-ghost use Rattle.std.specs.Prelude.{◌≡◌, None, Ok};
+ghost use Rattle.std.specs.Prelude.{◌≡◌, true, false, None, Ok};
+ghost use Rattle.std.specs.Option.{option_and_then, option_copied, option_map_or};
+ghost use Rattle.std.specs.Ordering.{int_eq};
+ghost use Rattle.rhd_value.specs.Kinds.{int_in};
+ghost use Rattle.rhd_value.specs.Same.{text_eq};
+ghost use Rattle.rhd_value.specs.Tree.{integer};
+ghost use Rattle.rhd_func.specs.declared.access.FnAccess.TheVariants.{Public};
 ghost use Rattle.rhd_module.specs.Tree.{empty_module};
 
 use rhd_func::{BodyId, CallShape, FnAccess, ScriptFuncDef, SharedDef};
@@ -25,7 +31,9 @@ pub const CLASHING: Seeds = Seeds {
 };
 
 /// Stops the test where something doesn't hold.
-pub fn holds(rt: &impl Abort, fact: bool, what: &str) {
+pub fn holds(rt: &impl Abort, fact: bool, what: &str)
+    ensures { fact ≡ true }
+{
     assert!(rt; fact, "{what}");
 }
 
@@ -47,7 +55,9 @@ pub fn text(alloc: Global, word: &str) -> Text {
 }
 
 /// Whether there is a text, and which.
-pub fn is_text(text: Option<&Text>, word: &str) -> bool {
+pub fn is_text(text: Option<&Text>, word: &str) -> bool
+    ensures { result ≡ option_map_or (λ t. text_eq t word.now) (option_copied text.entry) false }
+{
     match text {
         Some(text) => text.as_str() == word,
         None => false,
@@ -55,9 +65,14 @@ pub fn is_text(text: Option<&Text>, word: &str) -> bool {
 }
 
 /// Whether there is a value, and which number it is.
-pub fn is_int(value: Option<&Dynamic>, number: i64) -> bool {
+pub fn is_int(value: Option<&Dynamic>, number: i64) -> bool
+    ensures { result ≡ option_map_or (λ n. int_eq n number) (option_and_then (λ v. int_in v.kind) (option_copied value.entry)) false }
+{
     match value {
-        Some(value) => value.as_int() == Some(number),
+        Some(value) => match value.as_int() {
+            Some(held) => held == number,
+            None => false,
+        },
         None => false,
     }
 }
@@ -76,7 +91,9 @@ pub fn types(alloc: Global, tag: TypeTag) -> Types {
     types
 }
 
-pub fn int(number: i64) -> Dynamic {
+pub fn int(number: i64) -> Dynamic
+    ensures { result.kind ≡ integer number }
+{
     Dynamic::from(Value::Int(number))
 }
 
@@ -111,7 +128,10 @@ pub fn native_key(alloc: Global, word: &str, tag: TypeTag) -> Key {
 }
 
 /// A script that takes nothing.
-pub fn script(alloc: Global, word: &str) -> ScriptFuncDef {
+pub fn script(alloc: Global, word: &str) -> ScriptFuncDef
+    ensures object { result.this_type ≡ None }
+    ensures access { result.access ≡ Public }
+{
     ScriptFuncDef {
         name: text(alloc, word),
         params: Texts::new(alloc),

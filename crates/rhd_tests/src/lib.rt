@@ -10,8 +10,7 @@ mod dispatch;
 mod engine;
 #[cfg(test)]
 mod func;
-#[cfg(test)]
-mod given;
+pub mod given;
 #[cfg(test)]
 mod hash;
 #[cfg(test)]

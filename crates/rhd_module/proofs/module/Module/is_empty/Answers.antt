@@ -1,7 +1,8 @@
 use Rattle.std.proofs.Common.{◌≡◌, ◌&&◌, nat_eq, length, sym, ap, subst, ◌∙◌, Global}
 use Rattle.rhd_module.specs.Tree.{ModuleTree}
 use Rattle.rhd_module.specs.Contents.{is_empty}
-use Rattle.rhd_module.proofs.SubModules.{none_of, subs_none}
+use Rattle.rhd_manifest.proofs.Empty.{none_of}
+use Rattle.rhd_module.proofs.SubModules.{subs_none}
 use Rattle.rhd_module.proofs.module.Module.is_empty.Goals as goal
 
 pub returns : goal.returns

@@ -1,14 +1,10 @@
-use Rattle.std.proofs.Common.{◌≡◌, Bool, true, false, not, refl, sym, ap, ◌∙◌}
+use Rattle.std.proofs.Common.{◌≡◌, not, sym, ap, ◌∙◌}
 use Rattle.std.specs.Prelude.{if◌then◌else◌}
 use Rattle.rhd_module.specs.Tree.{ModuleTree}
 use Rattle.rhd_module.specs.Below.{some_in, may_be_dynamic, declares_dynamic, may_contain}
 use Rattle.rhd_module.specs.contracts.module.Module.{the_view}
-use Rattle.rhd_module.proofs.Listed.{any_shown}
+use Rattle.rhd_module.proofs.Listed.{any_shown, twice}
 use Rattle.rhd_module.proofs.module.Module.may_contain_dynamic_fn.Goals as goal
-
-twice : (b : Bool) → not (not b) ≡ b
-twice true = refl
-twice false = refl
 
 pub returns : goal.returns
 returns c =
