@@ -14,6 +14,8 @@ pub mod given;
 #[cfg(test)]
 mod hash;
 #[cfg(test)]
+mod manifest;
+#[cfg(test)]
 mod module;
 #[cfg(test)]
 mod names;

@@ -1,0 +1,347 @@
+//! Manifests, and modules that list their functions.
+
+use crate::given::{SEEDS, empty, holds, int, is_int, must, native_key, text, types};
+use rhd_decl::DeclFault;
+use rhd_func::{
+    CallDone, Carry, FnNamespace, ManifestId, NativeCallContext, NativeStep, Natives, PluginFunc,
+    RhaiFunc,
+};
+use rhd_hash::{HashedKey, Key, Steps};
+use rhd_manifest::{FnManifestEntry, Manifests, ModuleManifest};
+use rhd_module::{EntryCalls, ManifestCalls, Module};
+use rhd_value::{Dynamic, FnId, OutOfMemory, Texts, TypeTag, Types, Values};
+use std::alloc::Global;
+use std::process::Abort;
+
+/// A native that answers nought.
+#[derive(Drop)]
+struct Nought {
+    types: Types,
+}
+
+impl PluginFunc for Nought {
+    ghost use Rattle.std.specs.Prelude.{true, false};
+
+    ghost info = { λ n. record { types = n.types; is_method = false; has_context = false; is_pure = true; is_volatile = false } };
+
+    ghost allows_call = { λ _ _ _ _ _. Unit {0} };
+
+    ghost allows_resume = { λ _ _ _ _ _. Unit {0} };
+
+    fn call(
+        &self,
+        _alloc: Global,
+        _ctx: Option<&NativeCallContext>,
+        first: Option<Dynamic>,
+        _args: Values,
+    ) -> Result<NativeStep, OutOfMemory> {
+        let answer = int(0);
+        Ok(NativeStep::Done { answer, first })
+    }
+
+    fn resume(
+        &self,
+        _alloc: Global,
+        _ctx: Option<&NativeCallContext>,
+        carry: Carry,
+        _done: CallDone,
+    ) -> Result<NativeStep, OutOfMemory> {
+        let Carry {
+            first,
+            kept: answer,
+        } = carry;
+        Ok(NativeStep::Done { answer, first })
+    }
+
+    fn param_types(&self) -> &[TypeTag] {
+        self.types.as_slice()
+    }
+
+    fn is_method_call(&self) -> bool {
+        false
+    }
+
+    fn has_context(&self) -> bool {
+        false
+    }
+
+    fn is_pure(&self) -> bool {
+        true
+    }
+
+    fn is_volatile(&self) -> bool {
+        false
+    }
+}
+
+/// A native with these parameters more.
+fn push_native(rt: &impl Abort, alloc: Global, natives: &mut Natives, types: Types) {
+    assert!(rt; natives.len() < 10, "a few natives");
+    let made = must(rt, Box::new(alloc, Nought { types }), "a native");
+    let native: Box<dyn PluginFunc> = made;
+    holds(rt, natives.push(alloc, native).is_ok(), "a native more");
+}
+
+/// Two natives of an integer, and one of two.
+fn natives(rt: &impl Abort, alloc: Global) -> Natives {
+    let mut natives = Natives::new(alloc);
+    push_native(rt, alloc, &mut natives, types(alloc, TypeTag::Int));
+    push_native(rt, alloc, &mut natives, types(alloc, TypeTag::Int));
+    let mut two = types(alloc, TypeTag::Int);
+    let _ = two.push(TypeTag::Int);
+    push_native(rt, alloc, &mut natives, two);
+    natives
+}
+
+/// A manifest more.
+fn push(rt: &impl Abort, alloc: Global, manifests: &mut Manifests) -> ManifestId {
+    assert!(rt; manifests.len() < 10, "a few manifests");
+    must(rt, manifests.push(alloc), "a manifest")
+}
+
+/// A manifest lists natives under a name, in this order.
+fn list(
+    rt: &impl Abort,
+    alloc: Global,
+    manifests: &mut Manifests,
+    id: ManifestId,
+    word: &str,
+    funcs: &[u32],
+) {
+    let natives = natives(rt, alloc);
+    for func in funcs {
+        let (held, known) = (id.0 as usize, *func as usize);
+        assert!(rt;
+            held < manifests.len() && known < natives.len(),
+            "both are held"
+        );
+        let (name, namespace) = (text(alloc, word), FnNamespace::Internal);
+        let put = manifests.push_entry(alloc, &natives, id, name, namespace, FnId(*func));
+        holds(rt, put.is_ok(), "listed");
+    }
+    holds(rt, manifests.fits(&natives), "each fits its native");
+}
+
+/// A manifest gets the sub-manifest `s`.
+fn nest(rt: &impl Abort, alloc: Global, manifests: &mut Manifests, id: ManifestId, s: ManifestId) {
+    assert!(rt;
+        (id.0 as usize) < manifests.len() && s.0 < id.0,
+        "of a lower number"
+    );
+    let put = manifests.push_sub(alloc, id, text(alloc, "s"), s);
+    holds(rt, put.is_ok(), "below it");
+}
+
+/// A manifest gets the variable `x`, and shows integers as `int`.
+fn describe(rt: &impl Abort, alloc: Global, manifests: &mut Manifests, id: ManifestId) {
+    assert!(rt; (id.0 as usize) < manifests.len(), "it is held");
+    let var = manifests.push_var(alloc, id, text(alloc, "x"), int(1));
+    holds(rt, var.is_ok(), "a variable");
+    assert!(rt; (id.0 as usize) < manifests.len(), "it is held still");
+    let shown = manifests.push_type(alloc, id, text(alloc, "i64"), text(alloc, "int"));
+    holds(rt, shown.is_ok(), "a custom type");
+}
+
+/// Two manifests: the second lists `f` once, and has below it the first, which lists it twice.
+fn two(rt: &impl Abort, alloc: Global) -> Manifests {
+    let mut manifests = Manifests::new(alloc);
+    let low = push(rt, alloc, &mut manifests);
+    list(rt, alloc, &mut manifests, low, "f", &[1, 0]);
+    let high = push(rt, alloc, &mut manifests);
+    list(rt, alloc, &mut manifests, high, "f", &[1]);
+    nest(rt, alloc, &mut manifests, high, low);
+    describe(rt, alloc, &mut manifests, high);
+    manifests
+}
+
+/// The second of them.
+const HIGH: ManifestId = ManifestId(1);
+
+/// A manifest that is held.
+fn held<'m>(rt: &impl Abort, manifests: &'m Manifests, id: ManifestId) -> &'m ModuleManifest {
+    match manifests.get(id) {
+        Some(manifest) => manifest,
+        None => panic!(rt; "it is held"),
+    }
+}
+
+/// The first function that a manifest lists.
+fn first<'m>(rt: &impl Abort, manifest: &'m ModuleManifest) -> &'m FnManifestEntry {
+    match manifest.functions().first() {
+        Some(entry) => entry,
+        None => panic!(rt; "it lists something"),
+    }
+}
+
+/// The key of `f`.
+fn f(alloc: Global) -> Key {
+    native_key(alloc, "f", TypeTag::Int)
+}
+
+/// Whether a function is this native.
+fn is_native(func: Option<&RhaiFunc>, number: u32) -> bool {
+    match func {
+        Some(func) => func.native_id() == Some(FnId(number)),
+        None => false,
+    }
+}
+
+/// Whether `f` is this native in a module, which one look-up tells.
+fn finds(alloc: Global, module: &Module, number: u32) -> bool {
+    let key = f(alloc);
+    let mut steps = Steps::new();
+    let found = is_native(module.get_fn(&key, &mut steps), number);
+    found && steps.count() == 1 && module.contains_fn(&key)
+}
+
+/// A module that lists the second manifest, flattened or not.
+fn listing(rt: &impl Abort, alloc: Global, flatten: bool) -> Module {
+    let mut module = empty(rt, alloc, SEEDS);
+    let added = module.add_manifest(alloc, &two(rt, alloc), HIGH, flatten);
+    holds(rt, added.is_ok(), "a manifest is added");
+    module
+}
+
+#[test]
+fn manifests_are_read(rt: HostRuntime) {
+    let alloc = rt.alloc();
+    let manifests = must(&rt, two(&rt, alloc).dup(alloc), "a copy");
+    let manifest = held(&rt, &manifests, HIGH);
+    holds(&rt, manifest.sub_modules().len() == 1, "one below");
+    for (name, value) in manifest.vars() {
+        let same = name.as_str() == "x" && is_int(Some(value), 1);
+        holds(&rt, same, "its variable");
+    }
+    for (name, display) in manifest.custom_types() {
+        let same = name.as_str() == "i64" && display.as_str() == "int";
+        holds(&rt, same, "its type");
+    }
+    holds(&rt, manifests.get(ManifestId(2)).is_none(), "no third");
+}
+
+#[test]
+fn entries_are_read(rt: HostRuntime) {
+    let alloc = rt.alloc();
+    let manifests = two(&rt, alloc);
+    let entry = first(&rt, held(&rt, &manifests, HIGH));
+    holds(&rt, entry.name().as_str() == "f", "its name");
+    holds(&rt, entry.func() == FnId(1), "its native");
+    holds(
+        &rt,
+        entry.num_params() == 1 && !entry.is_method(),
+        "its parameters",
+    );
+    holds(&rt, *entry.key() == f(alloc), "its key");
+    let key = f(alloc);
+    let hash = HashedKey::new(&key, SEEDS).hash_under(SEEDS);
+    holds(&rt, entry.calc_hash(SEEDS, &[]) == hash, "its hash");
+    holds(
+        &rt,
+        entry.calc_dynamic_hash(SEEDS).is_none(),
+        "no parameter is any",
+    );
+}
+
+#[test]
+fn a_flattened_manifest_goes_before(rt: HostRuntime) {
+    let alloc = rt.alloc();
+    let module = listing(&rt, alloc, true);
+    holds(&rt, finds(alloc, &module, 0), "the last below");
+    holds(&rt, module.count().1 == 0, "none is declared");
+    let dup = must(&rt, module.dup(alloc), "a copy");
+    holds(&rt, finds(alloc, &dup, 0), "as it does");
+}
+
+#[test]
+fn a_manifest_below_has_a_path(rt: HostRuntime) {
+    let alloc = rt.alloc();
+    let mut module = listing(&rt, alloc, false);
+    holds(&rt, finds(alloc, &module, 1), "its own");
+    holds(&rt, module.build_index(alloc).is_ok(), "indexed");
+    assert!(&rt; module.is_indexed(), "indexed");
+    let pathed = must(&rt, f(alloc).dup_at(alloc, &Texts::new(alloc)), "a key");
+    let mut steps = Steps::new();
+    let func = module.get_qualified_fn(&pathed, &mut steps);
+    holds(&rt, is_native(func, 1), "under its path");
+}
+
+#[test]
+fn a_declaration_goes_before_what_is_listed(rt: HostRuntime) {
+    let alloc = rt.alloc();
+    let mut module = listing(&rt, alloc, false);
+    let set = module.set_native_fn(alloc, &natives(&rt, alloc), text(alloc, "f"), FnId(0));
+    holds(&rt, set.is_ok() && finds(alloc, &module, 0), "declared");
+    holds(&rt, module.iter_manifests().len() == 1, "listed besides");
+    holds(&rt, module.register_listed(alloc).is_ok(), "registered");
+    holds(&rt, finds(alloc, &module, 0), "as before");
+    let none = module.iter_manifests().is_empty();
+    holds(&rt, none && module.count().1 == 1, "in one place");
+}
+
+#[test]
+fn a_module_is_made_of_a_manifest(rt: HostRuntime) {
+    let alloc = rt.alloc();
+    let manifests = two(&rt, alloc);
+    let mut module = must(
+        &rt,
+        Module::from_manifest(alloc, &manifests, SEEDS, HIGH),
+        "made",
+    );
+    holds(
+        &rt,
+        finds(alloc, &module, 1) && module.count().0 == 1,
+        "its own",
+    );
+    holds(&rt, module.has_lazy_functions(), "it lists something");
+    holds(
+        &rt,
+        module.register_lazy_functions(alloc).is_ok(),
+        "registered",
+    );
+    holds(&rt, !module.has_lazy_functions(), "no more");
+    holds(&rt, finds(alloc, &module, 1), "as before");
+    let combined = module.combine_manifest(alloc, &manifests, HIGH);
+    holds(
+        &rt,
+        combined.is_ok() && module.has_lazy_functions(),
+        "listed again",
+    );
+}
+
+#[test]
+fn a_banned_indexer_is_refused(rt: HostRuntime) {
+    let alloc = rt.alloc();
+    let mut manifests = Manifests::new(alloc);
+    let low = push(&rt, alloc, &mut manifests);
+    list(&rt, alloc, &mut manifests, low, "index$get$", &[2]);
+    let high = push(&rt, alloc, &mut manifests);
+    nest(&rt, alloc, &mut manifests, high, low);
+    let mut module = empty(&rt, alloc, SEEDS);
+    let added = module.add_manifest(alloc, &manifests, high, false);
+    let banned = matches!(added, Err(DeclFault::IndexerNotAllowed { .. }));
+    holds(&rt, banned && module.is_empty(), "it stays as it was");
+    let entry = first(&rt, held(&rt, &manifests, low));
+    let put = entry.register_into(alloc, &mut module);
+    let banned = matches!(put, Err(DeclFault::IndexerNotAllowed { .. }));
+    holds(&rt, banned, "not by itself either");
+}
+
+#[test]
+fn a_manifest_is_put_in_by_itself(rt: HostRuntime) {
+    let alloc = rt.alloc();
+    let manifests = two(&rt, alloc);
+    let manifest = held(&rt, &manifests, HIGH);
+    let mut module = empty(&rt, alloc, SEEDS);
+    holds(
+        &rt,
+        manifest.init_eager(alloc, &mut module).is_ok(),
+        "its contents",
+    );
+    holds(&rt, module.count() == (1, 0, 0), "one variable");
+    let put = first(&rt, manifest).register_into(alloc, &mut module);
+    holds(
+        &rt,
+        put.is_ok() && finds(alloc, &module, 1),
+        "and a function",
+    );
+}
