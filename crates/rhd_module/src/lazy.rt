@@ -47,9 +47,7 @@ fn renewed(
         ⊎ IsClash child.now.own.seeds (keys_of (tree (with_registered child.now (subs_of below.entries)))) fault) }
 {
     let fns = registered(alloc, child)?;
-    let mut made = child.dup(alloc)?;
-    made.take_fns(alloc, fns);
-    made.subs = below;
+    let mut made = child.dup_with(alloc, fns, below)?;
     made.build_index(alloc)?;
     Ok(Rc::new(alloc, made)?)
 }

@@ -282,6 +282,52 @@ impl Module {
         self.listed = Listing::new(alloc);
     }
 
+    /// A copy with the declarations of another module in the place of its own and with other sub-modules,
+    /// which lists nothing. It isn't indexed.
+    pub(crate) fn dup_with(
+        &self,
+        alloc: Global,
+        other: Module,
+        subs: BTreeMap<Text, Rc<Module>>,
+    ) -> Result<Module, OutOfMemory>
+        requires seeds { other.own.seeds ≡ self.now.own.seeds }
+        requires listed { other.own.listed ≡ [] }
+        ensures { IfOk result (λ copy. copy ≡ record {
+          own = record self.now.own { eager = other.own.eager; manifests = []; listed = []; indexed = false };
+          subs = subs_of subs.entries;
+        }) }
+    {
+        let id = self.share_id(alloc)?;
+        let doc = self.doc.dup(alloc)?;
+        let types = self.types.dup(alloc)?;
+        let vars = self.vars.dup(alloc)?;
+        let index = self.index.clone()?;
+        let mut flags = self.flags.dup();
+        flags.set_indexed(false);
+        let Module {
+            eager,
+            filter,
+            natives,
+            scripts,
+            ..
+        } = other;
+        Ok(Module {
+            id,
+            doc,
+            types,
+            vars,
+            eager,
+            manifests: Vec::new(alloc),
+            listed: Listing::new(alloc),
+            subs,
+            flags,
+            filter,
+            index,
+            natives,
+            scripts,
+        })
+    }
+
     /// Sets the comments of the declaration under a key. Answers whether there is one; a listed function is
     /// none.
     pub fn set_fn_comments(
