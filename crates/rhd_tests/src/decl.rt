@@ -1,6 +1,7 @@
 //! Custom types, flags, declarations and their faults.
 
-use crate::given::{holds, must, script_key, text, texts};
+use crate::given::{script_key, text, texts};
+use crate::must::{holds, must};
 use bitflags::Flags;
 use rhd_decl::{
     CustomTypeInfo, CustomTypesCollection, DeclFault, Declaration, FuncMetadata, ModuleFlags,

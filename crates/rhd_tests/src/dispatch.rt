@@ -3,7 +3,8 @@
 ghost use Rattle.std.specs.Prelude.{◌≡◌, true, length};
 ghost use Rattle.rhd_engine.specs.Held.{names_held};
 
-use crate::given::{holds, int, must, one, plain, text};
+use crate::given::{int, one, plain, text};
+use crate::must::{holds, must};
 use rhd_dispatch::ensure_no_data_race;
 use rhd_func::CallShape;
 use rhd_value::{EvalAltResult, Position};

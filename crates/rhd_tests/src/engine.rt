@@ -1,6 +1,7 @@
 //! Engines, what is registered in them, lists of modules, and the state of a run.
 
-use crate::given::{SEEDS, holds, must, one, plain, shared, text};
+use crate::given::{SEEDS, one, plain, text};
+use crate::must::{holds, must, shared};
 use rhd_engine::{Builtins, GlobalRuntimeState, ImportList, ModuleList, ModuleMap, Operator};
 use rhd_func::Natives;
 use rhd_module::{Module, SharedModule};

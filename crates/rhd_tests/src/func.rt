@@ -1,6 +1,7 @@
 //! Functions, natives, requests and what calls are answered: how they are made, read, copied and shown.
 
-use crate::given::{holds, must, script, text, texts};
+use crate::given::{script, text, texts};
+use crate::must::{holds, must};
 use rhd_func::{BodyId, FnAccess, FnNamespace, IterId, RhaiFunc, ScriptFuncDef, SharedDef};
 use rhd_value::FnId;
 use std::alloc::Global;

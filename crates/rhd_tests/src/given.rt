@@ -1,20 +1,17 @@
 //! What tests are made of: small values, keys and scripts.
 
-ghost use Rattle.std.specs.Prelude.{◌≡◌, true, false, None, Ok};
+ghost use Rattle.std.specs.Prelude.{◌≡◌, false, None};
 ghost use Rattle.std.specs.Option.{option_and_then, option_copied, option_map_or};
 ghost use Rattle.std.specs.Ordering.{int_eq};
 ghost use Rattle.rhd_value.specs.Kinds.{int_in};
 ghost use Rattle.rhd_value.specs.Same.{text_eq};
 ghost use Rattle.rhd_value.specs.Tree.{integer};
 ghost use Rattle.rhd_func.specs.declared.access.FnAccess.TheVariants.{Public};
-ghost use Rattle.rhd_module.specs.Tree.{empty_module};
 
-use rhd_func::{BodyId, CallShape, FnAccess, ScriptFuncDef, SharedDef};
+use rhd_func::{BodyId, CallShape, FnAccess, ScriptFuncDef};
 use rhd_hash::{Key, Seeds};
-use rhd_module::{FuncRegistration, Module, SharedModule};
 use rhd_value::{Dynamic, Text, Texts, TypeTag, Types, Value, Values};
 use std::alloc::Global;
-use std::process::Abort;
 
 /// Seeds under which no two keys of a test clash.
 pub const SEEDS: Seeds = Seeds {
@@ -29,23 +26,6 @@ pub const CLASHING: Seeds = Seeds {
     seed1: 0,
     mask: 0,
 };
-
-/// Stops the test where something doesn't hold.
-pub fn holds(rt: &impl Abort, fact: bool, what: &str)
-    ensures { fact ≡ true }
-{
-    assert!(rt; fact, "{what}");
-}
-
-/// What a call made. Stops the test where it made nothing.
-pub fn must<T, E: Drop>(rt: &impl Abort, made: Result<T, E>, what: &str) -> T
-    ensures { made ≡ Ok result }
-{
-    match made {
-        Ok(made) => made,
-        Err(_) => panic!(rt; "{what}"),
-    }
-}
 
 /// A text; empty where memory ran out.
 pub fn text(alloc: Global, word: &str) -> Text {
@@ -139,33 +119,4 @@ pub fn script(alloc: Global, word: &str) -> ScriptFuncDef
         access: FnAccess::Public,
         body: BodyId(0),
     }
-}
-
-/// The same with several owners.
-pub fn shared_script(rt: &impl Abort, alloc: Global, word: &str) -> SharedDef {
-    must(rt, SharedDef::new(alloc, script(alloc, word)), "a script")
-}
-
-/// A module in which nothing is.
-pub fn empty(rt: &impl Abort, alloc: Global, seeds: Seeds) -> Module
-    ensures { result ≡ empty_module seeds }
-{
-    must(rt, Module::new(alloc, seeds), "a module")
-}
-
-/// The same with several owners.
-pub fn shared(rt: &impl Abort, alloc: Global, seeds: Seeds) -> SharedModule
-    ensures { result ≡ empty_module seeds }
-{
-    let module = empty(rt, alloc, seeds);
-    must(rt, SharedModule::new(alloc, module), "a shared module")
-}
-
-/// A registration under a name for all calls.
-pub fn for_all(rt: &impl Abort, alloc: Global, name: &str) -> FuncRegistration
-    ensures purity { result.purity ≡ None }
-    ensures volatility { result.volatility ≡ None }
-{
-    let made = FuncRegistration::new(alloc, text(alloc, name));
-    must(rt, made, "a registration").in_global_namespace()
 }

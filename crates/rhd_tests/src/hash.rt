@@ -1,6 +1,7 @@
 //! Hashes worked out apart from this code, filters of two sizes, keys, and tables by key.
 
-use crate::given::{CLASHING, SEEDS, holds, is_text, must, native_key, script_key, text, texts};
+use crate::given::{CLASHING, SEEDS, is_text, native_key, script_key, text, texts};
+use crate::must::{holds, must};
 use rhd_hash::{
     BloomFilterU64, FnCallHashes, HashedKey, HashedName, Key, KeyTable, Seeds, Steps,
     StraightHashMap, StraightHasher, StraightHasherBuilder, TableFault, calc_fn_hash,

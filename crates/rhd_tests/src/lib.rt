@@ -18,4 +18,6 @@ mod manifest;
 #[cfg(test)]
 mod module;
 #[cfg(test)]
+mod must;
+#[cfg(test)]
 mod names;

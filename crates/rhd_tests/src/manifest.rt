@@ -1,6 +1,7 @@
 //! Manifests, and modules that list their functions.
 
-use crate::given::{SEEDS, empty, holds, int, is_int, must, native_key, text, types};
+use crate::given::{SEEDS, int, is_int, native_key, text, types};
+use crate::must::{empty, holds, must};
 use rhd_decl::DeclFault;
 use rhd_func::{
     CallDone, Carry, FnNamespace, ManifestId, NativeCallContext, NativeStep, Natives, PluginFunc,

@@ -2,10 +2,8 @@
 
 ghost use Rattle.std.specs.Prelude.{◌≡◌, true};
 
-use crate::given::{
-    SEEDS, empty, for_all, holds, int, is_int, is_text, must, native_key, script, script_key,
-    shared, shared_script, text, texts,
-};
+use crate::given::{SEEDS, int, is_int, is_text, native_key, script, script_key, text, texts};
+use crate::must::{empty, for_all, holds, must, shared, shared_script};
 use rhd_decl::CustomTypeInfo;
 use rhd_func::{FnAccess, FnNamespace, RhaiFunc, SharedDef};
 use rhd_hash::{HashedKey, Key, Steps};

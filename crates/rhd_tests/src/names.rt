@@ -1,6 +1,6 @@
 //! Tests against tables that stand here once more, and that calls succeed.
 
-use crate::given::must;
+use crate::must::must;
 use rhd_names::{
     OpToken, is_anonymous_fn, is_reserved_keyword_or_symbol, is_valid_function_name,
     is_valid_identifier, lookup_symbol_from_syntax, make_getter, make_setter,
