@@ -1,5 +1,5 @@
-//! Tests of all crates: each public call once on the smallest arguments, and natives, bodies and hosts that
-//! are handed in. They stand in one crate, since a crate with tests is proved twice.
+//! Tests of the crates below the machine: their calls on the smallest arguments. They stand in one crate,
+//! since a crate with tests is proved twice; what they are made of is proved without them as well.
 #![tactic(auto)]
 
 #[cfg(test)]
