@@ -65,6 +65,26 @@ pub enum Command {
         name: Text,
         sub: ModuleId,
     },
+    /// Puts a module, as it is then, over a module.
+    Combine {
+        module: ModuleId,
+        other: ModuleId,
+    },
+    /// Puts what stands in the tree of a module, as it is then, over a module.
+    CombineFlatten {
+        module: ModuleId,
+        other: ModuleId,
+    },
+    /// Puts what is new of a module, as it is then, into a module.
+    Fill {
+        module: ModuleId,
+        other: ModuleId,
+    },
+    /// Merges a module, as it is then, into a module, with what it lists registered.
+    Merge {
+        module: ModuleId,
+        other: ModuleId,
+    },
     /// Makes the module of a manifest, which gets the next number.
     FromManifest {
         manifest: ManifestId,
@@ -196,6 +216,22 @@ impl Command {
                 module: *module,
                 name: name.dup(alloc)?,
                 sub: *sub,
+            }),
+            Command::Combine { module, other } => Ok(Command::Combine {
+                module: *module,
+                other: *other,
+            }),
+            Command::CombineFlatten { module, other } => Ok(Command::CombineFlatten {
+                module: *module,
+                other: *other,
+            }),
+            Command::Fill { module, other } => Ok(Command::Fill {
+                module: *module,
+                other: *other,
+            }),
+            Command::Merge { module, other } => Ok(Command::Merge {
+                module: *module,
+                other: *other,
             }),
             Command::FromManifest { manifest } => Ok(Command::FromManifest {
                 manifest: *manifest,

@@ -19,3 +19,4 @@ pub mod Registers
 pub mod Combined
 pub mod Made
 pub mod LazyParts
+pub mod JoinParts

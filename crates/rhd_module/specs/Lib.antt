@@ -13,3 +13,4 @@ pub mod Scripts
 pub mod Manifests
 pub mod Made
 pub mod Lazy
+pub mod Algebra

@@ -1,9 +1,11 @@
 //! Modules: what they hold, how it is put, and what a key finds.
 #![tactic(auto)]
 
+mod algebra;
 mod combining;
 mod contents;
 mod index;
+mod joining;
 mod law;
 mod lazy;
 mod manifest_calls;

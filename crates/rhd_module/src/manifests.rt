@@ -85,7 +85,7 @@ fn mark_entries(filter: &mut BloomFilterU64<8>, seeds: Seeds, entries: &[FnManif
 }
 
 /// The same of all that some manifests list.
-fn mark_parts(filter: &mut BloomFilterU64<8>, seeds: Seeds, parts: &[Rc<EntryList>])
+pub(crate) fn mark_parts(filter: &mut BloomFilterU64<8>, seeds: Seeds, parts: &[Rc<EntryList>])
     ensures { (v : ℕ) → is_marked 8 filter.new v ≡ (is_marked 8 filter.old v || lists_dynamic seeds v (listed_in parts.now)) }
 {
     for part in parts {
@@ -137,7 +137,7 @@ fn register_parts(
 }
 
 /// Declares a function once more, in the place of one of an equal key, else last.
-fn register_pair(
+pub(crate) fn register_pair(
     target: &mut Module,
     alloc: Global,
     key: &Key,
@@ -151,7 +151,7 @@ fn register_pair(
 }
 
 /// The same of all that another module declares.
-fn register_declared(target: &mut Module, alloc: Global, declared: &Module) -> Result<(), DeclFault>
+pub(crate) fn register_declared(target: &mut Module, alloc: Global, declared: &Module) -> Result<(), DeclFault>
     ensures ok { OnOk result (target.new ≡ with_pairs (put_all declared.now.own.eager target.old.own.eager) target.new.own.indexed target.old) }
     ensures clash { IfErr result (IsClash target.old.own.seeds (keys_of (put_all declared.now.own.eager target.old.own.eager))) }
 {

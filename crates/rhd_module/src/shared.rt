@@ -1,7 +1,8 @@
 //! Modules with several owners.
 
-ghost use Rattle.std.specs.Prelude.{◌≡◌, None, [], OnOk, OnErr, IfOk};
+ghost use Rattle.std.specs.Prelude.{◌≡◌, true, None, [], OnOk, OnErr, IfOk};
 ghost use Rattle.rhd_func.specs.Infos.{infos_of};
+ghost use Rattle.rhd_module.specs.Algebra.{Combines, Flattens, Fills, Merges};
 ghost use Rattle.rhd_module.specs.Contents.{with_id, named, with_doc, with_var, with_type, cleared, with_sub};
 ghost use Rattle.rhd_module.specs.Index.{Indexes};
 ghost use Rattle.rhd_module.specs.Lazy.{RegistersTree};
@@ -257,5 +258,41 @@ impl SharedModule {
         }
         let module = Rc::make_mut(&mut self.module)?;
         module.register_lazy_functions(alloc)
+    }
+
+    /// Puts another module over this owner's module, as `Module::combine` does. The module is
+    /// copied first where it has other owners.
+    pub fn combine(&mut self, alloc: Global, other: &Module) -> Result<(), DeclFault>
+        ensures { Combines other.now self.old result self.new }
+    {
+        let module = Rc::make_mut(&mut self.module)?;
+        module.combine(alloc, other)
+    }
+
+    /// Puts what stands in the tree of another module over this owner's module, as `Module::combine_flatten` does. The module is
+    /// copied first where it has other owners.
+    pub fn combine_flatten(&mut self, alloc: Global, other: &Module) -> Result<(), DeclFault>
+        ensures { Flattens other.now self.old result self.new }
+    {
+        let module = Rc::make_mut(&mut self.module)?;
+        module.combine_flatten(alloc, other)
+    }
+
+    /// Puts what is new of another module into this owner's module, as `Module::fill_with` does. The module is
+    /// copied first where it has other owners.
+    pub fn fill_with(&mut self, alloc: Global, other: &Module) -> Result<(), DeclFault>
+        ensures { Fills other.now self.old result self.new }
+    {
+        let module = Rc::make_mut(&mut self.module)?;
+        module.fill_with(alloc, other)
+    }
+
+    /// Merges another module into this owner's module, as `Module::merge` does. The module is
+    /// copied first where it has other owners.
+    pub fn merge(&mut self, alloc: Global, other: &Module) -> Result<(), DeclFault>
+        ensures { Merges (λ d. true) other.now self.old result self.new }
+    {
+        let module = Rc::make_mut(&mut self.module)?;
+        module.merge(alloc, other)
     }
 }

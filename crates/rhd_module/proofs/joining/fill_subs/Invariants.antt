@@ -1,0 +1,11 @@
+use Rattle.std.proofs.Common.{◌≡◌, List, ◌++◌}
+use Rattle.std.specs.declared.rc.Rc.{Rc}
+use Rattle.rhd_value.specs.Tree.{Bytes}
+use Rattle.rhd_module.specs.Tree.{ModuleTree, subs_of}
+use Rattle.rhd_module.specs.Algebra.{fill_subs}
+use Rattle.rhd_module.proofs.joining.fill_subs.Given as goal
+
+abbrev pub invariant-loop-name : goal.invariant-loop-name
+invariant-loop-name l =
+    (front : List (Bytes × Rc ModuleTree _)) × (l.initial.name-iterator ≡ front ++ l.name-iterator)
+    × (l.made ≡ record { own = record l.initial.made.own { indexed = l.made.own.indexed }; subs = fill_subs (subs_of front) l.initial.made.subs })

@@ -1,0 +1,132 @@
+//! Module algebra: calls that join one module with another.
+
+ghost use Rattle.std.specs.Prelude.{◌≡◌, ◌<◌, ◌^◌, ℕ, Bool, true, IfOk, OnOk, OnErr};
+ghost use Rattle.rhd_value.specs.Tree.{Bytes};
+ghost use Rattle.rhd_func.specs.declared.access.FnAccess.{FnAccess as Access};
+ghost use Rattle.rhd_func.specs.declared.access.FnNamespace.{FnNamespace as Namespace};
+ghost use Rattle.rhd_module.specs.Algebra.{merged_with, merged_all, scripts_that, passes_by, IsJoined, Combines, Flattens, Fills, Merges, FilterTells, ScriptFilterTells};
+
+use crate::joining::{combine, fill, flatten, merge, scripts_that};
+use crate::module::Module;
+use rhd_decl::{DeclFault, Declaration};
+use rhd_func::{FnAccess, FnNamespace};
+use rhd_value::{OutOfMemory, Text};
+use std::alloc::Global;
+
+impl Module {
+    /// Puts another module over this one: its manifests above, and its functions, sub-modules and variables
+    /// in the place of those of equal keys and names. Its documentation is put behind, after a line break
+    /// where there is some. The module isn't indexed any more.
+    pub fn combine(&mut self, alloc: Global, other: &Module) -> Result<(), DeclFault>
+        ensures { Combines other.now self.old result self.new }
+    {
+        let mut made = self.dup(alloc)?;
+        combine(&mut made, alloc, other)?;
+        *self = made;
+        Ok(())
+    }
+
+    /// Puts what stands in the tree of another module over this one, from the deepest up: first each of its
+    /// sub-modules in the same way, in ascending order of name, and then itself. No sub-module is put in.
+    /// The module isn't indexed any more.
+    pub fn combine_flatten(&mut self, alloc: Global, other: &Module) -> Result<(), DeclFault>
+        ensures { Flattens other.now self.old result self.new }
+    {
+        let mut made = self.dup(alloc)?;
+        flatten(&mut made, alloc, other)?;
+        *self = made;
+        Ok(())
+    }
+
+    /// Puts in what is new of another module: its manifests below, its declarations under keys for which
+    /// nothing is declared or listed here, and its sub-modules and variables under new names. Its
+    /// documentation is put behind, after a line break where there is some. The module isn't indexed any
+    /// more.
+    pub fn fill_with(&mut self, alloc: Global, other: &Module) -> Result<(), DeclFault>
+        ensures { Fills other.now self.old result self.new }
+    {
+        let mut made = self.dup(alloc)?;
+        fill(&mut made, alloc, self, other)?;
+        *self = made;
+        Ok(())
+    }
+
+    /// Registers what another module lists, and its declarations over that, in the place of those of equal
+    /// keys. Its variables are put in, and each of its sub-modules, merged into a new one, in the place of
+    /// those of equal names. Its documentation is put behind, after a line break where there is some. The
+    /// module isn't indexed any more.
+    pub fn merge(&mut self, alloc: Global, other: &Module) -> Result<(), DeclFault>
+        ensures { Merges (λ d. true) other.now self.old result self.new }
+    {
+        let made = self.plus(alloc, other)?;
+        *self = made;
+        Ok(())
+    }
+
+    /// Merges as `merge` does the functions alone that a filter passes, in sub-modules too. It tells by the
+    /// namespace, the access, whether it is a script, the name, and the number of parameters.
+    pub fn merge_filtered<F: Fn(FnNamespace, FnAccess, bool, &Text, u64) -> bool>(
+        &mut self,
+        alloc: Global,
+        other: &Module,
+        filter: F,
+    ) -> Result<(), DeclFault>
+        requires { F.IsAlwaysCallable filter }
+        ensures { (tells : Namespace → Access → Bool → Bytes → ℕ → Bool) → FilterTells (F.post filter) tells → Merges (passes_by tells) other.now self.old result self.new }
+    {
+        let mut made = self.dup(alloc)?;
+        merge(&mut made, alloc, other, &|declaration: &Declaration| {
+            let metadata = &declaration.metadata;
+            filter(
+                metadata.namespace,
+                metadata.access,
+                declaration.func.is_script(),
+                &metadata.name,
+                metadata.num_params,
+            )
+        })?;
+        *self = made;
+        Ok(())
+    }
+
+    /// Keeps the scripts alone that a filter passes; natives and manifests go. It tells by the namespace,
+    /// the access, the name, and the number of parameters. Sub-modules and variables stay. The module isn't
+    /// indexed any more.
+    pub fn retain_script_functions<F: Fn(FnNamespace, FnAccess, &Text, u64) -> bool>(
+        &mut self,
+        alloc: Global,
+        filter: F,
+    ) -> Result<(), OutOfMemory>
+        requires { F.IsAlwaysCallable filter }
+        ensures ok { (tells : Namespace → Access → Bytes → ℕ → Bool) → ScriptFilterTells (F.post filter) tells → OnOk result (self.new ≡ scripts_that (passes_by (λ namespace access script. tells namespace access)) self.old) }
+        ensures err { OnErr result (self.new ≡ self.old) }
+    {
+        let kept = scripts_that(alloc, self, &|declaration: &Declaration| {
+            let metadata = &declaration.metadata;
+            filter(metadata.namespace, metadata.access, &metadata.name, metadata.num_params)
+        });
+        match kept {
+            Ok(kept) => {
+                self.take_fns(alloc, kept);
+                Ok(())
+            }
+            Err(_fault) => Err(OutOfMemory),
+        }
+    }
+
+    /// A copy into which another module is merged.
+    pub fn plus(&self, alloc: Global, other: &Module) -> Result<Module, DeclFault>
+        ensures { IsJoined (merged_all (λ d. true) other.now self.now) (merged_with (λ d. true) other.now self.now) result }
+    {
+        let mut made = self.dup(alloc)?;
+        merge(&mut made, alloc, other, &|_declaration: &Declaration| true)?;
+        Ok(made)
+    }
+
+    /// Puts another module over this one, as `combine` does.
+    pub fn plus_assign(&mut self, alloc: Global, other: &Module) -> Result<(), DeclFault>
+        ensures { Combines other.now self.old result self.new }
+    {
+        self.combine(alloc, other)
+    }
+}

@@ -1,0 +1,377 @@
+//! What of one module is put into another where they are joined.
+
+ghost use Rattle.std.specs.Prelude.{◌≡◌, ◌∷◌, ◌++◌, [], Bool, true, false, ◌&&◌, map, reverse, IfOk, IfErr, OnOk, OnErr};
+ghost use Rattle.std.specs.Fn.{FnReturnsAt};
+ghost use Rattle.std.specs.List.{AllByRecursion, filter};
+ghost use Rattle.std.specs.Map.{keys_of};
+ghost use Rattle.rhd_func.specs.Funcs.{is_script};
+ghost use Rattle.rhd_decl.specs.declared.declaration.Declaration.{Declaration as Decl};
+ghost use Rattle.rhd_manifest.specs.Entry.{entry_pair};
+ghost use Rattle.rhd_manifest.specs.Listing.{listed_in};
+ghost use Rattle.rhd_module.specs.Algebra.{joined_doc, over, fill_vars, fill_subs, put_subs, that_pass, registered_over, combined_with, flattened_with, filled_with, merged_own, merged_with, merged_all, HasOwnTable, SomeClash, Tells};
+ghost use Rattle.rhd_module.specs.Index.{IsClash};
+ghost use Rattle.rhd_module.specs.Manifests.{put_vars, put_all, put_back, with_contents, with_pairs};
+ghost use Rattle.rhd_module.specs.Shown.{shown, without};
+ghost use Rattle.rhd_module.specs.Tree.{empty_module};
+
+use crate::manifests::{mark_parts, register_declared, register_pair};
+use crate::module::Module;
+use rhd_decl::{DeclFault, Declaration};
+use rhd_func::ManifestId;
+use rhd_hash::Key;
+use rhd_manifest::{EntryList, FnManifestEntry, Listing};
+use rhd_value::{OutOfMemory, Text};
+use std::alloc::Global;
+use std::rc::Rc;
+
+/// Documentation with more, after a line break where there is some already.
+fn joined_doc(alloc: Global, own: &Text, more: &Text) -> Result<Text, OutOfMemory>
+    ensures { IfOk result (λ doc. doc ≡ joined_doc own.now more.now) }
+{
+    if own.len() == 0 {
+        return more.dup(alloc);
+    }
+    let mut doc = own.dup(alloc)?;
+    doc.push("\n")?;
+    doc.push(more.as_str())?;
+    Ok(doc)
+}
+
+/// Puts the variables of another module in.
+fn put_vars(made: &mut Module, alloc: Global, other: &Module) -> Result<(), OutOfMemory>
+    ensures { OnOk result (made.new ≡ with_contents other.now.own.vars [] made.old) }
+{
+    for (name, value) in other.iter_var() {
+        made.set_var(alloc, name.dup(alloc)?, value.dup(alloc)?)?;
+    }
+    Ok(())
+}
+
+/// Puts the sub-modules of another module in, which are shared.
+fn put_subs(made: &mut Module, alloc: Global, other: &Module) -> Result<(), OutOfMemory>
+    ensures { OnOk result (made.new ≡ record { own = record made.old.own { indexed = made.new.own.indexed }; subs = put_subs other.now.subs made.old.subs }) }
+{
+    for (name, child) in other.iter_sub_modules() {
+        made.set_sub_module(alloc, name.dup(alloc)?, Rc::clone(child)?)?;
+    }
+    Ok(())
+}
+
+/// Puts the variables of another module in whose names a module has none of.
+fn fill_vars(
+    made: &mut Module,
+    alloc: Global,
+    own: &Module,
+    other: &Module,
+) -> Result<(), OutOfMemory>
+    requires { made.old.own.vars ≡ own.now.own.vars }
+    ensures { OnOk result (made.new ≡ record made.old { own = record made.old.own { vars = fill_vars other.now.own.vars own.now.own.vars } }) }
+{
+    for (name, value) in other.iter_var() {
+        if !own.contains_var(name) {
+            made.set_var(alloc, name.dup(alloc)?, value.dup(alloc)?)?;
+        }
+    }
+    Ok(())
+}
+
+/// Puts the sub-modules of another module in under new names, which are shared.
+fn fill_subs(made: &mut Module, alloc: Global, other: &Module) -> Result<(), OutOfMemory>
+    ensures { OnOk result (made.new ≡ record { own = record made.old.own { indexed = made.new.own.indexed }; subs = fill_subs other.now.subs made.old.subs }) }
+{
+    for (name, child) in other.iter_sub_modules() {
+        if !made.contains_sub_module(name) {
+            made.set_sub_module(alloc, name.dup(alloc)?, Rc::clone(child)?)?;
+        }
+    }
+    Ok(())
+}
+
+/// Declares what another module declares under keys for which a module has nothing.
+fn fill_declared(
+    made: &mut Module,
+    alloc: Global,
+    own: &Module,
+    other: &Module,
+) -> Result<(), DeclFault>
+    ensures ok { OnOk result (made.new ≡ with_pairs (put_all (without (shown own.now.own) other.now.own.eager) made.old.own.eager) made.new.own.indexed made.old) }
+    ensures clash { IfErr result (IsClash made.old.own.seeds (keys_of (put_all (without (shown own.now.own) other.now.own.eager) made.old.own.eager))) }
+{
+    for (key, declaration) in other.iter_fn() {
+        if !own.contains_fn(key) {
+            register_pair(made, alloc, key, declaration)?;
+        }
+    }
+    Ok(())
+}
+
+/// Declares a listed function, as a declaration that passes, in the place of one of an equal key, else last.
+fn register_entry_that<F: Fn(&Declaration) -> bool>(
+    made: &mut Module,
+    alloc: Global,
+    entry: &FnManifestEntry,
+    passes: &F,
+) -> Result<(), DeclFault>
+    requires { F.IsAlwaysCallable passes.now }
+    ensures ok { (tells : Decl → Bool) → Tells (FnReturnsAt F.Fn passes.now) tells → OnOk result (made.new ≡ with_pairs (put_back (that_pass tells (entry_pair made.old.own.seeds entry.now ∷ [])) made.old.own.eager) made.new.own.indexed made.old) }
+    ensures clash { (tells : Decl → Bool) → Tells (FnReturnsAt F.Fn passes.now) tells → IfErr result (IsClash made.old.own.seeds (keys_of (put_back (that_pass tells (entry_pair made.old.own.seeds entry.now ∷ [])) made.old.own.eager))) }
+{
+    let declaration = entry.declaration(alloc, made.seeds())?;
+    if !passes(&declaration) {
+        return Ok(());
+    }
+    made.put_fn(alloc, entry.key().dup(alloc)?, declaration)
+}
+
+/// The same of several, from the first to the last.
+fn register_entries_that<F: Fn(&Declaration) -> bool>(
+    made: &mut Module,
+    alloc: Global,
+    entries: &[FnManifestEntry],
+    passes: &F,
+) -> Result<(), DeclFault>
+    requires { F.IsAlwaysCallable passes.now }
+    ensures ok { (tells : Decl → Bool) → Tells (FnReturnsAt F.Fn passes.now) tells → OnOk result (made.new ≡ with_pairs (put_back (that_pass tells (map (entry_pair made.old.own.seeds) (reverse entries.now))) made.old.own.eager) made.new.own.indexed made.old) }
+    ensures clash { (tells : Decl → Bool) → Tells (FnReturnsAt F.Fn passes.now) tells → IfErr result (IsClash made.old.own.seeds (keys_of (put_back (that_pass tells (map (entry_pair made.old.own.seeds) (reverse entries.now))) made.old.own.eager))) }
+{
+    for entry in entries {
+        register_entry_that(made, alloc, entry, passes)?;
+    }
+    Ok(())
+}
+
+/// The same of all that some manifests list, from the lowest precedence to the highest.
+fn register_parts_that<F: Fn(&Declaration) -> bool>(
+    made: &mut Module,
+    alloc: Global,
+    parts: &[Rc<EntryList>],
+    passes: &F,
+) -> Result<(), DeclFault>
+    requires { F.IsAlwaysCallable passes.now }
+    ensures ok { (tells : Decl → Bool) → Tells (FnReturnsAt F.Fn passes.now) tells → OnOk result (made.new ≡ with_pairs (put_back (that_pass tells (map (entry_pair made.old.own.seeds) (listed_in parts.now))) made.old.own.eager) made.new.own.indexed made.old) }
+    ensures clash { (tells : Decl → Bool) → Tells (FnReturnsAt F.Fn passes.now) tells → IfErr result (IsClash made.old.own.seeds (keys_of (put_back (that_pass tells (map (entry_pair made.old.own.seeds) (listed_in parts.now))) made.old.own.eager))) }
+{
+    for part in parts {
+        register_entries_that(made, alloc, part.as_slice(), passes)?;
+    }
+    Ok(())
+}
+
+/// Declares a function once more, if it passes, in the place of one of an equal key, else last.
+fn register_pair_that<F: Fn(&Declaration) -> bool>(
+    made: &mut Module,
+    alloc: Global,
+    key: &Key,
+    declaration: &Declaration,
+    passes: &F,
+) -> Result<(), DeclFault>
+    requires { F.IsAlwaysCallable passes.now }
+    ensures ok { (tells : Decl → Bool) → Tells (FnReturnsAt F.Fn passes.now) tells → OnOk result (made.new ≡ with_pairs (put_all (that_pass tells ((key.now, declaration.now) ∷ [])) made.old.own.eager) made.new.own.indexed made.old) }
+    ensures clash { (tells : Decl → Bool) → Tells (FnReturnsAt F.Fn passes.now) tells → IfErr result (IsClash made.old.own.seeds (keys_of (put_all (that_pass tells ((key.now, declaration.now) ∷ [])) made.old.own.eager))) }
+{
+    if !passes(declaration) {
+        return Ok(());
+    }
+    register_pair(made, alloc, key, declaration)
+}
+
+/// The same of all that another module declares.
+fn register_declared_that<F: Fn(&Declaration) -> bool>(
+    made: &mut Module,
+    alloc: Global,
+    other: &Module,
+    passes: &F,
+) -> Result<(), DeclFault>
+    requires { F.IsAlwaysCallable passes.now }
+    ensures ok { (tells : Decl → Bool) → Tells (FnReturnsAt F.Fn passes.now) tells → OnOk result (made.new ≡ with_pairs (put_all (that_pass tells other.now.own.eager) made.old.own.eager) made.new.own.indexed made.old) }
+    ensures clash { (tells : Decl → Bool) → Tells (FnReturnsAt F.Fn passes.now) tells → IfErr result (IsClash made.old.own.seeds (keys_of (put_all (that_pass tells other.now.own.eager) made.old.own.eager))) }
+{
+    for (key, declaration) in other.iter_fn() {
+        register_pair_that(made, alloc, key, declaration, passes)?;
+    }
+    Ok(())
+}
+
+/// Registers what another module lists and declares, as far as it passes.
+fn register_over<F: Fn(&Declaration) -> bool>(
+    made: &mut Module,
+    alloc: Global,
+    other: &Module,
+    passes: &F,
+) -> Result<(), DeclFault>
+    requires { F.IsAlwaysCallable passes.now }
+    ensures ok { (tells : Decl → Bool) → Tells (FnReturnsAt F.Fn passes.now) tells → OnOk result (made.new ≡ with_pairs (registered_over tells other.now.own made.old.own) made.new.own.indexed made.old) }
+    ensures clash { (tells : Decl → Bool) → Tells (FnReturnsAt F.Fn passes.now) tells → IfErr result (IsClash made.old.own.seeds (keys_of (registered_over tells other.now.own made.old.own))) }
+{
+    register_parts_that(made, alloc, other.listed.parts(), passes)?;
+    register_declared_that(made, alloc, other, passes)
+}
+
+impl Module {
+    /// The module isn't indexed any more.
+    fn forget_index(&mut self)
+        ensures { self.new ≡ record self.old { own = record self.old.own { indexed = false } } }
+    {
+        self.flags.set_indexed(false);
+    }
+
+    /// Puts more behind the documentation.
+    fn join_doc(&mut self, alloc: Global, other: &Module) -> Result<(), OutOfMemory>
+        ensures { OnOk result (self.new ≡ record self.old { own = record self.old.own { doc = joined_doc self.old.own.doc other.now.own.doc } }) }
+    {
+        self.doc = joined_doc(alloc, &self.doc, &other.doc)?;
+        Ok(())
+    }
+
+    /// Lists what another module lists above what it lists itself. The module isn't indexed any more.
+    fn list_above(&mut self, alloc: Global, other: &Module) -> Result<(), OutOfMemory>
+        ensures { OnOk result (self.new ≡ record self.old { own = record self.old.own { manifests = self.old.own.manifests ++ other.now.own.manifests; listed = other.now.own.listed ++ self.old.own.listed; indexed = false } }) }
+    {
+        let mut listed = self.listed.dup(alloc)?;
+        listed.raise(other.listed.dup(alloc)?)?;
+        let mut manifests = Vec::from_slice(alloc, self.manifests.as_slice())?;
+        manifests.extend_from_slice(other.manifests.as_slice())?;
+        let mut filter = self.filter.clone()?;
+        mark_parts(&mut filter, self.seeds(), other.listed.parts());
+        self.filter = filter;
+        self.listed = listed;
+        self.manifests = manifests;
+        self.flags.set_indexed(false);
+        Ok(())
+    }
+
+    /// Lists what another module lists below what it lists itself. The module isn't indexed any more.
+    fn list_below(&mut self, alloc: Global, other: &Module) -> Result<(), OutOfMemory>
+        ensures { OnOk result (self.new ≡ record self.old { own = record self.old.own { manifests = other.now.own.manifests ++ self.old.own.manifests; listed = self.old.own.listed ++ other.now.own.listed; indexed = false } }) }
+    {
+        let mut listed = other.listed.dup(alloc)?;
+        listed.raise(self.listed.dup(alloc)?)?;
+        let mut manifests = Vec::from_slice(alloc, other.manifests.as_slice())?;
+        manifests.extend_from_slice(self.manifests.as_slice())?;
+        let mut filter = self.filter.clone()?;
+        mark_parts(&mut filter, self.seeds(), other.listed.parts());
+        self.filter = filter;
+        self.listed = listed;
+        self.manifests = manifests;
+        self.flags.set_indexed(false);
+        Ok(())
+    }
+}
+
+/// Puts what another module has over what a module has, but for its sub-modules.
+fn put_over(made: &mut Module, alloc: Global, other: &Module) -> Result<(), DeclFault>
+    ensures ok { OnOk result (made.new ≡ record made.old { own = over other.now.own made.old.own }) }
+    ensures clash { IfErr result (IsClash made.old.own.seeds (keys_of (put_all other.now.own.eager made.old.own.eager))) }
+{
+    register_declared(made, alloc, other)?;
+    put_vars(made, alloc, other)?;
+    made.join_doc(alloc, other)?;
+    made.list_above(alloc, other)?;
+    Ok(())
+}
+
+/// Puts another module over a module with its sub-modules.
+pub(crate) fn combine(made: &mut Module, alloc: Global, other: &Module) -> Result<(), DeclFault>
+    ensures ok { OnOk result (made.new ≡ combined_with other.now made.old) }
+    ensures table { OnOk result (HasOwnTable (combined_with other.now made.old)) }
+    ensures clash { IfErr result (IsClash made.old.own.seeds (keys_of (combined_with other.now made.old).own.eager)) }
+{
+    put_subs(made, alloc, other)?;
+    put_over(made, alloc, other)?;
+    let _apart = made.iter_fn();
+    Ok(())
+}
+
+/// Puts what stands in the tree of another module over what a module has, from the deepest up.
+pub(crate) fn flatten(made: &mut Module, alloc: Global, other: &Module) -> Result<(), DeclFault>
+    ensures ok { OnOk result (made.new ≡ flattened_with other.now made.old) }
+    ensures table { OnOk result (HasOwnTable (flattened_with other.now made.old)) }
+    ensures clash { IfErr result (IsClash made.old.own.seeds (keys_of (flattened_with other.now made.old).own.eager)) }
+{
+    for (_, child) in other.iter_sub_modules() {
+        flatten(made, alloc, child)?;
+    }
+    put_over(made, alloc, other)?;
+    let _apart = made.iter_fn();
+    Ok(())
+}
+
+/// Puts what is new of another module into a copy of a module.
+pub(crate) fn fill(
+    made: &mut Module,
+    alloc: Global,
+    own: &Module,
+    other: &Module,
+) -> Result<(), DeclFault>
+    requires { made.old ≡ own.now }
+    ensures ok { OnOk result (made.new ≡ filled_with other.now own.now) }
+    ensures table { OnOk result (HasOwnTable (filled_with other.now own.now)) }
+    ensures clash { IfErr result (IsClash own.now.own.seeds (keys_of (filled_with other.now own.now).own.eager)) }
+{
+    fill_declared(made, alloc, own, other)?;
+    fill_vars(made, alloc, own, other)?;
+    fill_subs(made, alloc, other)?;
+    made.join_doc(alloc, other)?;
+    made.list_below(alloc, other)?;
+    let _apart = made.iter_fn();
+    Ok(())
+}
+
+/// Merges what passes of another module's own lists.
+fn merge_own<F: Fn(&Declaration) -> bool>(
+    made: &mut Module,
+    alloc: Global,
+    other: &Module,
+    passes: &F,
+) -> Result<(), DeclFault>
+    requires { F.IsAlwaysCallable passes.now }
+    ensures ok { (tells : Decl → Bool) → Tells (FnReturnsAt F.Fn passes.now) tells → OnOk result (made.new ≡ record made.old { own = record (merged_own tells other.now.own made.old.own) { indexed = made.new.own.indexed } }) }
+    ensures table { OnOk result (HasOwnTable made.new) }
+    ensures clash { (tells : Decl → Bool) → Tells (FnReturnsAt F.Fn passes.now) tells → IfErr result (IsClash made.old.own.seeds (keys_of (registered_over tells other.now.own made.old.own))) }
+{
+    register_over(made, alloc, other, passes)?;
+    put_vars(made, alloc, other)?;
+    made.join_doc(alloc, other)?;
+    let _apart = made.iter_fn();
+    Ok(())
+}
+
+/// Merges what passes of another module, and of its sub-modules into new ones.
+pub(crate) fn merge<F: Fn(&Declaration) -> bool>(
+    made: &mut Module,
+    alloc: Global,
+    other: &Module,
+    passes: &F,
+) -> Result<(), DeclFault>
+    requires { F.IsAlwaysCallable passes.now }
+    ensures ok { (tells : Decl → Bool) → Tells (FnReturnsAt F.Fn passes.now) tells → OnOk result (made.new ≡ merged_with tells other.now made.old) }
+    ensures tables { (tells : Decl → Bool) → Tells (FnReturnsAt F.Fn passes.now) tells → OnOk result (AllByRecursion HasOwnTable (merged_all tells other.now made.old)) }
+    ensures clash { (tells : Decl → Bool) → Tells (FnReturnsAt F.Fn passes.now) tells → IfErr result (SomeClash (merged_all tells other.now made.old)) }
+{
+    merge_own(made, alloc, other, passes)?;
+    for (name, child) in other.iter_sub_modules() {
+        let mut rebuilt = Module::new(alloc, made.seeds())?;
+        merge(&mut rebuilt, alloc, child, passes)?;
+        made.set_sub_module(alloc, name.dup(alloc)?, Rc::new(alloc, rebuilt)?)?;
+    }
+    made.forget_index();
+    Ok(())
+}
+
+/// A module in which the scripts of another one that pass are declared.
+pub(crate) fn scripts_that<F: Fn(&Declaration) -> bool>(
+    alloc: Global,
+    of: &Module,
+    passes: &F,
+) -> Result<Module, DeclFault>
+    requires { F.IsAlwaysCallable passes.now }
+    ensures { (tells : Decl → Bool) → Tells (FnReturnsAt F.Fn passes.now) tells → IfOk result (λ m. m ≡ with_pairs (filter (λ p. is_script p.1.func && tells p.1) of.now.own.eager) m.own.indexed (empty_module of.now.own.seeds)) }
+{
+    let mut target = Module::new(alloc, of.seeds())?;
+    for (key, declaration) in of.iter_fn() {
+        if declaration.func.is_script() && passes(declaration) {
+            register_pair(&mut target, alloc, key, declaration)?;
+        }
+    }
+    Ok(target)
+}
