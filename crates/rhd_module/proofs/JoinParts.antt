@@ -1,23 +1,43 @@
 -- What one module puts into another, one thing after the other.
-use Rattle.std.proofs.Common.{◌≡◌, Bool, true, false, cond, List, [], ◌∷◌, ◌++◌, is_some, is_none, refl, sym, ap, subst, ◌∙◌}
+use Rattle.std.proofs.Common.{◌≡◌, Bool, true, false, cond, List, [], ◌∷◌, ◌++◌, map, reverse, is_some, is_none, arith, refl, sym, ap, subst, append_assoc, append-nil, ◌∙◌}
+use Rattle.std.specs.Map.{keys_of}
 use Rattle.std.specs.declared.rc.Rc.{Rc}
-use Rattle.std.specs.List.{filter}
-use Rattle.std.proofs.lemmas.List.Elements.{filter-append}
+use Rattle.std.specs.List.{filter, IsDistinct, AllByRecursion, Contains}
+use Rattle.std.proofs.lemmas.List.Elements.{filter-append, Contains-append_left, Contains-append_right}
+use Rattle.std.proofs.lemmas.List.{map-append, reverse-append}
 use Rattle.rhd_value.specs.Tree.{Bytes, Tree}
-use Rattle.rhd_module.specs.Algebra.{put_subs, fill_subs}
+use Rattle.rhd_hash.specs.declared.key.Key.{Key}
+use Rattle.rhd_hash.specs.declared.mixer.Seeds.{Seeds}
+use Rattle.rhd_hash.specs.Keys.{key_eq}
+use Rattle.rhd_hash.specs.Table.{HasOwnHashes}
+use Rattle.rhd_decl.specs.declared.declaration.Declaration.{Declaration}
+use Rattle.rhd_decl.specs.declared.fault.DeclFault.{DeclFault}
+use Rattle.rhd_decl.specs.declared.fault.DeclFault.TheVariants.{HashCollision, IndexerNotAllowed, NotCallable, UnknownNumber, OutOfMemory}
+use Rattle.rhd_manifest.specs.Entry.{Entry, entry_pair}
+use Rattle.rhd_manifest.specs.Listing.{listed_in}
+use Rattle.rhd_manifest.proofs.Firsts.{listed_append, listed_last}
+use Rattle.rhd_module.specs.Algebra.{SomeClash, put_subs, fill_subs, over, over_all, flattened_with, Passes, merge_subs, merged_with, merged_all, rebuilt}
 use Rattle.rhd_module.specs.Contents.{put_sub, find_sub}
-use Rattle.rhd_module.specs.Tree.{ModuleTree, Subs, subs_of}
+use Rattle.rhd_module.specs.Index.{IsClash}
+use Rattle.rhd_value.specs.Entries.{put as put_var}
+use Rattle.rhd_module.specs.Manifests.{put_back, put_all, put_vars}
+use Rattle.rhd_module.specs.Registered.{put}
+use Rattle.rhd_module.specs.Tree.{ModuleTree, Lists, Subs, no_subs, sub, Pairs, subs_of, empty_module}
+use Rattle.rhd_module.proofs.Combined.{vars_append}
+use Rattle.rhd_module.proofs.Puts.{put_next, distinct_own}
+use Rattle.rhd_module.proofs.Registers.{all_append, all_keeps, back_append, clash_all, clash_back}
+use Rattle.rhd_module.proofs.Filled.{has_key, clash_among}
+use Rattle.rhd_module.proofs.LazyParts.{all_append as all_by}
 
--- of a filtered list with one element more, the element is there if it passes
-pub filter_one : {A : Type 0} (test : A → Bool) (front : List A) (x : A) (b : Bool) → test x ≡ b → filter test (front ++ x ∷ []) ≡ filter test front ++ cond b (x ∷ []) []
-filter_one test front x b is = filter-append test front (x ∷ []) ∙ (λ i. filter test front ++ cond (is i) (x ∷ []) [])
+-- one variable more
+vars_next : (test : Bytes × Tree → Bool) (front : List (Bytes × Tree)) (x : Bytes × Tree) (own : List (Bytes × Tree)) → put_vars (filter test (x ∷ [])) (put_vars (filter test front) own) ≡ put_vars (filter test (front ++ x ∷ [])) own
+vars_next test front x own = sym (ap (λ vs. put_vars vs own) (filter-append test front (x ∷ [])) ∙ vars_append (filter test front) (filter test (x ∷ [])) own)
 
-pub nothing_more : {A : Type 0} (xs : List A) → xs ++ [] ≡ xs
-nothing_more [] = refl
-nothing_more (x ∷ xs) = ap (λ ys. x ∷ ys) (nothing_more xs)
+pub vars_kept : (test : Bytes × Tree → Bool) (front : List (Bytes × Tree)) (x : Bytes × Tree) (own : List (Bytes × Tree)) → test x ≡ true → put_var x.0 x.1 (put_vars (filter test front) own) ≡ put_vars (filter test (front ++ x ∷ [])) own
+vars_kept test front x own is = (λ i. put_vars (cond (sym is i) (x ∷ []) []) (put_vars (filter test front) own)) ∙ vars_next test front x own
 
-pub filter_out : {A : Type 0} (test : A → Bool) (front : List A) (x : A) → test x ≡ false → filter test (front ++ x ∷ []) ≡ filter test front
-filter_out test front x is = filter_one test front x false is ∙ nothing_more (filter test front)
+pub vars_left : (test : Bytes × Tree → Bool) (front : List (Bytes × Tree)) (x : Bytes × Tree) (own : List (Bytes × Tree)) → test x ≡ false → put_vars (filter test front) own ≡ put_vars (filter test (front ++ x ∷ [])) own
+vars_left test front x own is = (λ i. put_vars (cond (sym is i) (x ∷ []) []) (put_vars (filter test front) own)) ∙ vars_next test front x own
 
 module _ {Z : Type 0} where
   -- one sub-module more
@@ -36,3 +56,175 @@ module _ {Z : Type 0} where
   pub filled_new : (front : List (Bytes × Rc ModuleTree Z)) (x : Bytes × Rc ModuleTree Z) (held : Subs) → is_some (find_sub x.0 (fill_subs (subs_of front) held)) ≡ false
       → fill_subs (subs_of (front ++ x ∷ [])) held ≡ put_sub x.0 x.1.value (fill_subs (subs_of front) held)
   filled_new front x held is = filled_next front x held ∙ (λ i. cond (is i) (fill_subs (subs_of front) held) (put_sub x.0 x.1.value (fill_subs (subs_of front) held)))
+
+-- declarations of distinct keys that are put in one after the other go last
+put_apart : (ps front : Pairs) → IsDistinct key_eq (keys_of (front ++ ps)) → put_all ps front ≡ front ++ ps
+put_apart [] front distinct = sym (append-nil front)
+put_apart (p ∷ ps) front distinct =
+    let next : put p.0 p.1 front ≡ front ++ p ∷ [] = put_next p.0 p.1 front ps distinct in
+    let D : Pairs → Type 0 = λ qs. IsDistinct key_eq (keys_of qs) in
+    ap (λ qs. put_all ps qs) next ∙ put_apart ps (front ++ p ∷ []) (subst D (sym (append_assoc front (p ∷ []) ps)) distinct) ∙ append_assoc front (p ∷ []) ps
+
+all_filter : (test : Key × Declaration → Bool) (P : Key → Type 0) (ps : Pairs) → AllByRecursion P (keys_of ps) → AllByRecursion P (keys_of (filter test ps))
+all_filter test P [] all = tt
+all_filter test P (p ∷ ps) all = by (test p) (all_filter test P ps all.1)
+  where
+    by : (b : Bool) → AllByRecursion P (keys_of (filter test ps)) → AllByRecursion P (keys_of (cond b (p ∷ filter test ps) (filter test ps)))
+    by true more = (all.0, more)
+    by false more = more
+
+distinct_filter : (test : Key × Declaration → Bool) (ps : Pairs) → IsDistinct key_eq (keys_of ps) → IsDistinct key_eq (keys_of (filter test ps))
+unfolding IsDistinct
+distinct_filter test [] distinct = tt
+distinct_filter test (p ∷ ps) distinct = by (test p) (all_filter test (λ k. key_eq p.0 k ≡ false) ps distinct.0) (distinct_filter test ps distinct.1)
+  where
+    by : (b : Bool) → AllByRecursion (λ k. key_eq p.0 k ≡ false) (keys_of (filter test ps)) → IsDistinct key_eq (keys_of (filter test ps)) → IsDistinct key_eq (keys_of (cond b (p ∷ filter test ps) (filter test ps)))
+    by true others more = (others, more)
+    by false others more = more
+
+-- those of a module that pass, put into an empty one, are these
+pub kept_alone : (test : Key × Declaration → Bool) (s : Seeds) (ps : Pairs) → HasOwnHashes s (keys_of ps) → put_all (filter test ps) [] ≡ filter test ps
+kept_alone test s ps own = put_apart (filter test ps) [] (distinct_filter test ps (distinct_own s (keys_of ps) own))
+
+-- Declarations that pass a test, one after the other.
+module _ (test : Key × Declaration → Bool) where
+  passing_next : (front : Pairs) (p : Key × Declaration) (ps : Pairs) → put_all (filter test (front ++ p ∷ [])) ps ≡ put_all (filter test (p ∷ [])) (put_all (filter test front) ps)
+  passing_next front p ps = ap (λ qs. put_all qs ps) (filter-append test front (p ∷ [])) ∙ all_append (filter test front) (filter test (p ∷ [])) ps
+
+  pub passed_next : (front : Pairs) (p : Key × Declaration) (ps : Pairs) → put_all (filter test (p ∷ [])) (put_all (filter test front) ps) ≡ put_all (filter test (front ++ p ∷ [])) ps
+  passed_next front p ps = sym (passing_next front p ps)
+
+  pub kept_next : (front : Pairs) (p : Key × Declaration) (ps : Pairs) → test p ≡ true → put p.0 p.1 (put_all (filter test front) ps) ≡ put_all (filter test (front ++ p ∷ [])) ps
+  kept_next front p ps is = (λ i. put_all (cond (sym is i) (p ∷ []) []) (put_all (filter test front) ps)) ∙ passed_next front p ps
+
+  pub left_next : (front : Pairs) (p : Key × Declaration) (ps : Pairs) → test p ≡ false → put_all (filter test front) ps ≡ put_all (filter test (front ++ p ∷ [])) ps
+  left_next front p ps is = (λ i. put_all (cond (sym is i) (p ∷ []) []) (put_all (filter test front) ps)) ∙ passed_next front p ps
+
+  whole_passed : (front later all : Pairs) (p : Key × Declaration) (ps : Pairs) → all ≡ front ++ p ∷ later → put_all (filter test later) (put_all (filter test (front ++ p ∷ [])) ps) ≡ put_all (filter test all) ps
+  whole_passed front later all p ps is =
+      sym (all_append (filter test (front ++ p ∷ [])) (filter test later) ps) ∙ ap (λ qs. put_all qs ps) (sym (filter-append test (front ++ p ∷ []) later)) ∙ ap (λ qs. put_all (filter test qs) ps) (append_assoc front (p ∷ []) later ∙ sym is)
+
+  pub clash_passed : (s : Seeds) (front later all : Pairs) (p : Key × Declaration) (ps : Pairs) (fault : DeclFault) → all ≡ front ++ p ∷ later
+      → IsClash s (keys_of (put_all (filter test (p ∷ [])) (put_all (filter test front) ps))) fault → IsClash s (keys_of (put_all (filter test all) ps)) fault
+  clash_passed s front later all p ps fault is c =
+      let P : Pairs → Type 0 = λ qs. IsClash s (keys_of qs) fault in
+      subst P (whole_passed front later all p ps is) (clash_all s (filter test later) (put_all (filter test (front ++ p ∷ [])) ps) fault (subst P (passed_next front p ps) c))
+
+  pub clash_kept : (s : Seeds) (front later all : Pairs) (p : Key × Declaration) (ps : Pairs) (fault : DeclFault) → all ≡ front ++ p ∷ later → test p ≡ true
+      → IsClash s (keys_of (put p.0 p.1 (put_all (filter test front) ps))) fault → IsClash s (keys_of (put_all (filter test all) ps)) fault
+  clash_kept s front later all p ps fault is passes c =
+      let P : Pairs → Type 0 = λ qs. IsClash s (keys_of qs) fault in
+      clash_passed s front later all p ps fault is (subst P (λ i. put_all (cond (sym passes i) (p ∷ []) []) (put_all (filter test front) ps)) c)
+
+  back_split : (xs ys ps : Pairs) → put_back (filter test (xs ++ ys)) ps ≡ put_back (filter test xs) (put_back (filter test ys) ps)
+  back_split xs ys ps = ap (λ qs. put_back qs ps) (filter-append test xs ys) ∙ back_append (filter test xs) (filter test ys) ps
+
+  -- listed functions, one after the other
+  module _ (seeds : Seeds) where
+    abbrev pairs : List Entry → Pairs
+    pairs es = map (entry_pair seeds) es
+
+    pub entry_next : (front : List Entry) (e : Entry) (ps : Pairs) → put_back (filter test (pairs (e ∷ []))) (put_back (filter test (pairs (reverse front))) ps) ≡ put_back (filter test (pairs (reverse (front ++ e ∷ [])))) ps
+    entry_next front e ps = sym (ap (λ es. put_back (filter test (pairs es)) ps) (reverse-append front (e ∷ [])) ∙ back_split (pairs (e ∷ [])) (pairs (reverse front)) ps)
+
+    pub clash_entry : (front later es : List Entry) (e : Entry) (ps : Pairs) (fault : DeclFault) → es ≡ front ++ e ∷ later
+        → IsClash seeds (keys_of (put_back (filter test (pairs (e ∷ []))) (put_back (filter test (pairs (reverse front))) ps))) fault → IsClash seeds (keys_of (put_back (filter test (pairs (reverse es))) ps)) fault
+    clash_entry front later es e ps fault is c =
+        let P : Pairs → Type 0 = λ qs. IsClash seeds (keys_of qs) fault in
+        let here = put_back (filter test (pairs (reverse (front ++ e ∷ [])))) ps in
+        let parts : reverse es ≡ reverse later ++ reverse (front ++ e ∷ []) = ap reverse (is ∙ sym (append_assoc front (e ∷ []) later)) ∙ reverse-append (front ++ e ∷ []) later in
+        let whole : put_back (filter test (pairs (reverse es))) ps ≡ put_back (filter test (pairs (reverse later))) here =
+        ap (λ xs. put_back (filter test (pairs xs)) ps) parts ∙ ap (λ xs. put_back (filter test xs) ps) (map-append (entry_pair seeds) (reverse later) (reverse (front ++ e ∷ [])))
+        ∙ back_split (pairs (reverse later)) (pairs (reverse (front ++ e ∷ []))) ps in
+        subst P (sym whole) (clash_back seeds (filter test (pairs (reverse later))) here fault (subst P (entry_next front e ps) c))
+
+    module _ {Z : Type 0} where
+      pub part_next : (front : List (Rc (List Entry) Z)) (x : Rc (List Entry) Z) (ps : Pairs)
+          → put_back (filter test (pairs (reverse x.value))) (put_back (filter test (pairs (listed_in front))) ps) ≡ put_back (filter test (pairs (listed_in (front ++ x ∷ [])))) ps
+      part_next front x ps =
+          sym (ap (λ es. put_back (filter test (pairs es)) ps) (listed_last front x) ∙ ap (λ xs. put_back (filter test xs) ps) (map-append (entry_pair seeds) (reverse x.value) (listed_in front))
+          ∙ back_split (pairs (reverse x.value)) (pairs (listed_in front)) ps)
+
+      pub clash_part : (front later all : List (Rc (List Entry) Z)) (x : Rc (List Entry) Z) (ps : Pairs) (fault : DeclFault) → all ≡ front ++ x ∷ later
+          → IsClash seeds (keys_of (put_back (filter test (pairs (reverse x.value))) (put_back (filter test (pairs (listed_in front))) ps))) fault → IsClash seeds (keys_of (put_back (filter test (pairs (listed_in all))) ps)) fault
+      clash_part front later all x ps fault is c =
+          let P : Pairs → Type 0 = λ qs. IsClash seeds (keys_of qs) fault in
+          let here = put_back (filter test (pairs (listed_in (front ++ x ∷ [])))) ps in
+          let parts : listed_in all ≡ listed_in later ++ listed_in (front ++ x ∷ []) = ap listed_in (is ∙ sym (append_assoc front (x ∷ []) later)) ∙ listed_append (front ++ x ∷ []) later in
+          let whole : put_back (filter test (pairs (listed_in all))) ps ≡ put_back (filter test (pairs (listed_in later))) here =
+          ap (λ xs. put_back (filter test (pairs xs)) ps) parts ∙ ap (λ xs. put_back (filter test xs) ps) (map-append (entry_pair seeds) (listed_in later) (listed_in (front ++ x ∷ [])))
+          ∙ back_split (pairs (listed_in later)) (pairs (listed_in (front ++ x ∷ []))) ps in
+          subst P (sym whole) (clash_back seeds (filter test (pairs (listed_in later))) here fault (subst P (part_next front x ps) c))
+
+-- Modules put over one after the other.
+pub over_seeds : (subs : Subs) (own : Lists) → (over_all subs own).seeds ≡ own.seeds
+over_seeds no_subs own = refl
+over_seeds (sub name other below later) own = over_seeds later (over other (over_all below own)) ∙ over_seeds below own
+
+over_keeps : (subs : Subs) (own : Lists) (q : Key) → has_key q (keys_of own.eager) ≡ true → has_key q (keys_of (over_all subs own).eager) ≡ true
+over_keeps no_subs own q h = h
+over_keeps (sub name other below later) own q h = over_keeps later (over other (over_all below own)) q (all_keeps other.eager (over_all below own).eager q (over_keeps below own q h))
+
+all_parts : (P : ModuleTree → Type 0) (xs ys : List ModuleTree) → AllByRecursion P (xs ++ ys) → AllByRecursion P xs × AllByRecursion P ys
+all_parts P [] ys all = (tt, all)
+all_parts P (x ∷ xs) ys all = let parts = all_parts P xs ys all.1 in ((all.0, parts.0), parts.1)
+
+-- a clash in one of some modules is one in one of more
+pub clash_in : (ms ns : List ModuleTree) (fault : DeclFault) → ((t : ModuleTree) → Contains ms t → Contains ns t) → SomeClash ms fault → SomeClash ns fault
+clash_in ms ns (HashCollision held new) more (m, there, clash) = (m, more m there, clash)
+clash_in ms ns (IndexerNotAllowed key) more c = c
+clash_in ms ns NotCallable more c = c
+clash_in ms ns (UnknownNumber n l) more c = c
+clash_in ms ns OutOfMemory more c = c
+
+pub clash_first : (m : ModuleTree) (ms : List ModuleTree) (fault : DeclFault) → IsClash m.own.seeds (keys_of m.own.eager) fault → SomeClash (m ∷ ms) fault
+clash_first m ms (HashCollision held new) c = (m, (0, omega arith, refl), c)
+clash_first m ms (IndexerNotAllowed key) c = c
+clash_first m ms NotCallable c = c
+clash_first m ms (UnknownNumber n l) c = c
+clash_first m ms OutOfMemory c = tt
+
+module _ {Z : Type 0} where
+  over_split : (front later : List (Bytes × Rc ModuleTree Z)) (own : Lists) → over_all (subs_of (front ++ later)) own ≡ over_all (subs_of later) (over_all (subs_of front) own)
+  over_split [] later own = refl
+  over_split (f ∷ front) later own = over_split front later (over f.1.value.own (over_all f.1.value.subs own))
+
+  -- one sub-module more, with all below it
+  pub over_next : (front : List (Bytes × Rc ModuleTree Z)) (x : Bytes × Rc ModuleTree Z) (m : ModuleTree)
+      → flattened_with x.1.value (record m { own = over_all (subs_of front) m.own }) ≡ record m { own = over_all (subs_of (front ++ x ∷ [])) m.own }
+  over_next [] x m = refl
+  over_next (f ∷ front) x m = over_next front x (record m { own = over f.1.value.own (over_all f.1.value.subs m.own) })
+
+  -- a clash below is one of all
+  pub clash_over : (s : Seeds) (front later all : List (Bytes × Rc ModuleTree Z)) (x : Bytes × Rc ModuleTree Z) (other : Lists) (m : ModuleTree) (fault : DeclFault) → all ≡ front ++ x ∷ later
+      → IsClash s (keys_of (flattened_with x.1.value (record m { own = over_all (subs_of front) m.own })).own.eager) fault → IsClash s (keys_of (over other (over_all (subs_of all) m.own)).eager) fault
+  clash_over s front later all x other m fault is c =
+      let here : Lists = over_all (subs_of (front ++ x ∷ [])) m.own in
+      let whole : over_all (subs_of all) m.own ≡ over_all (subs_of later) here =
+      ap (λ (es : List (Bytes × Rc ModuleTree Z)). over_all (subs_of es) m.own) (is ∙ sym (append_assoc front (x ∷ []) later)) ∙ over_split (front ++ x ∷ []) later m.own in
+      let at : IsClash s (keys_of here.eager) fault = subst (λ (t : ModuleTree). IsClash s (keys_of t.own.eager) fault) (over_next front x m) c in
+      let below : IsClash s (keys_of (over_all (subs_of later) here).eager) fault = clash_among s s (keys_of here.eager) (keys_of (over_all (subs_of later) here).eager) fault refl (over_keeps (subs_of later) here) at in
+      subst (λ (own : Lists). IsClash s (keys_of (over other own).eager) fault) (sym whole) (clash_all s other.eager (over_all (subs_of later) here).eager fault below)
+
+  merged_next : (tells : Passes) (s : Seeds) (front : List (Bytes × Rc ModuleTree Z)) (x : Bytes × Rc ModuleTree Z) (held : Subs)
+      → put_sub x.0 (merged_with tells x.1.value (empty_module s)) (merge_subs tells s (subs_of front) held) ≡ merge_subs tells s (subs_of (front ++ x ∷ [])) held
+  merged_next tells s [] x held = refl
+  merged_next tells s (f ∷ front) x held = merged_next tells s front x (put_sub f.0 (merged_with tells f.1.value (empty_module s)) held)
+
+  pub merged_more : (tells : Passes) (s : Seeds) (front : List (Bytes × Rc ModuleTree Z)) (x : Bytes × Rc ModuleTree Z) (v : ModuleTree) (held : Subs) → v ≡ merged_with tells x.1.value (empty_module s)
+      → put_sub x.0 v (merge_subs tells s (subs_of front) held) ≡ merge_subs tells s (subs_of (front ++ x ∷ [])) held
+  merged_more tells s front x v held is = ap (λ (u : ModuleTree). put_sub x.0 u (merge_subs tells s (subs_of front) held)) is ∙ merged_next tells s front x held
+
+  -- what holds of all rebuilt ones
+  pub rebuilt_more : (P : ModuleTree → Type 0) (tells : Passes) (s : Seeds) (front : List (Bytes × Rc ModuleTree Z)) (x : Bytes × Rc ModuleTree Z) → AllByRecursion P (rebuilt tells s (subs_of front)) → AllByRecursion P (merged_all tells x.1.value (empty_module s))
+      → AllByRecursion P (rebuilt tells s (subs_of (front ++ x ∷ [])))
+  rebuilt_more P tells s [] x all more = (more.0, all_by P (rebuilt tells s x.1.value.subs) [] more.1 tt)
+  rebuilt_more P tells s (f ∷ front) x all more =
+      let below = rebuilt tells s f.1.value.subs in
+      let parts = all_parts P below (rebuilt tells s (subs_of front)) all.1 in
+      (all.0, all_by P below (rebuilt tells s (subs_of (front ++ x ∷ []))) parts.0 (rebuilt_more P tells s front x parts.1 more))
+
+  -- those of one sub-module are among those of all
+  pub rebuilt_at : (tells : Passes) (s : Seeds) (front later : List (Bytes × Rc ModuleTree Z)) (x : Bytes × Rc ModuleTree Z) (t : ModuleTree) → Contains (merged_all tells x.1.value (empty_module s)) t → Contains (rebuilt tells s (subs_of (front ++ x ∷ later))) t
+  rebuilt_at tells s [] later x t h = Contains-append_left (merged_all tells x.1.value (empty_module s)) (rebuilt tells s (subs_of later)) t h
+  rebuilt_at tells s (f ∷ front) later x t h = Contains-append_right (merged_all tells f.1.value (empty_module s)) (rebuilt tells s (subs_of (front ++ x ∷ later))) t (rebuilt_at tells s front later x t h)

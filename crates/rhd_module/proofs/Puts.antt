@@ -47,7 +47,7 @@ apart k d (p ∷ ps) rest distinct =
     let others = keys_of (ps ++ (k, d) ∷ rest) in
     (among k d p.0 ps rest (IsDistinct-head key_eq p.0 others distinct), apart k d ps rest (IsDistinct-tail key_eq p.0 others distinct))
 
-put_next : (k : Key) (d : Declaration) (front rest : Pairs) → IsDistinct key_eq (keys_of (front ++ (k, d) ∷ rest)) → put k d front ≡ front ++ (k, d) ∷ []
+pub put_next : (k : Key) (d : Declaration) (front rest : Pairs) → IsDistinct key_eq (keys_of (front ++ (k, d) ∷ rest)) → put k d front ≡ front ++ (k, d) ∷ []
 put_next k d front rest distinct = put_last k d front (apart k d front rest distinct)
 
 -- of distinct declarations put in one after the other, each goes last

@@ -2,9 +2,9 @@
 use Rattle.std.specs.Prelude.{◌≡◌, ℕ, Bool, false, ◌&&◌, List, [], ◌∷◌, ◌++◌, map, if◌then◌else◌, is_none, is_some, ◌<◌, ◌^◌, Result, Ok, Err}
 use Rattle.std.specs.Borrow.{Bor}
 use Rattle.std.specs.List.{filter, AllByRecursion, Contains}
-use Rattle.std.specs.Map.{lookup, keys_of}
+use Rattle.std.specs.Map.{keys_of}
 use Rattle.rhd_value.specs.Tree.{Bytes, Tree}
-use Rattle.rhd_value.specs.Same.{text_eq}
+use Rattle.rhd_value.specs.Entries.{found}
 use Rattle.rhd_hash.specs.declared.mixer.Seeds.{Seeds}
 use Rattle.rhd_hash.specs.Keys.{is_script_key}
 use Rattle.rhd_hash.specs.Table.{HasOwnHashes, Clashing}
@@ -56,7 +56,7 @@ flattened_with other m = record m { own = over other.own (over_all other.subs m.
 
 -- variables and sub-modules under new names alone
 abbrev pub fill_vars : List (Bytes × Tree) → List (Bytes × Tree) → List (Bytes × Tree)
-fill_vars others own = put_vars (filter (λ v. is_none (lookup (text_eq v.0) own)) others) own
+fill_vars others own = put_vars (filter (λ v. is_none (found v.0 own)) others) own
 
 abbrev pub fill_subs : Subs → Subs → Subs
 fill_subs no_subs held = held
@@ -112,7 +112,7 @@ rebuilt passes seeds (sub name own below later) = merged_with passes (record { o
 
 -- `retain_script_functions`: the scripts that pass; natives and manifests go
 abbrev pub scripts_that : Passes → ModuleTree → ModuleTree
-scripts_that passes m = record m { own = record m.own { eager = filter (λ p. is_script p.1.func && passes p.1) m.own.eager; manifests = []; listed = []; indexed = false } }
+scripts_that passes m = record m { own = record m.own { eager = that_pass (λ d. is_script d.func && passes d) m.own.eager; manifests = []; listed = []; indexed = false } }
 
 -- what a test answers is told by a function
 abbrev pub Tells : (Declaration → Bool → Type 0) → Passes → Type 0

@@ -6,7 +6,7 @@ ghost use Rattle.rhd_func.specs.declared.access.FnAccess.{FnAccess as Access};
 ghost use Rattle.rhd_func.specs.declared.access.FnNamespace.{FnNamespace as Namespace};
 ghost use Rattle.rhd_module.specs.Algebra.{merged_with, merged_all, scripts_that, passes_by, IsJoined, Combines, Flattens, Fills, Merges, FilterTells, ScriptFilterTells};
 
-use crate::joining::{combine, fill, flatten, merge, scripts_that};
+use crate::joining::{combine, fill, flatten, merge, retained};
 use crate::module::Module;
 use rhd_decl::{DeclFault, Declaration};
 use rhd_func::{FnAccess, FnNamespace};
@@ -101,9 +101,10 @@ impl Module {
         ensures ok { (tells : Namespace → Access → Bytes → ℕ → Bool) → ScriptFilterTells (F.post filter) tells → OnOk result (self.new ≡ scripts_that (passes_by (λ namespace access script. tells namespace access)) self.old) }
         ensures err { OnErr result (self.new ≡ self.old) }
     {
-        let kept = scripts_that(alloc, self, &|declaration: &Declaration| {
+        let kept = retained(alloc, self, &|declaration: &Declaration| {
             let metadata = &declaration.metadata;
-            filter(metadata.namespace, metadata.access, &metadata.name, metadata.num_params)
+            declaration.func.is_script()
+                && filter(metadata.namespace, metadata.access, &metadata.name, metadata.num_params)
         });
         match kept {
             Ok(kept) => {

@@ -2,9 +2,8 @@
 
 ghost use Rattle.std.specs.Prelude.{◌≡◌, ◌∷◌, ◌++◌, [], Bool, true, false, ◌&&◌, map, reverse, IfOk, IfErr, OnOk, OnErr};
 ghost use Rattle.std.specs.Fn.{FnReturnsAt};
-ghost use Rattle.std.specs.List.{AllByRecursion, filter};
+ghost use Rattle.std.specs.List.{AllByRecursion};
 ghost use Rattle.std.specs.Map.{keys_of};
-ghost use Rattle.rhd_func.specs.Funcs.{is_script};
 ghost use Rattle.rhd_decl.specs.declared.declaration.Declaration.{Declaration as Decl};
 ghost use Rattle.rhd_manifest.specs.Entry.{entry_pair};
 ghost use Rattle.rhd_manifest.specs.Listing.{listed_in};
@@ -14,7 +13,7 @@ ghost use Rattle.rhd_module.specs.Manifests.{put_vars, put_all, put_back, with_c
 ghost use Rattle.rhd_module.specs.Shown.{shown, without};
 ghost use Rattle.rhd_module.specs.Tree.{empty_module};
 
-use crate::manifests::{mark_parts, register_declared, register_pair};
+use crate::manifests::{mark_parts, put_entry, register_declared, register_pair};
 use crate::module::Module;
 use rhd_decl::{DeclFault, Declaration};
 use rhd_func::ManifestId;
@@ -120,7 +119,7 @@ fn register_entry_that<F: Fn(&Declaration) -> bool>(
     if !passes(&declaration) {
         return Ok(());
     }
-    made.put_fn(alloc, entry.key().dup(alloc)?, declaration)
+    put_entry(made, alloc, entry, declaration)
 }
 
 /// The same of several, from the first to the last.
@@ -288,7 +287,7 @@ pub(crate) fn flatten(made: &mut Module, alloc: Global, other: &Module) -> Resul
     ensures table { OnOk result (HasOwnTable (flattened_with other.now made.old)) }
     ensures clash { IfErr result (IsClash made.old.own.seeds (keys_of (flattened_with other.now made.old).own.eager)) }
 {
-    for (_, child) in other.iter_sub_modules() {
+    for (_, child) in other.subs.iter() {
         flatten(made, alloc, child)?;
     }
     put_over(made, alloc, other)?;
@@ -349,7 +348,7 @@ pub(crate) fn merge<F: Fn(&Declaration) -> bool>(
     ensures clash { (tells : Decl → Bool) → Tells (FnReturnsAt F.Fn passes.now) tells → IfErr result (SomeClash (merged_all tells other.now made.old)) }
 {
     merge_own(made, alloc, other, passes)?;
-    for (name, child) in other.iter_sub_modules() {
+    for (name, child) in other.subs.iter() {
         let mut rebuilt = Module::new(alloc, made.seeds())?;
         merge(&mut rebuilt, alloc, child, passes)?;
         made.set_sub_module(alloc, name.dup(alloc)?, Rc::new(alloc, rebuilt)?)?;
@@ -358,20 +357,17 @@ pub(crate) fn merge<F: Fn(&Declaration) -> bool>(
     Ok(())
 }
 
-/// A module in which the scripts of another one that pass are declared.
-pub(crate) fn scripts_that<F: Fn(&Declaration) -> bool>(
+/// A module in which what passes of the declarations of another one is declared.
+pub(crate) fn retained<F: Fn(&Declaration) -> bool>(
     alloc: Global,
     of: &Module,
     passes: &F,
 ) -> Result<Module, DeclFault>
     requires { F.IsAlwaysCallable passes.now }
-    ensures { (tells : Decl → Bool) → Tells (FnReturnsAt F.Fn passes.now) tells → IfOk result (λ m. m ≡ with_pairs (filter (λ p. is_script p.1.func && tells p.1) of.now.own.eager) m.own.indexed (empty_module of.now.own.seeds)) }
+    ensures { (tells : Decl → Bool) → Tells (FnReturnsAt F.Fn passes.now) tells → IfOk result (λ m. m ≡ with_pairs (that_pass tells of.now.own.eager) m.own.indexed (empty_module of.now.own.seeds)) }
 {
     let mut target = Module::new(alloc, of.seeds())?;
-    for (key, declaration) in of.iter_fn() {
-        if declaration.func.is_script() && passes(declaration) {
-            register_pair(&mut target, alloc, key, declaration)?;
-        }
-    }
+    register_declared_that(&mut target, alloc, of, passes)?;
+    let _apart = of.iter_fn();
     Ok(target)
 }

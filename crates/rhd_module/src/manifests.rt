@@ -6,7 +6,7 @@ ghost use Rattle.std.specs.Option.{option_copied};
 ghost use Rattle.rhd_hash.specs.Filter.{is_marked};
 ghost use Rattle.rhd_hash.specs.Table.{HasOwnHashes};
 ghost use Rattle.std.specs.Map.{keys_of};
-ghost use Rattle.rhd_manifest.specs.Entry.{entry_key, entry_pair};
+ghost use Rattle.rhd_manifest.specs.Entry.{entry_key, entry_decl, entry_pair};
 ghost use Rattle.rhd_manifest.specs.Listing.{listed_in};
 ghost use Rattle.rhd_manifest.specs.Rank.{rank};
 ghost use Rattle.rhd_module.specs.Below.{lists_dynamic};
@@ -93,7 +93,21 @@ pub(crate) fn mark_parts(filter: &mut BloomFilterU64<8>, seeds: Seeds, parts: &[
     }
 }
 
-/// Declares a listed function in a module, in the place of one of an equal key, else last.
+/// Declares a listed function, as this declaration of it, in the place of one of an equal key, else last.
+pub(crate) fn put_entry(
+    target: &mut Module,
+    alloc: Global,
+    entry: &FnManifestEntry,
+    declaration: Declaration,
+) -> Result<(), DeclFault>
+    requires { declaration ≡ entry_decl target.old.own.seeds entry.now }
+    ensures ok { OnOk result (target.new ≡ with_pairs (put_back (entry_pair target.old.own.seeds entry.now ∷ []) target.old.own.eager) target.new.own.indexed target.old) }
+    ensures clash { IfErr result (IsClash target.old.own.seeds (keys_of (put_back (entry_pair target.old.own.seeds entry.now ∷ []) target.old.own.eager))) }
+{
+    target.put_fn(alloc, entry.key().dup(alloc)?, declaration)
+}
+
+/// The same as a declaration of its own.
 fn register_entry(
     target: &mut Module,
     alloc: Global,
@@ -103,7 +117,7 @@ fn register_entry(
     ensures clash { IfErr result (IsClash target.old.own.seeds (keys_of (put_back (entry_pair target.old.own.seeds entry.now ∷ []) target.old.own.eager))) }
 {
     let declaration = entry.declaration(alloc, target.seeds())?;
-    target.put_fn(alloc, entry.key().dup(alloc)?, declaration)
+    put_entry(target, alloc, entry, declaration)
 }
 
 /// The same of several, from the first to the last.

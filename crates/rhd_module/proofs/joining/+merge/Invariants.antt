@@ -13,3 +13,6 @@ invariant-loop-name g l =
     (front : List (Bytes × Rc ModuleTree _)) × (l.initial.name-iterator ≡ front ++ l.name-iterator)
     × ((tells : Declaration → Bool) → Tells (FnReturnsAt g.F.Fn l.passes) tells → l.made ≡ record { own = record l.initial.made.own { indexed = l.made.own.indexed }; subs = merge_subs tells l.initial.made.own.seeds (subs_of front) l.initial.made.subs })
     × ((tells : Declaration → Bool) → Tells (FnReturnsAt g.F.Fn l.passes) tells → AllByRecursion HasOwnTable (rebuilt tells l.initial.made.own.seeds (subs_of front)))
+
+abbrev pub decreases-merge : goal.decreases-merge
+decreases-merge g l = goal.size-merge g l
