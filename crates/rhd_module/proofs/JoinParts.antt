@@ -1,6 +1,7 @@
 -- What one module puts into another, one thing after the other.
-use Rattle.std.proofs.Common.{◌≡◌, Bool, true, false, cond, List, [], ◌∷◌, ◌++◌, map, reverse, is_some, is_none, arith, refl, sym, ap, subst, append_assoc, append-nil, ◌∙◌}
+use Rattle.std.proofs.Common.{◌≡◌, Bool, true, false, cond, List, [], ◌∷◌, ◌++◌, map, reverse, is_some, is_none, arith, true≢false, ◌+◌, ◌≤◌, refl, sym, ap, subst, append_assoc, append-nil, ◌∙◌}
 use Rattle.std.specs.Map.{keys_of}
+use Rattle.std.specs.Prelude.{Result, Ok, Err, IsErr, IsErrAnd}
 use Rattle.std.specs.declared.rc.Rc.{Rc}
 use Rattle.std.specs.List.{filter, IsDistinct, AllByRecursion, Contains}
 use Rattle.std.proofs.lemmas.List.Elements.{filter-append, Contains-append_left, Contains-append_right}
@@ -16,13 +17,13 @@ use Rattle.rhd_decl.specs.declared.fault.DeclFault.TheVariants.{HashCollision, I
 use Rattle.rhd_manifest.specs.Entry.{Entry, entry_pair}
 use Rattle.rhd_manifest.specs.Listing.{listed_in}
 use Rattle.rhd_manifest.proofs.Firsts.{listed_append, listed_last}
-use Rattle.rhd_module.specs.Algebra.{SomeClash, put_subs, fill_subs, over, over_all, flattened_with, Passes, merge_subs, merged_with, merged_all, rebuilt}
+use Rattle.rhd_module.specs.Algebra.{SomeClash, Joins, IsJoined, put_subs, fill_subs, over, over_all, flattened_with, Passes, merge_subs, merged_with, merged_all, rebuilt}
 use Rattle.rhd_module.specs.Contents.{put_sub, find_sub}
 use Rattle.rhd_module.specs.Index.{IsClash}
 use Rattle.rhd_value.specs.Entries.{put as put_var}
 use Rattle.rhd_module.specs.Manifests.{put_back, put_all, put_vars}
 use Rattle.rhd_module.specs.Registered.{put}
-use Rattle.rhd_module.specs.Tree.{ModuleTree, Lists, Subs, no_subs, sub, Pairs, subs_of, empty_module}
+use Rattle.rhd_module.specs.Tree.{ModuleTree, Lists, Subs, no_subs, sub, Pairs, subs_of, depth, empty_module}
 use Rattle.rhd_module.proofs.Combined.{vars_append}
 use Rattle.rhd_module.proofs.Puts.{put_next, distinct_own}
 use Rattle.rhd_module.proofs.Registers.{all_append, all_keeps, back_append, clash_all, clash_back}
@@ -184,6 +185,15 @@ clash_first m ms NotCallable c = c
 clash_first m ms (UnknownNumber n l) c = c
 clash_first m ms OutOfMemory c = tt
 
+-- what refuses a join
+pub refused_join : {A : Type 0} (r : Result A DeclFault) (e : DeclFault) (changed : List ModuleTree) (done old : ModuleTree) → IsErr r × IsErrAnd r (λ f. f ≡ e) → SomeClash changed e → Joins changed done old r old
+refused_join (Ok a) e changed done old h c = absurd (true≢false (sym h.0))
+refused_join (Err f) e changed done old h c = (subst (SomeClash changed) (sym h.1) c, refl)
+
+pub refused_copy : (r : Result ModuleTree DeclFault) (e : DeclFault) (changed : List ModuleTree) (done : ModuleTree) → IsErr r × IsErrAnd r (λ f. f ≡ e) → SomeClash changed e → IsJoined changed done r
+refused_copy (Ok a) e changed done h c = absurd (true≢false (sym h.0))
+refused_copy (Err f) e changed done h c = subst (SomeClash changed) (sym h.1) c
+
 module _ {Z : Type 0} where
   over_split : (front later : List (Bytes × Rc ModuleTree Z)) (own : Lists) → over_all (subs_of (front ++ later)) own ≡ over_all (subs_of later) (over_all (subs_of front) own)
   over_split [] later own = refl
@@ -205,6 +215,11 @@ module _ {Z : Type 0} where
       let at : IsClash s (keys_of here.eager) fault = subst (λ (t : ModuleTree). IsClash s (keys_of t.own.eager) fault) (over_next front x m) c in
       let below : IsClash s (keys_of (over_all (subs_of later) here).eager) fault = clash_among s s (keys_of here.eager) (keys_of (over_all (subs_of later) here).eager) fault refl (over_keeps (subs_of later) here) at in
       subst (λ (own : Lists). IsClash s (keys_of (over other own).eager) fault) (sym whole) (clash_all s other.eager (over_all (subs_of later) here).eager fault below)
+
+  -- a sub-module goes less deep than the module
+  pub depth_at : (front later : List (Bytes × Rc ModuleTree Z)) (x : Bytes × Rc ModuleTree Z) → depth x.1.value.subs + 1 ≤ depth (subs_of (front ++ x ∷ later))
+  depth_at [] later x = omega arith
+  depth_at (f ∷ front) later x = omega (arith, depth_at front later x)
 
   merged_next : (tells : Passes) (s : Seeds) (front : List (Bytes × Rc ModuleTree Z)) (x : Bytes × Rc ModuleTree Z) (held : Subs)
       → put_sub x.0 (merged_with tells x.1.value (empty_module s)) (merge_subs tells s (subs_of front) held) ≡ merge_subs tells s (subs_of (front ++ x ∷ [])) held

@@ -6,7 +6,7 @@ ghost use Rattle.rhd_func.specs.declared.access.FnAccess.{FnAccess as Access};
 ghost use Rattle.rhd_func.specs.declared.access.FnNamespace.{FnNamespace as Namespace};
 ghost use Rattle.rhd_module.specs.Algebra.{merged_with, merged_all, scripts_that, passes_by, IsJoined, Combines, Flattens, Fills, Merges, FilterTells, ScriptFilterTells};
 
-use crate::joining::{combine, fill, flatten, merge, retained};
+use crate::joining::{combine, fill, flatten, merge_that, merged, retained};
 use crate::module::Module;
 use rhd_decl::{DeclFault, Declaration};
 use rhd_func::{FnAccess, FnNamespace};
@@ -58,9 +58,7 @@ impl Module {
     pub fn merge(&mut self, alloc: Global, other: &Module) -> Result<(), DeclFault>
         ensures { Merges (λ d. true) other.now self.old result self.new }
     {
-        let made = self.plus(alloc, other)?;
-        *self = made;
-        Ok(())
+        merge_that(self, alloc, other, &|_declaration: &Declaration| true)
     }
 
     /// Merges as `merge` does the functions alone that a filter passes, in sub-modules too. It tells by the
@@ -74,8 +72,7 @@ impl Module {
         requires { F.IsAlwaysCallable filter }
         ensures { (tells : Namespace → Access → Bool → Bytes → ℕ → Bool) → FilterTells (F.post filter) tells → Merges (passes_by tells) other.now self.old result self.new }
     {
-        let mut made = self.dup(alloc)?;
-        merge(&mut made, alloc, other, &|declaration: &Declaration| {
+        merge_that(self, alloc, other, &|declaration: &Declaration| {
             let metadata = &declaration.metadata;
             filter(
                 metadata.namespace,
@@ -84,9 +81,7 @@ impl Module {
                 &metadata.name,
                 metadata.num_params,
             )
-        })?;
-        *self = made;
-        Ok(())
+        })
     }
 
     /// Keeps the scripts alone that a filter passes; natives and manifests go. It tells by the namespace,
@@ -119,9 +114,7 @@ impl Module {
     pub fn plus(&self, alloc: Global, other: &Module) -> Result<Module, DeclFault>
         ensures { IsJoined (merged_all (λ d. true) other.now self.now) (merged_with (λ d. true) other.now self.now) result }
     {
-        let mut made = self.dup(alloc)?;
-        merge(&mut made, alloc, other, &|_declaration: &Declaration| true)?;
-        Ok(made)
+        merged(alloc, self, other, &|_declaration: &Declaration| true)
     }
 
     /// Puts another module over this one, as `combine` does.

@@ -7,7 +7,7 @@ ghost use Rattle.std.specs.Map.{keys_of};
 ghost use Rattle.rhd_decl.specs.declared.declaration.Declaration.{Declaration as Decl};
 ghost use Rattle.rhd_manifest.specs.Entry.{entry_pair};
 ghost use Rattle.rhd_manifest.specs.Listing.{listed_in};
-ghost use Rattle.rhd_module.specs.Algebra.{joined_doc, over, fill_vars, fill_subs, put_subs, that_pass, registered_over, combined_with, flattened_with, filled_with, merged_own, merged_with, merged_all, HasOwnTable, SomeClash, Tells};
+ghost use Rattle.rhd_module.specs.Algebra.{joined_doc, over, fill_vars, fill_subs, put_subs, that_pass, registered_over, combined_with, flattened_with, filled_with, merged_own, merged_with, merged_all, HasOwnTable, SomeClash, IsJoined, Merges, Tells};
 ghost use Rattle.rhd_module.specs.Index.{IsClash};
 ghost use Rattle.rhd_module.specs.Manifests.{put_vars, put_all, put_back, with_contents, with_pairs};
 ghost use Rattle.rhd_module.specs.Shown.{shown, without};
@@ -167,6 +167,7 @@ fn register_pair_that<F: Fn(&Declaration) -> bool>(
     requires { F.IsAlwaysCallable passes.now }
     ensures ok { (tells : Decl → Bool) → Tells (FnReturnsAt F.Fn passes.now) tells → OnOk result (made.new ≡ with_pairs (put_all (that_pass tells ((key.now, declaration.now) ∷ [])) made.old.own.eager) made.new.own.indexed made.old) }
     ensures clash { (tells : Decl → Bool) → Tells (FnReturnsAt F.Fn passes.now) tells → IfErr result (IsClash made.old.own.seeds (keys_of (put_all (that_pass tells ((key.now, declaration.now) ∷ [])) made.old.own.eager))) }
+    ensures others { OnOk result ((made.new.own.seeds ≡ made.old.own.seeds) × (made.new.own.listed ≡ made.old.own.listed)) }
 {
     if !passes(declaration) {
         return Ok(());
@@ -184,6 +185,7 @@ fn register_declared_that<F: Fn(&Declaration) -> bool>(
     requires { F.IsAlwaysCallable passes.now }
     ensures ok { (tells : Decl → Bool) → Tells (FnReturnsAt F.Fn passes.now) tells → OnOk result (made.new ≡ with_pairs (put_all (that_pass tells other.now.own.eager) made.old.own.eager) made.new.own.indexed made.old) }
     ensures clash { (tells : Decl → Bool) → Tells (FnReturnsAt F.Fn passes.now) tells → IfErr result (IsClash made.old.own.seeds (keys_of (put_all (that_pass tells other.now.own.eager) made.old.own.eager))) }
+    ensures others { OnOk result ((made.new.own.seeds ≡ made.old.own.seeds) × (made.new.own.listed ≡ made.old.own.listed)) }
 {
     for (key, declaration) in other.iter_fn() {
         register_pair_that(made, alloc, key, declaration, passes)?;
@@ -336,7 +338,7 @@ fn merge_own<F: Fn(&Declaration) -> bool>(
 }
 
 /// Merges what passes of another module, and of its sub-modules into new ones.
-pub(crate) fn merge<F: Fn(&Declaration) -> bool>(
+fn merge<F: Fn(&Declaration) -> bool>(
     made: &mut Module,
     alloc: Global,
     other: &Module,
@@ -357,6 +359,36 @@ pub(crate) fn merge<F: Fn(&Declaration) -> bool>(
     Ok(())
 }
 
+/// A copy into which what passes of another module is merged.
+pub(crate) fn merged<F: Fn(&Declaration) -> bool>(
+    alloc: Global,
+    of: &Module,
+    other: &Module,
+    passes: &F,
+) -> Result<Module, DeclFault>
+    requires { F.IsAlwaysCallable passes.now }
+    ensures { (tells : Decl → Bool) → Tells (FnReturnsAt F.Fn passes.now) tells → IsJoined (merged_all tells other.now of.now) (merged_with tells other.now of.now) result }
+{
+    let mut made = of.dup(alloc)?;
+    merge(&mut made, alloc, other, passes)?;
+    Ok(made)
+}
+
+/// Merges what passes of another module into one; a refusal changes nothing.
+pub(crate) fn merge_that<F: Fn(&Declaration) -> bool>(
+    target: &mut Module,
+    alloc: Global,
+    other: &Module,
+    passes: &F,
+) -> Result<(), DeclFault>
+    requires { F.IsAlwaysCallable passes.now }
+    ensures { (tells : Decl → Bool) → Tells (FnReturnsAt F.Fn passes.now) tells → Merges tells other.now target.old result target.new }
+{
+    let made = merged(alloc, target, other, passes)?;
+    *target = made;
+    Ok(())
+}
+
 /// A module in which what passes of the declarations of another one is declared.
 pub(crate) fn retained<F: Fn(&Declaration) -> bool>(
     alloc: Global,
@@ -364,7 +396,8 @@ pub(crate) fn retained<F: Fn(&Declaration) -> bool>(
     passes: &F,
 ) -> Result<Module, DeclFault>
     requires { F.IsAlwaysCallable passes.now }
-    ensures { (tells : Decl → Bool) → Tells (FnReturnsAt F.Fn passes.now) tells → IfOk result (λ m. m ≡ with_pairs (that_pass tells of.now.own.eager) m.own.indexed (empty_module of.now.own.seeds)) }
+    ensures kept { (tells : Decl → Bool) → Tells (FnReturnsAt F.Fn passes.now) tells → IfOk result (λ m. m ≡ with_pairs (that_pass tells of.now.own.eager) m.own.indexed (empty_module of.now.own.seeds)) }
+    ensures others { IfOk result (λ m. (m.own.seeds ≡ of.now.own.seeds) × (m.own.listed ≡ [])) }
 {
     let mut target = Module::new(alloc, of.seeds())?;
     register_declared_that(&mut target, alloc, of, passes)?;

@@ -4,7 +4,7 @@ use Rattle.std.specs.Fn.{FnReturnsAt}
 use Rattle.std.specs.List.{AllByRecursion}
 use Rattle.rhd_value.specs.Tree.{Bytes}
 use Rattle.rhd_decl.specs.declared.declaration.Declaration.{Declaration}
-use Rattle.rhd_module.specs.Tree.{ModuleTree, subs_of}
+use Rattle.rhd_module.specs.Tree.{ModuleTree, subs_of, depth}
 use Rattle.rhd_module.specs.Algebra.{merge_subs, rebuilt, HasOwnTable, Tells}
 use Rattle.rhd_module.proofs.joining.+merge.Given as goal
 
@@ -15,4 +15,4 @@ invariant-loop-name g l =
     × ((tells : Declaration → Bool) → Tells (FnReturnsAt g.F.Fn l.passes) tells → AllByRecursion HasOwnTable (rebuilt tells l.initial.made.own.seeds (subs_of front)))
 
 abbrev pub decreases-merge : goal.decreases-merge
-decreases-merge g l = goal.size-merge g l
+decreases-merge g l = depth l.other.now.subs

@@ -22,6 +22,8 @@ loop-key-preserved g c =
           let is = c.loop-key.invariant.2 tells h in
           c.in_ok-register_pair_that.ensures.ok tells h ∙ (λ k. with_pairs (put_all (that_pass tells (p ∷ [])) (is k).own.eager) new.own.indexed (is k))
           ∙ ap (λ qs. with_pairs qs new.own.indexed old) (passed_next (λ q. tells q.1) front p old.own.eager),
+      c.in_ok-register_pair_that.ensures.others.0 ∙ c.loop-key.invariant.3,
+      c.in_ok-register_pair_that.ensures.others.1 ∙ c.loop-key.invariant.4,
     )
 
 pub returns-in_err-register_pair_that-clause-clash : goal.returns-in_err-register_pair_that-clause-clash

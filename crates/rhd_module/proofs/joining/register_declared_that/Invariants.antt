@@ -10,3 +10,4 @@ abbrev pub invariant-loop-key : goal.invariant-loop-key
 invariant-loop-key g l =
     (front : Pairs) × (l.initial.key-iterator ≡ front ++ l.key-iterator)
     × ((tells : Declaration → Bool) → Tells (FnReturnsAt g.F.Fn l.passes) tells → l.made ≡ with_pairs (put_all (that_pass tells front) l.initial.made.own.eager) l.made.own.indexed l.initial.made)
+    × (l.made.own.seeds ≡ l.initial.made.own.seeds) × (l.made.own.listed ≡ l.initial.made.own.listed)

@@ -5,8 +5,8 @@ use Rattle.rhd_module.specs.Tree.{empty_module}
 use Rattle.rhd_module.proofs.JoinParts.{kept_alone}
 use Rattle.rhd_module.proofs.joining.retained.Goals as goal
 
-pub returns : goal.returns
-returns g c =
+pub returns-clause-kept : goal.returns-clause-kept
+returns-clause-kept g c =
     λ tells h.
     let of = c.args.of.now.own in
     let new = c.register_declared_that.new.made in
