@@ -1,5 +1,5 @@
 -- What one module puts into another, one thing after the other.
-use Rattle.std.proofs.Common.{◌≡◌, Bool, true, false, cond, List, [], ◌∷◌, ◌++◌, map, reverse, is_some, is_none, arith, true≢false, ◌+◌, ◌≤◌, refl, sym, ap, subst, append_assoc, append-nil, ◌∙◌}
+use Rattle.std.proofs.Common.{◌≡◌, Bool, true, false, cond, List, [], ◌∷◌, ◌++◌, map, reverse, is_some, arith, true≢false, ◌+◌, ◌≤◌, refl, sym, ap, subst, append_assoc, append-nil, ◌∙◌}
 use Rattle.std.specs.Map.{keys_of}
 use Rattle.std.specs.Prelude.{Result, Ok, Err, IsErr, IsErrAnd}
 use Rattle.std.specs.declared.rc.Rc.{Rc}

@@ -72,16 +72,21 @@ impl Module {
         requires { F.IsAlwaysCallable filter }
         ensures { (tells : Namespace → Access → Bool → Bytes → ℕ → Bool) → FilterTells (F.post filter) tells → Merges (passes_by tells) other.now self.old result self.new }
     {
-        merge_that(self, alloc, other, &|declaration: &Declaration| {
-            let metadata = &declaration.metadata;
-            filter(
-                metadata.namespace,
-                metadata.access,
-                declaration.func.is_script(),
-                &metadata.name,
-                metadata.num_params,
-            )
-        })
+        merge_that(
+            self,
+            alloc,
+            other,
+            &|declaration: &Declaration| {
+                let metadata = &declaration.metadata;
+                filter(
+                    metadata.namespace,
+                    metadata.access,
+                    declaration.func.is_script(),
+                    &metadata.name,
+                    metadata.num_params,
+                )
+            },
+        )
     }
 
     /// Keeps the scripts alone that a filter passes; natives and manifests go. It tells by the namespace,
@@ -96,11 +101,20 @@ impl Module {
         ensures ok { (tells : Namespace → Access → Bytes → ℕ → Bool) → ScriptFilterTells (F.post filter) tells → OnOk result (self.new ≡ scripts_that (passes_by (λ namespace access script. tells namespace access)) self.old) }
         ensures err { OnErr result (self.new ≡ self.old) }
     {
-        let kept = retained(alloc, self, &|declaration: &Declaration| {
-            let metadata = &declaration.metadata;
-            declaration.func.is_script()
-                && filter(metadata.namespace, metadata.access, &metadata.name, metadata.num_params)
-        });
+        let kept = retained(
+            alloc,
+            self,
+            &|declaration: &Declaration| {
+                let metadata = &declaration.metadata;
+                declaration.func.is_script()
+                    && filter(
+                        metadata.namespace,
+                        metadata.access,
+                        &metadata.name,
+                        metadata.num_params,
+                    )
+            },
+        );
         match kept {
             Ok(kept) => {
                 self.take_fns(alloc, kept);

@@ -165,7 +165,11 @@ pub(crate) fn register_pair(
 }
 
 /// The same of all that another module declares.
-pub(crate) fn register_declared(target: &mut Module, alloc: Global, declared: &Module) -> Result<(), DeclFault>
+pub(crate) fn register_declared(
+    target: &mut Module,
+    alloc: Global,
+    declared: &Module,
+) -> Result<(), DeclFault>
     ensures ok { OnOk result (target.new ≡ with_pairs (put_all declared.now.own.eager target.old.own.eager) target.new.own.indexed target.old) }
     ensures clash { IfErr result (IsClash target.old.own.seeds (keys_of (put_all declared.now.own.eager target.old.own.eager))) }
 {

@@ -55,9 +55,9 @@ returns-in_err-merge-clause-clash g t c =
     let at = subst P (λ k. (c.deref.ensures k, new k)) (c.in_err-merge.ensures.clash tells h) in
     let there : (u : ModuleTree) → Contains (merged_all tells x.1.value (empty_module s)) u → Contains (merged_all tells other old) u =
     λ u hu.
-        let E : List (Bytes × Rc ModuleTree Global) → Type 0 = λ es. Contains (rebuilt tells s (subs_of es)) u in
-        let S : Subs → Type 0 = λ ss. Contains (rebuilt tells s ss) u in
-        Contains-append_right (merged_with tells other old ∷ []) (rebuilt tells s other.subs) u (subst S subs (subst E (sym all) (rebuilt_at {Z = Global} tells s front later x u hu))) in
+    let E : List (Bytes × Rc ModuleTree Global) → Type 0 = λ es. Contains (rebuilt tells s (subs_of es)) u in
+    let S : Subs → Type 0 = λ ss. Contains (rebuilt tells s ss) u in
+    Contains-append_right (merged_with tells other old ∷ []) (rebuilt tells s other.subs) u (subst S subs (subst E (sym all) (rebuilt_at {Z = Global} tells s front later x u hu))) in
     if_err c.from_residual-in_err-merge.result fault _ c.from_residual-in_err-merge.ensures (clash_in (merged_all tells x.1.value (empty_module s)) (merged_all tells other old) fault there at)
 
 pub loop-name-preserved : goal.loop-name-preserved

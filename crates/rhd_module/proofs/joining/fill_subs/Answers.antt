@@ -1,8 +1,8 @@
-use Rattle.std.proofs.Common.{◌≡◌, ◌∷◌, ◌++◌, [], List, is_some, sym, ap, append_assoc, ◌∙◌, Global}
+use Rattle.std.proofs.Common.{◌∷◌, ◌++◌, [], List, is_some, sym, ap, append_assoc, ◌∙◌, Global}
 use Rattle.std.specs.declared.rc.Rc.{Rc}
 use Rattle.rhd_value.specs.Tree.{Bytes}
 use Rattle.rhd_module.specs.Contents.{with_sub, find_sub}
-use Rattle.rhd_module.specs.Tree.{ModuleTree, Subs}
+use Rattle.rhd_module.specs.Tree.{ModuleTree}
 use Rattle.rhd_module.proofs.JoinParts.{filled_new, filled_there}
 use Rattle.rhd_module.proofs.joining.fill_subs.Goals as goal
 

@@ -2,7 +2,6 @@ use Rattle.std.proofs.Common.{◌≡◌, ◌∷◌, ◌++◌, [], Bool, true, fa
 use Rattle.rhd_value.specs.Tree.{Bytes, Tree}
 use Rattle.rhd_value.specs.Entries.{found}
 use Rattle.rhd_module.specs.Contents.{with_var}
-use Rattle.rhd_module.specs.Manifests.{put_vars}
 use Rattle.rhd_module.proofs.JoinParts.{vars_kept, vars_left}
 use Rattle.rhd_module.proofs.Puts.{is_there, is_absent}
 use Rattle.rhd_module.proofs.joining.fill_vars.Goals as goal

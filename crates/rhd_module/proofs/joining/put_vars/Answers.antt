@@ -1,7 +1,6 @@
 use Rattle.std.proofs.Common.{◌∷◌, ◌++◌, [], List, sym, ap, append_assoc, ◌∙◌}
 use Rattle.rhd_value.specs.Tree.{Bytes, Tree}
 use Rattle.rhd_module.specs.Contents.{with_var}
-use Rattle.rhd_module.specs.Manifests.{with_contents}
 use Rattle.rhd_module.proofs.Combined.{vars_append}
 use Rattle.rhd_module.proofs.joining.put_vars.Goals as goal
 

@@ -1,4 +1,4 @@
-use Rattle.std.proofs.Common.{◌≡◌, [], ap, ◌∙◌}
+use Rattle.std.proofs.Common.{◌≡◌, ap, ◌∙◌}
 use Rattle.rhd_module.specs.Algebra.{that_pass}
 use Rattle.rhd_module.specs.Manifests.{with_pairs, put_all}
 use Rattle.rhd_module.specs.Tree.{empty_module}
