@@ -12,14 +12,26 @@ use rhd_call::{Command, ModuleId};
 use rhd_syntax::{Stop, is_end, num_at};
 
 /// The command of a word.
-fn joining(word: JoinWord, module: ModuleId, other: ModuleId) -> Command
-    ensures { result ≡ joining word module other }
+fn joining(word: JoinWord, into: ModuleId, other: ModuleId) -> Command
+    ensures { result ≡ joining word into other }
 {
     match word {
-        JoinWord::Combine => Command::Combine { module, other },
-        JoinWord::CombineFlatten => Command::CombineFlatten { module, other },
-        JoinWord::Fill => Command::Fill { module, other },
-        JoinWord::Merge => Command::Merge { module, other },
+        JoinWord::Combine => Command::Combine {
+            module: into,
+            other,
+        },
+        JoinWord::CombineFlatten => Command::CombineFlatten {
+            module: into,
+            other,
+        },
+        JoinWord::Fill => Command::Fill {
+            module: into,
+            other,
+        },
+        JoinWord::Merge => Command::Merge {
+            module: into,
+            other,
+        },
     }
 }
 
