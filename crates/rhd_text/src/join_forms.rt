@@ -45,9 +45,5 @@ pub fn join_at(bytes: &[u8], place: Place, word: JoinWord) -> Result<Part, Stop>
     if !is_end(rest) {
         return Err(Stop::Bad);
     }
-    Ok(Part::Command(joining(
-        word,
-        ModuleId(module),
-        ModuleId(other),
-    )))
+    Ok(Part::Command(joining(word, ModuleId(module), ModuleId(other))))
 }
