@@ -56,3 +56,7 @@ line_read n (Some (parts.Command commands.PopImport)) bytes e = other_read n (So
 line_read n (Some (parts.Command (commands.FromManifest l))) bytes e = other_read n (Some (Some (parts.Command (commands.FromManifest l)))) bytes e (λ r f. cc)
 line_read n (Some (parts.Command (commands.CombineManifest m l))) bytes e = other_read n (Some (Some (parts.Command (commands.CombineManifest m l)))) bytes e (λ r f. cc)
 line_read n (Some (parts.Command (commands.RegisterLazy m))) bytes e = other_read n (Some (Some (parts.Command (commands.RegisterLazy m)))) bytes e (λ r f. cc)
+line_read n (Some (parts.Command (commands.Combine m other))) bytes e = other_read n (Some (Some (parts.Command (commands.Combine m other)))) bytes e (λ r f. cc)
+line_read n (Some (parts.Command (commands.CombineFlatten m other))) bytes e = other_read n (Some (Some (parts.Command (commands.CombineFlatten m other)))) bytes e (λ r f. cc)
+line_read n (Some (parts.Command (commands.Fill m other))) bytes e = other_read n (Some (Some (parts.Command (commands.Fill m other)))) bytes e (λ r f. cc)
+line_read n (Some (parts.Command (commands.Merge m other))) bytes e = other_read n (Some (Some (parts.Command (commands.Merge m other)))) bytes e (λ r f. cc)

@@ -8,12 +8,14 @@ use Rattle.rhd_text.specs.declared.place.Place.{Place}
 use Rattle.rhd_text.specs.declared.keyword.Keyword.{Keyword}
 use Rattle.rhd_text.specs.declared.keyword.Keyword.TheVariants.{Seeds, Limits, Printer, Builtin, Host, Body, Ret, Fail, Register, RegisterRaw, RegisterType, Module}
 use Rattle.rhd_text.specs.declared.keyword.Keyword.TheVariants.{SetId, SetDoc, SetVar, SetType, Native, Raw, RawIter, RawScript, Script, Submodule, Clear, Count, HasNative, HasScript, Lib, PopLib, Index, Global, Static, Import, PopImport}
-use Rattle.rhd_text.specs.declared.keyword.Keyword.TheVariants.{Manifest, Call}
+use Rattle.rhd_text.specs.declared.keyword.Keyword.TheVariants.{Manifest, Join, Call}
 use Rattle.rhd_text.specs.declared.keyword.CallWord.{CallWord}
 use Rattle.rhd_text.specs.declared.keyword.CallWord.TheVariants as words
 use Rattle.rhd_text.specs.declared.keyword.ManifestWord.{ManifestWord}
 use Rattle.rhd_text.specs.declared.keyword.ManifestWord.TheVariants as lists
-use Rattle.rhd_text.specs.Rows.{call_form, step, all_calls, manifest_form, form, all_keywords, line_forms, step_forms}
+use Rattle.rhd_text.specs.declared.keyword.JoinWord.{JoinWord}
+use Rattle.rhd_text.specs.declared.keyword.JoinWord.TheVariants as joins
+use Rattle.rhd_text.specs.Rows.{call_form, step, all_calls, manifest_form, join_form, form, all_keywords, line_forms, step_forms}
 use Rattle.rhd_syntax.specs.Spans.{bare}
 use Rattle.rhd_text.specs.Grammar.{part, IsLine}
 use Rattle.rhd_syntax.specs.Reading.{word_at}
@@ -80,6 +82,17 @@ manifest_shows lists.FromManifest rest = refl
 manifest_shows lists.CombineManifest rest = refl
 manifest_shows lists.RegisterLazy rest = refl
 
+-- ---- modules joined
+
+join_placed : (w : JoinWord) → well_placed (join_form w).operands ≡ true
+join_placed w = refl
+
+join_shows : (w : JoinWord) (rest : List ℕ) → begins_no_part ((join_form w).spelling ++ rest) ≡ false
+join_shows joins.Combine rest = refl
+join_shows joins.CombineFlatten rest = refl
+join_shows joins.Fill rest = refl
+join_shows joins.Merge rest = refl
+
 -- ---- lines
 
 line_placed : (k : Keyword) → well_placed (form k).operands ≡ true
@@ -117,6 +130,7 @@ line_placed Static = refl
 line_placed Import = refl
 line_placed PopImport = refl
 line_placed (Manifest w) = manifest_placed w
+line_placed (Join w) = join_placed w
 line_placed (Call w) = call_placed false w
 
 line_found : (k : Keyword) → keyword_in form all_keywords (form k).spelling ≡ Some k
@@ -162,6 +176,10 @@ line_found (Manifest lists.Type) = refl
 line_found (Manifest lists.FromManifest) = refl
 line_found (Manifest lists.CombineManifest) = refl
 line_found (Manifest lists.RegisterLazy) = refl
+line_found (Join joins.Combine) = refl
+line_found (Join joins.CombineFlatten) = refl
+line_found (Join joins.Fill) = refl
+line_found (Join joins.Merge) = refl
 line_found (Call words.Call) = refl
 line_found (Call words.CallNative) = refl
 line_found (Call words.Ref) = refl
@@ -206,6 +224,7 @@ line_shows Static rest = refl
 line_shows Import rest = refl
 line_shows PopImport rest = refl
 line_shows (Manifest w) rest = manifest_shows w rest
+line_shows (Join w) rest = join_shows w rest
 line_shows (Call w) rest = call_shows w rest
 
 lines_sound : IsSound Keyword Part line_forms

@@ -19,6 +19,7 @@ use Rattle.rhd_func.specs.declared.func.RhaiFunc.TheVariants as funcs
 use Rattle.rhd_hash.specs.declared.key.Key.TheVariants as keys
 use Rattle.rhd_module.specs.declared.registration.FuncRegistration.{FuncRegistration}
 use Rattle.rhd_module.specs.Registered.{new_registration}
+use Rattle.rhd_call.specs.declared.command.ModuleId.{ModuleId}
 use Rattle.rhd_call.specs.declared.command.Command.{Command}
 use Rattle.rhd_call.specs.declared.command.Command.TheVariants as commands
 use Rattle.rhd_text.specs.declared.place.Place.{Place}
@@ -35,6 +36,8 @@ use Rattle.rhd_text.specs.declared.keyword.CallWord.{CallWord}
 use Rattle.rhd_text.specs.declared.keyword.CallWord.TheVariants as words
 use Rattle.rhd_text.specs.declared.keyword.ManifestWord.{ManifestWord}
 use Rattle.rhd_text.specs.declared.keyword.ManifestWord.TheVariants as lists
+use Rattle.rhd_text.specs.declared.keyword.JoinWord.{JoinWord}
+use Rattle.rhd_text.specs.declared.keyword.JoinWord.TheVariants as joins
 use Rattle.rhd_text.specs.declared.keyword.Keyword.{Keyword}
 use Rattle.rhd_text.specs.declared.keyword.Keyword.TheVariants as keywords
 use Rattle.rhd_text.specs.declared.requests.Handing.{Handing}
@@ -263,6 +266,22 @@ manifest_form lists.FromManifest = record { spelling = codes "from-manifest"; op
 manifest_form lists.CombineManifest = record { spelling = codes "combine-manifest"; operands = NUM ∷ NUM ∷ []; part = λ place m n. Some (parts.Command (commands.CombineManifest (record { 0 = m }) (record { 0 = n }))) }
 manifest_form lists.RegisterLazy = record { spelling = codes "register-lazy"; operands = NUM ∷ []; part = λ place m. Some (parts.Command (commands.RegisterLazy (record { 0 = m }))) }
 
+-- THE ROWS that join a module, the second one, to another: how their words are spelled, and their commands
+abbrev pub join_spelling : JoinWord → List ℕ
+join_spelling joins.Combine = codes "combine"
+join_spelling joins.CombineFlatten = codes "combine-flatten"
+join_spelling joins.Fill = codes "fill"
+join_spelling joins.Merge = codes "merge"
+
+abbrev pub joining : JoinWord → ModuleId → ModuleId → Command
+joining joins.Combine m other = commands.Combine m other
+joining joins.CombineFlatten m other = commands.CombineFlatten m other
+joining joins.Fill m other = commands.Fill m other
+joining joins.Merge m other = commands.Merge m other
+
+abbrev pub join_form : JoinWord → Form Part
+join_form w = record { spelling = join_spelling w; operands = NUM ∷ NUM ∷ []; part = λ place m other. Some (parts.Command (joining w (record { 0 = m }) (record { 0 = other }))) }
+
 -- THE ROWS
 abbrev pub form : Keyword → Form Part
 form keywords.Seeds = record { spelling = codes "seeds"; operands = LONG ∷ LONG ∷ LONG ∷ []; part = λ place a b m. Some (parts.Seeds (record { seed0 = a; seed1 = b; mask = m })) }
@@ -307,6 +326,7 @@ form keywords.Static = record { spelling = codes "static"; operands = WORD ∷ N
 form keywords.Import = record { spelling = codes "import"; operands = WORD ∷ NUM ∷ []; part = λ place f m. Some (parts.Command (commands.PushImport f (record { 0 = m }))) }
 form keywords.PopImport = record { spelling = codes "pop-import"; operands = []; part = λ place. Some (parts.Command commands.PopImport) }
 form (keywords.Manifest w) = manifest_form w
+form (keywords.Join w) = join_form w
 form (keywords.Call w) = called w
 
 -- all keywords, the more frequent ones first
@@ -321,6 +341,7 @@ all_keywords =
     ∷ keywords.Count ∷ keywords.HasNative ∷ keywords.HasScript
     ∷ keywords.Manifest lists.FromManifest ∷ keywords.Manifest lists.CombineManifest ∷ keywords.Manifest lists.RegisterLazy
     ∷ keywords.Manifest lists.Entry ∷ keywords.Manifest lists.Sub ∷ keywords.Manifest lists.Var ∷ keywords.Manifest lists.Type ∷ keywords.Manifest lists.Manifest
+    ∷ keywords.Join joins.Combine ∷ keywords.Join joins.CombineFlatten ∷ keywords.Join joins.Fill ∷ keywords.Join joins.Merge
     ∷ keywords.Body ∷ keywords.Ret ∷ keywords.Fail ∷ keywords.Host ∷ keywords.Builtin ∷ keywords.Seeds ∷ keywords.Limits ∷ keywords.Printer ∷ []
 
 -- THE LINES OF A SESSION TEXT, and those that stand after `do`

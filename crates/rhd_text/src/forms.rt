@@ -7,6 +7,7 @@ ghost use Rattle.rhd_text.specs.ReadRows.{row_at, form_at, part_at};
 ghost use Rattle.rhd_syntax.specs.Answers.{Gives};
 
 use crate::body::BodyEnd;
+use crate::join_forms::join_at;
 use crate::keyword::{CallWord, Keyword, call_of, keyword_of};
 use crate::manifest_forms::manifest_row_at;
 use crate::module_forms::{
@@ -296,6 +297,7 @@ fn row_at(alloc: Global, keyword: Keyword, bytes: &[u8], place: Place) -> Result
         Keyword::Import => import_at(alloc, bytes, place),
         Keyword::PopImport => pop_import_at(bytes, place),
         Keyword::Manifest(word) => manifest_row_at(alloc, bytes, place, word),
+        Keyword::Join(word) => join_at(bytes, place, word),
         Keyword::Call(call) => call_at(alloc, bytes, place, call),
     }
 }

@@ -1,7 +1,7 @@
 //! Keywords: the words that lines and calls begin with.
 
 ghost use Rattle.std.specs.Prelude.{◌≡◌};
-ghost use Rattle.rhd_text.specs.Rows.{call_form, all_calls, step, manifest_form, form, all_keywords};
+ghost use Rattle.rhd_text.specs.Rows.{call_form, all_calls, step, manifest_form, join_spelling, form, all_keywords};
 ghost use Rattle.rhd_text.specs.ReadRows.{keyword_in};
 
 /// The word of a call.
@@ -64,6 +64,28 @@ impl ManifestWord {
     }
 }
 
+/// The word that a line which joins a module to another begins with.
+#[derive(Clone, Copy, Debug, PartialEq, Eq)]
+pub enum JoinWord {
+    Combine,
+    CombineFlatten,
+    Fill,
+    Merge,
+}
+
+impl JoinWord {
+    fn spelling(self) -> &'static [u8]
+        ensures { result.now ≡ join_spelling self }
+    {
+        match self {
+            JoinWord::Combine => b"combine",
+            JoinWord::CombineFlatten => b"combine-flatten",
+            JoinWord::Fill => b"fill",
+            JoinWord::Merge => b"merge",
+        }
+    }
+}
+
 /// The word that a line begins with.
 #[derive(Clone, Copy, Debug, PartialEq, Eq)]
 pub enum Keyword {
@@ -101,6 +123,7 @@ pub enum Keyword {
     Import,
     PopImport,
     Manifest(ManifestWord),
+    Join(JoinWord),
     Call(CallWord),
 }
 
@@ -143,6 +166,7 @@ impl Keyword {
             Keyword::Import => b"import",
             Keyword::PopImport => b"pop-import",
             Keyword::Manifest(word) => word.spelling(),
+            Keyword::Join(word) => word.spelling(),
             Keyword::Call(call) => call.spelling(),
         }
     }
@@ -192,7 +216,7 @@ fn keyword_in(keywords: &[Keyword], word: &[u8]) -> Option<Keyword>
 }
 
 /// All keywords, the more frequent ones first.
-const ALL: [Keyword; 49] = [
+const ALL: [Keyword; 53] = [
     Keyword::Call(CallWord::Call),
     Keyword::Call(CallWord::Ref),
     Keyword::Call(CallWord::Method),
@@ -234,6 +258,10 @@ const ALL: [Keyword; 49] = [
     Keyword::Manifest(ManifestWord::Var),
     Keyword::Manifest(ManifestWord::Type),
     Keyword::Manifest(ManifestWord::Manifest),
+    Keyword::Join(JoinWord::Combine),
+    Keyword::Join(JoinWord::CombineFlatten),
+    Keyword::Join(JoinWord::Fill),
+    Keyword::Join(JoinWord::Merge),
     Keyword::Body,
     Keyword::Ret,
     Keyword::Fail,

@@ -5,6 +5,7 @@ mod body;
 mod calls;
 mod fault;
 mod forms;
+mod join_forms;
 mod keyword;
 mod laws;
 mod line;
