@@ -68,7 +68,8 @@ module _ (n : ℕ) where
   first_held : (name : Bytes) (own : Lists) (inner later : Subs) → below_held n (sub name own inner later) ≡ true → (own_held n own ≡ true) × (below_held n inner ≡ true) × (below_held n later ≡ true)
   first_held name own inner later all =
       let p = parts (own_held n own) (below_held n inner && below_held n later) all in
-      (p.0, parts (below_held n inner) (below_held n later) p.1)
+      let q = parts (below_held n inner) (below_held n later) p.1 in
+      (p.0, q.0, q.1)
 
   put_sub_held : (name : Bytes) (own : Lists) (inner held : Subs) → own_held n own ≡ true → below_held n inner ≡ true → below_held n held ≡ true → below_held n (put_sub name (record { own = own; subs = inner }) held) ≡ true
   put_sub_held name own inner held h under all =
