@@ -1,6 +1,6 @@
 -- Commands that join one module with another.
 use Rattle.std.proofs.Common.{◌≡◌, List, [], ◌∷◌, length, refl, sym, ap, subst, ◌∙◌}
-use Rattle.std.specs.Prelude.{Option, Some, None, Result, Ok, Err, map, slice_get, slice_set, option_map, option_and_then}
+use Rattle.std.specs.Prelude.{Some, None, Result, Ok, Err, map, slice_get, slice_set, option_map, option_and_then}
 use Rattle.std.specs.List.{AllByRecursion}
 use Rattle.std.specs.Map.{keys_of}
 use Rattle.std.proofs.lemmas.Option.{slice_get_within}

@@ -1,6 +1,6 @@
 -- What two modules hold is all that a module holds in which they are joined.
 use Rattle.std.proofs.Common.{◌≡◌, ℕ, Bool, true, false, cond, ◌&&◌, List, [], ◌∷◌, ◌++◌, map, refl, ap, ◌∙◌}
-use Rattle.std.specs.Prelude.{Option, Some, None, Result, Ok, Err, nat_lt, is_some, if◌then◌else◌}
+use Rattle.std.specs.Prelude.{Result, Ok, Err, nat_lt, is_some, if◌then◌else◌}
 use Rattle.std.specs.List.{filter}
 use Rattle.std.proofs.lemmas.List.Folds.{list_all-append, list_all-map}
 use Rattle.rhd_value.specs.Tree.{Bytes}
@@ -135,9 +135,12 @@ module _ (n : ℕ) where
   done_held joins.Merge other m h all =
       let o = module_parts other h in
       let p = module_parts m all in
-      both (own_held n (merged_own (λ d. true) other.own m.own)) (below_held n (merge_subs (λ d. true) m.own.seeds other.subs m.subs)) (merged_own_held (λ d. true) other.own m.own o.0 p.0) (merge_subs_held (λ d. true) m.own.seeds other.subs m.subs o.1 p.1)
+      let every : Passes = λ d. true in
+      both (own_held n (merged_own every other.own m.own)) (below_held n (merge_subs every m.own.seeds other.subs m.subs))
+      (merged_own_held every other.own m.own o.0 p.0) (merge_subs_held every m.own.seeds other.subs m.subs o.1 p.1)
 
   -- whether or not two modules are joined
-  pub joined_held : (join : Join) (other old new : ModuleTree) (r : Result (Unit {0}) DeclFault) → Joins (all_joined_by join other old) (joined_by join other old) old r new → names_held n other ≡ true → names_held n old ≡ true → names_held n new ≡ true
+  pub joined_held : (join : Join) (other old new : ModuleTree) (r : Result (Unit {0}) DeclFault) → Joins (all_joined_by join other old) (joined_by join other old) old r new
+      → names_held n other ≡ true → names_held n old ≡ true → names_held n new ≡ true
   joined_held join other old new (Ok u) is h all = ap (names_held n) is.1 ∙ done_held join other old h all
   joined_held join other old new (Err fault) is h all = ap (names_held n) is.1 ∙ all
