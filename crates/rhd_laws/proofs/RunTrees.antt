@@ -6,7 +6,7 @@ use Rattle.rhd_func.specs.declared.request.CallRequest.{CallRequest}
 use Rattle.rhd_decl.specs.declared.fault.DeclFault.{DeclFault}
 use Rattle.rhd_decl.specs.declared.fault.DeclFault.TheVariants.{HashCollision}
 use Rattle.rhd_call.specs.declared.command.Command.{Command}
-use Rattle.rhd_call.specs.declared.command.Command.TheVariants.{NewModule, SetId, SetDoc, SetVar, SetType, Native, RawNative, Script, SubModule, FromManifest, CombineManifest, RegisterLazy}
+use Rattle.rhd_call.specs.declared.command.Command.TheVariants.{NewModule, SetId, SetDoc, SetVar, SetType, Native, RawNative, Script, SubModule, Combine, CombineFlatten, Fill, Merge, FromManifest, CombineManifest, RegisterLazy}
 use Rattle.rhd_call.specs.declared.command.Command.TheVariants.{Index, Clear, RegisterFn, RegisterRaw, RegisterType, GlobalModule, StaticModule, PushLib, PopLib, PushImport, PopImport, Call, Contains}
 use Rattle.rhd_call.specs.declared.command.Command.TheVariants.{Count as CountOf}
 use Rattle.rhd_call.specs.declared.command.ModuleId.{ModuleId}
@@ -15,9 +15,10 @@ use Rattle.rhd_call.specs.declared.reply.Reply.{Reply}
 use Rattle.rhd_call.specs.declared.reply.Reply.TheVariants.{Done, Made, Refused, Count, Truth, Called}
 use Rattle.rhd_call.specs.declared.reply.Stopped.{Stopped}
 use Rattle.rhd_call.specs.Trees.{InTree}
+use Rattle.rhd_module.specs.Tree.{ModuleTree}
 use Rattle.rhd_engine.specs.Engine.{Frame}
 use Rattle.rhd_session.specs.Answered.{Declares, refused, collided, done, Applied, declared, Replied, Answered, RunGives}
-use Rattle.rhd_session.specs.Commands.{change, Change}
+use Rattle.rhd_session.specs.Commands.{change, Change, ChangedModule, changed_with}
 use Rattle.rhd_machine.specs.Runs.{Runs}
 use Rattle.rhd_machine.specs.CallReplied.{CallReplied}
 use Rattle.rhd_machine.specs.Trees.{frame_at, RunsAt}
@@ -57,6 +58,9 @@ then_tree : {A : Type 0} (g : A → Option Change) (o : Option A) (c : Change) (
 then_tree g None c root never h is = absurd cc
 then_tree g (Some a) c root never h is = never a h is
 
+with_tree : (w : World) (f : Frame) (m other : ModuleId) (change : ModuleTree → ModuleTree → ChangedModule) (c : Change) (root : CallNode) → changed_with w f m other change ≡ Some c → c.reply ≡ Called root → ⊥
+with_tree w f m other change c root h is = then_tree _ (slice_get w.modules other.0) c root (λ o e. mapped_tree _ (slice_get w.modules m.0) c root (λ old. done_tree root) e) h is
+
 change_tree : (w : World) (f : Frame) (command : Command) (c : Change) (root : CallNode) → change w f command ≡ Some c → c.reply ≡ Called root → ⊥
 change_tree w f NewModule c root h is = one_tree _ c root (made_tree _ root) h is
 change_tree w f (SetId m a) c root h is = mapped_tree _ (slice_get w.modules m.0) c root (λ old. done_tree root) h is
@@ -71,7 +75,11 @@ change_tree w f (CombineManifest m id) c root h is = mapped_tree _ (slice_get w.
 change_tree w f (RegisterLazy m) c root h is = mapped_tree _ (slice_get w.modules m.0) c root (λ old. done_tree root) h is
 change_tree w f (Index m) c root h is = mapped_tree _ (slice_get w.modules m.0) c root (λ old. done_tree root) h is
 change_tree w f (Clear m) c root h is = mapped_tree _ (slice_get w.modules m.0) c root (λ old. done_tree root) h is
-change_tree w f (SubModule m name sub) c root h is = then_tree _ (slice_get w.modules sub.0) c root (λ child e. mapped_tree _ (slice_get w.modules m.0) c root (λ old. done_tree root) e) h is
+change_tree w f (SubModule m name sub) c root h is = with_tree w f m sub _ c root h is
+change_tree w f (Combine m other) c root h is = with_tree w f m other _ c root h is
+change_tree w f (CombineFlatten m other) c root h is = with_tree w f m other _ c root h is
+change_tree w f (Fill m other) c root h is = with_tree w f m other _ c root h is
+change_tree w f (Merge m other) c root h is = with_tree w f m other _ c root h is
 change_tree w f (RegisterFn name id) c root h is = one_tree _ c root (done_tree root) h is
 change_tree w f (RegisterRaw name types id) c root h is = one_tree _ c root (done_tree root) h is
 change_tree w f (RegisterType kind display) c root h is = one_tree _ c root (done_tree root) h is
@@ -119,6 +127,10 @@ module _ {H B : Type 0} (o : Objects H B) where
   replied_tree w w2 f f2 before after (Index m) reply root r is = absurd (applied_tree root r.0 is)
   replied_tree w w2 f f2 before after (Clear m) reply root r is = absurd (applied_tree root r.0 is)
   replied_tree w w2 f f2 before after (SubModule m name sub) reply root r is = absurd (applied_tree root r.0 is)
+  replied_tree w w2 f f2 before after (Combine m other) reply root r is = absurd (applied_tree root r.0 is)
+  replied_tree w w2 f f2 before after (CombineFlatten m other) reply root r is = absurd (applied_tree root r.0 is)
+  replied_tree w w2 f f2 before after (Fill m other) reply root r is = absurd (applied_tree root r.0 is)
+  replied_tree w w2 f f2 before after (Merge m other) reply root r is = absurd (applied_tree root r.0 is)
   replied_tree w w2 f f2 before after (RegisterFn name id) reply root r is = absurd (applied_tree root r.0 is)
   replied_tree w w2 f f2 before after (RegisterRaw name types id) reply root r is = absurd (applied_tree root r.0 is)
   replied_tree w w2 f f2 before after (RegisterType kind display) reply root r is = absurd (applied_tree root r.0 is)

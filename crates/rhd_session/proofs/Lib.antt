@@ -4,3 +4,5 @@ pub mod Declared
 pub mod ModuleChanges
 pub mod ManifestChanges
 pub mod GlobalChanges
+pub mod JoinedHeld
+pub mod JoinChanges

@@ -43,12 +43,12 @@ use Rattle.rhd_session.proofs.Declared.{one_held, refused_first, goes_refused}
 
 -- Lists.
 
-contains_map : {A B : Type 0} (f : A → B) (xs : List A) (x : A) → Contains xs x → Contains (map f xs) (f x)
+pub contains_map : {A B : Type 0} (f : A → B) (xs : List A) (x : A) → Contains xs x → Contains (map f xs) (f x)
 contains_map f [] x (i, within, is) = absurd (omega (arith, within))
 contains_map f (y ∷ xs) x (zero, within, is) = (0, omega arith, ap f is)
 contains_map f (y ∷ xs) x (suc i, within, is) = let h = contains_map f xs x (i, omega (arith, within), is) in (suc h.0, omega (arith, h.1), h.2)
 
-all_map : {A B : Type 0} (f : A → B) (P : A → Type 0) (Q : B → Type 0) (xs : List A) → ((x : A) → P x → Q (f x)) → AllByRecursion P xs → AllByRecursion Q (map f xs)
+pub all_map : {A B : Type 0} (f : A → B) (P : A → Type 0) (Q : B → Type 0) (xs : List A) → ((x : A) → P x → Q (f x)) → AllByRecursion P xs → AllByRecursion Q (map f xs)
 all_map f P Q [] step all = tt
 all_map f P Q (x ∷ xs) step all = (step x all.0, all_map f P Q xs step all.1)
 

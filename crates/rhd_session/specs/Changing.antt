@@ -13,15 +13,19 @@ use Rattle.rhd_decl.specs.declared.fault.DeclFault.{DeclFault}
 use Rattle.rhd_decl.specs.declared.fault.DeclFault.TheVariants.{HashCollision, UnknownNumber, OutOfMemory as no_memory}
 use Rattle.rhd_manifest.specs.Manifest.{ManifestLists}
 use Rattle.rhd_module.specs.Tree.{ModuleTree}
+use Rattle.rhd_module.specs.Algebra.{combined_with, flattened_with, filled_with, merged_with, merged_all}
 use Rattle.rhd_module.specs.Registered.{unheld}
 use Rattle.rhd_engine.specs.Engine.{Frame}
 use Rattle.rhd_call.specs.declared.command.Command.{Command}
 use Rattle.rhd_call.specs.declared.command.Command.TheVariants as commands
+use Rattle.rhd_call.specs.declared.command.ModuleId.{ModuleId}
 use Rattle.rhd_call.specs.declared.reply.Reply.{Reply}
 use Rattle.rhd_call.specs.declared.reply.Reply.TheVariants.{Done, Refused}
 use Rattle.rhd_machine.specs.World.{World}
 use Rattle.rhd_session.specs.Commands.{Keyed, with_made, without_keys, module_change, not_callable, indexer_not_allowed}
 use Rattle.rhd_session.specs.Answered.{Declares, NoClash}
+use Rattle.rhd_session.specs.declared.joining.Join.{Join}
+use Rattle.rhd_session.specs.declared.joining.Join.TheVariants as joins
 
 -- the native that a command registers in a module
 abbrev pub native_in : Command → Option FnId
@@ -69,6 +73,10 @@ MadeFor w f command m = let c = with_made w f (without_keys m) in Declares w f c
 -- the command changes no numbered module by itself, and answers nothing but that it is done
 abbrev pub is_told : Command → Bool
 is_told (commands.SubModule m name sub) = true
+is_told (commands.Combine m other) = true
+is_told (commands.CombineFlatten m other) = true
+is_told (commands.Fill m other) = true
+is_told (commands.Merge m other) = true
 is_told (commands.RegisterFn name id) = true
 is_told (commands.RegisterRaw name types id) = true
 is_told (commands.RegisterType kind display) = true
@@ -79,6 +87,25 @@ is_told commands.PopLib = true
 is_told (commands.PushImport name m) = true
 is_told commands.PopImport = true
 is_told command = false
+
+-- the command that joins one module with another so
+abbrev pub join_command : Join → ModuleId → ModuleId → Command
+join_command joins.Combine m other = commands.Combine m other
+join_command joins.CombineFlatten m other = commands.CombineFlatten m other
+join_command joins.Fill m other = commands.Fill m other
+join_command joins.Merge m other = commands.Merge m other
+
+-- the module that this leaves
+abbrev pub joined_by : Join → ModuleTree → ModuleTree → ModuleTree
+joined_by joins.Combine other m = combined_with other m
+joined_by joins.CombineFlatten other m = flattened_with other m
+joined_by joins.Fill other m = filled_with other m
+joined_by joins.Merge other m = merged_with (λ d. true) other m
+
+-- and the modules that it changes and makes
+abbrev pub all_joined_by : Join → ModuleTree → ModuleTree → List ModuleTree
+all_joined_by joins.Merge other m = merged_all (λ d. true) other m
+all_joined_by join other m = joined_by join other m ∷ []
 
 -- the reply that such an answer is; want of memory is none
 abbrev pub IsReply : Result (Unit {0}) DeclFault → Result Reply OutOfMemory → Type 0

@@ -23,6 +23,7 @@ use Rattle.rhd_manifest.specs.Manifest.{ManifestLists}
 use Rattle.rhd_manifest.specs.Rank.{rank, walk}
 use Rattle.rhd_module.specs.declared.registration.FuncRegistration.{FuncRegistration}
 use Rattle.rhd_module.specs.Tree.{ModuleTree, empty_module}
+use Rattle.rhd_module.specs.Algebra.{combined_with, flattened_with, filled_with, merged_with, merged_all}
 use Rattle.rhd_module.specs.Shown.{own_decl}
 use Rattle.rhd_module.specs.Walk.{tree}
 use Rattle.rhd_module.specs.Index.{indexed}
@@ -85,6 +86,10 @@ operands w f (commands.CombineManifest m id) = module_operand w m ∷ manifest_o
 operands w f (commands.RegisterLazy m) = module_operand w m ∷ []
 operands w f (commands.Index m) = module_operand w m ∷ []
 operands w f (commands.SubModule m name sub) = module_operand w m ∷ module_operand w sub ∷ []
+operands w f (commands.Combine m other) = module_operand w m ∷ module_operand w other ∷ []
+operands w f (commands.CombineFlatten m other) = module_operand w m ∷ module_operand w other ∷ []
+operands w f (commands.Fill m other) = module_operand w m ∷ module_operand w other ∷ []
+operands w f (commands.Merge m other) = module_operand w m ∷ module_operand w other ∷ []
 operands w f (commands.Clear m) = module_operand w m ∷ []
 operands w f (commands.RegisterFn name id) = native_operand w id ∷ []
 operands w f (commands.RegisterRaw name types id) = native_operand w id ∷ []
@@ -215,6 +220,10 @@ with_module w f m new = record { reply = Done; world = record w { modules = slic
 abbrev pub changed : World → Frame → ModuleId → (ModuleTree → ChangedModule) → Option Change
 changed w f m change = option_map (λ old. with_module w f m (change old)) (slice_get w.modules m.0)
 
+-- only the module of a number changes, by what another is then; both can be the same
+abbrev pub changed_with : World → Frame → ModuleId → ModuleId → (ModuleTree → ModuleTree → ChangedModule) → Option Change
+changed_with w f m other change = option_and_then (λ o. changed w f m (change o)) (slice_get w.modules other.0)
+
 -- one module more is made, which gets the next number
 abbrev pub with_made : World → Frame → ChangedModule → Change
 with_made w f new = record { reply = Made (record { 0 = length w.modules }); world = record w { modules = w.modules ++ new.tree ∷ [] }; frame = f; tables = new.tables }
@@ -246,6 +255,10 @@ with_libs w f libs = record { reply = Done; world = w; frame = record f { lib = 
 abbrev pub answering : World → Frame → Reply → Change
 answering w f reply = record { reply = reply; world = w; frame = f; tables = [] }
 
+-- another module merged into one: each module that this makes of a sub-module has a new table too
+abbrev pub merged : ModuleTree → ModuleTree → ChangedModule
+merged other m = record { tree = merged_with (λ d. true) other m; tables = map eager_keys (merged_all (λ d. true) other m) }
+
 -- how many variables, declarations and functions that iterate a module has
 abbrev pub counted : ModuleTree → Reply
 counted m = let n = counts m in Count n.0 n.1.0 n.1.1
@@ -264,7 +277,11 @@ changed_by w f command (Some m) = changed w f m (module_change w.engine.natives 
 abbrev pub change : World → Frame → Command → Option Change
 change w f commands.NewModule = Some (with_made w f (without_keys (empty_module w.engine.seeds)))
 change w f (commands.FromManifest id) = Some (with_made w f (made_of w.engine.seeds w.engine.manifests id))
-change w f (commands.SubModule m name sub) = option_and_then (λ child. changed w f m (λ old. without_keys (with_sub name child old))) (slice_get w.modules sub.0)
+change w f (commands.SubModule m name sub) = changed_with w f m sub (λ child old. without_keys (with_sub name child old))
+change w f (commands.Combine m other) = changed_with w f m other (λ o old. with_keys (combined_with o old))
+change w f (commands.CombineFlatten m other) = changed_with w f m other (λ o old. with_keys (flattened_with o old))
+change w f (commands.Fill m other) = changed_with w f m other (λ o old. with_keys (filled_with o old))
+change w f (commands.Merge m other) = changed_with w f m other merged
 change w f (commands.RegisterFn name id) = Some (changed_first w f (registered w.engine.natives (fn_registration w.engine.natives name id) id))
 change w f (commands.RegisterRaw name types id) = Some (changed_first w f (registered_raw w.engine.natives (raw_registration name Global) types (raw_func name types id)))
 change w f (commands.RegisterType kind display) = Some (with_globals w f (in_first (with_type (type_name (Custom kind)) display []) w.engine.globals) [])

@@ -23,7 +23,7 @@ use rhd_value::{FnId, OutOfMemory, Text, TypeTag, Types};
 use std::alloc::Global;
 
 /// The refusal of a number that isn't held.
-fn unknown(number: u32, length: usize) -> DeclFault
+pub(crate) fn unknown(number: u32, length: usize) -> DeclFault
     ensures { result ≡ UnknownNumber number length }
 {
     DeclFault::UnknownNumber {
@@ -70,6 +70,10 @@ pub(crate) fn is_told(command: &Command) -> bool
     matches!(
         command,
         Command::SubModule { .. }
+            | Command::Combine { .. }
+            | Command::CombineFlatten { .. }
+            | Command::Fill { .. }
+            | Command::Merge { .. }
             | Command::RegisterFn { .. }
             | Command::RegisterRaw { .. }
             | Command::RegisterType { .. }

@@ -2,6 +2,7 @@
 #![tactic(auto)]
 
 mod declaring;
+mod joining;
 mod session;
 
 pub use rhd_call::{

@@ -16,6 +16,7 @@ ghost use Rattle.rhd_session.specs.Changing.{is_told, Goes};
 ghost use Rattle.rhd_session.specs.Commands.{is_call, target};
 
 use crate::declaring::{is_told, reply_of, target};
+use crate::joining::Join;
 use rhd_call::{Command, Commands, Replies, Reply, Stopped};
 use rhd_engine::{Builtins, Engine, GlobalRuntimeState, Limits, Printers};
 use rhd_func::{Bodies, CallRequest, Host, Natives};
@@ -124,6 +125,12 @@ impl Session {
                 name,
                 sub,
             } => self.sub_module(alloc, id, name, sub),
+            Command::Combine { module: id, other } => self.join(alloc, Join::Combine, id, other),
+            Command::CombineFlatten { module: id, other } => {
+                self.join(alloc, Join::CombineFlatten, id, other)
+            }
+            Command::Fill { module: id, other } => self.join(alloc, Join::Fill, id, other),
+            Command::Merge { module: id, other } => self.join(alloc, Join::Merge, id, other),
             Command::RegisterFn { name, id } => self.register_fn(alloc, name, id),
             Command::RegisterRaw { name, types, id } => self.register_raw(alloc, name, &types, id),
             Command::RegisterType { kind, display } => self.register_type(alloc, kind, display),
