@@ -13,7 +13,7 @@ use Rattle.rhd_func.specs.Funcs.{is_script}
 use Rattle.rhd_decl.specs.declared.declaration.Declaration.{Declaration}
 use Rattle.rhd_decl.specs.declared.fault.DeclFault.{DeclFault}
 use Rattle.rhd_decl.specs.declared.fault.DeclFault.TheVariants.{HashCollision, OutOfMemory}
-use Rattle.rhd_manifest.specs.Entry.{entry_pair}
+use Rattle.rhd_manifest.specs.Entry.{Entry, entry_pair}
 use Rattle.rhd_module.specs.Contents.{put_sub, find_sub}
 use Rattle.rhd_module.specs.Manifests.{put_vars, put_all, put_back}
 use Rattle.rhd_module.specs.Shown.{shown, without}
@@ -82,9 +82,13 @@ Passes = Declaration → Bool
 abbrev pub that_pass : Passes → Pairs → Pairs
 that_pass passes ps = filter (λ p. passes p.1) ps
 
--- what another module lists, from the lowest precedence to the highest, and what it declares, put over the declarations of one
+-- listed functions, from the lowest precedence to the highest, put over the declarations of a module
+abbrev pub entries_over : Passes → List Entry → Lists → Pairs
+entries_over passes es own = put_back (that_pass passes (map (entry_pair own.seeds) es)) own.eager
+
+-- what another module lists, and over it what it declares
 abbrev pub registered_over : Passes → Lists → Lists → Pairs
-registered_over passes other own = put_all (that_pass passes other.eager) (put_back (that_pass passes (map (entry_pair own.seeds) other.listed)) own.eager)
+registered_over passes other own = put_all (that_pass passes other.eager) (entries_over passes other.listed own)
 
 abbrev pub merged_own : Passes → Lists → Lists → Lists
 merged_own passes other own = record own {
@@ -123,7 +127,8 @@ passes_by filter d = filter d.metadata.namespace d.metadata.access (is_script d.
 
 -- what such a filter answers is told by a function; what one for scripts alone answers too
 abbrev pub FilterTells : (FnNamespace → FnAccess → Bool → Bor Bytes → ℕ → Bool → Type 0) → (FnNamespace → FnAccess → Bool → Bytes → ℕ → Bool) → Type 0
-FilterTells Answers tells = (namespace : FnNamespace) (access : FnAccess) (script : Bool) (name : Bor Bytes) (params : ℕ) (r : Bool) → params < 2 ^ 64 → Answers namespace access script name params r → r ≡ tells namespace access script name.now params
+FilterTells Answers tells = (namespace : FnNamespace) (access : FnAccess) (script : Bool) (name : Bor Bytes) (params : ℕ) (r : Bool)
+    → params < 2 ^ 64 → Answers namespace access script name params r → r ≡ tells namespace access script name.now params
 
 abbrev pub ScriptFilterTells : (FnNamespace → FnAccess → Bor Bytes → ℕ → Bool → Type 0) → (FnNamespace → FnAccess → Bytes → ℕ → Bool) → Type 0
 ScriptFilterTells Answers tells = (namespace : FnNamespace) (access : FnAccess) (name : Bor Bytes) (params : ℕ) (r : Bool) → params < 2 ^ 64 → Answers namespace access name params r → r ≡ tells namespace access name.now params

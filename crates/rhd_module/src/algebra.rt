@@ -1,6 +1,6 @@
 //! Module algebra: calls that join one module with another.
 
-ghost use Rattle.std.specs.Prelude.{◌≡◌, ◌<◌, ◌^◌, ℕ, Bool, true, IfOk, OnOk, OnErr};
+ghost use Rattle.std.specs.Prelude.{◌≡◌, ◌<◌, ℕ, Bool, true, OnOk, OnErr};
 ghost use Rattle.rhd_value.specs.Tree.{Bytes};
 ghost use Rattle.rhd_func.specs.declared.access.FnAccess.{FnAccess as Access};
 ghost use Rattle.rhd_func.specs.declared.access.FnNamespace.{FnNamespace as Namespace};

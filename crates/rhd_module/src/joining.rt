@@ -1,15 +1,15 @@
 //! What of one module is put into another where they are joined.
 
-ghost use Rattle.std.specs.Prelude.{◌≡◌, ◌∷◌, ◌++◌, [], Bool, true, false, ◌&&◌, map, reverse, IfOk, IfErr, OnOk, OnErr};
+ghost use Rattle.std.specs.Prelude.{◌≡◌, ◌∷◌, ◌++◌, [], Bool, false, reverse, IfOk, IfErr, OnOk};
 ghost use Rattle.std.specs.Fn.{FnReturnsAt};
 ghost use Rattle.std.specs.List.{AllByRecursion};
 ghost use Rattle.std.specs.Map.{keys_of};
 ghost use Rattle.rhd_decl.specs.declared.declaration.Declaration.{Declaration as Decl};
-ghost use Rattle.rhd_manifest.specs.Entry.{entry_pair};
 ghost use Rattle.rhd_manifest.specs.Listing.{listed_in};
-ghost use Rattle.rhd_module.specs.Algebra.{joined_doc, over, fill_vars, fill_subs, put_subs, that_pass, registered_over, combined_with, flattened_with, filled_with, merged_own, merged_with, merged_all, HasOwnTable, SomeClash, IsJoined, Merges, Tells};
+ghost use Rattle.rhd_module.specs.Algebra.{joined_doc, over, fill_vars, fill_subs, put_subs, that_pass, registered_over, combined_with, flattened_with, filled_with, merged_own, merged_with, merged_all, entries_over};
+ghost use Rattle.rhd_module.specs.Algebra.{HasOwnTable, SomeClash, IsJoined, Merges, Tells};
 ghost use Rattle.rhd_module.specs.Index.{IsClash};
-ghost use Rattle.rhd_module.specs.Manifests.{put_vars, put_all, put_back, with_contents, with_pairs};
+ghost use Rattle.rhd_module.specs.Manifests.{put_vars, put_all, with_contents, with_pairs};
 ghost use Rattle.rhd_module.specs.Shown.{shown, without};
 ghost use Rattle.rhd_module.specs.Tree.{empty_module};
 
@@ -112,8 +112,8 @@ fn register_entry_that<F: Fn(&Declaration) -> bool>(
     passes: &F,
 ) -> Result<(), DeclFault>
     requires { F.IsAlwaysCallable passes.now }
-    ensures ok { (tells : Decl → Bool) → Tells (FnReturnsAt F.Fn passes.now) tells → OnOk result (made.new ≡ with_pairs (put_back (that_pass tells (entry_pair made.old.own.seeds entry.now ∷ [])) made.old.own.eager) made.new.own.indexed made.old) }
-    ensures clash { (tells : Decl → Bool) → Tells (FnReturnsAt F.Fn passes.now) tells → IfErr result (IsClash made.old.own.seeds (keys_of (put_back (that_pass tells (entry_pair made.old.own.seeds entry.now ∷ [])) made.old.own.eager))) }
+    ensures ok { (tells : Decl → Bool) → Tells (FnReturnsAt F.Fn passes.now) tells → OnOk result (made.new ≡ with_pairs (entries_over tells (entry.now ∷ []) made.old.own) made.new.own.indexed made.old) }
+    ensures clash { (tells : Decl → Bool) → Tells (FnReturnsAt F.Fn passes.now) tells → IfErr result (IsClash made.old.own.seeds (keys_of (entries_over tells (entry.now ∷ []) made.old.own))) }
 {
     let declaration = entry.declaration(alloc, made.seeds())?;
     if !passes(&declaration) {
@@ -130,8 +130,8 @@ fn register_entries_that<F: Fn(&Declaration) -> bool>(
     passes: &F,
 ) -> Result<(), DeclFault>
     requires { F.IsAlwaysCallable passes.now }
-    ensures ok { (tells : Decl → Bool) → Tells (FnReturnsAt F.Fn passes.now) tells → OnOk result (made.new ≡ with_pairs (put_back (that_pass tells (map (entry_pair made.old.own.seeds) (reverse entries.now))) made.old.own.eager) made.new.own.indexed made.old) }
-    ensures clash { (tells : Decl → Bool) → Tells (FnReturnsAt F.Fn passes.now) tells → IfErr result (IsClash made.old.own.seeds (keys_of (put_back (that_pass tells (map (entry_pair made.old.own.seeds) (reverse entries.now))) made.old.own.eager))) }
+    ensures ok { (tells : Decl → Bool) → Tells (FnReturnsAt F.Fn passes.now) tells → OnOk result (made.new ≡ with_pairs (entries_over tells (reverse entries.now) made.old.own) made.new.own.indexed made.old) }
+    ensures clash { (tells : Decl → Bool) → Tells (FnReturnsAt F.Fn passes.now) tells → IfErr result (IsClash made.old.own.seeds (keys_of (entries_over tells (reverse entries.now) made.old.own))) }
 {
     for entry in entries {
         register_entry_that(made, alloc, entry, passes)?;
@@ -147,8 +147,8 @@ fn register_parts_that<F: Fn(&Declaration) -> bool>(
     passes: &F,
 ) -> Result<(), DeclFault>
     requires { F.IsAlwaysCallable passes.now }
-    ensures ok { (tells : Decl → Bool) → Tells (FnReturnsAt F.Fn passes.now) tells → OnOk result (made.new ≡ with_pairs (put_back (that_pass tells (map (entry_pair made.old.own.seeds) (listed_in parts.now))) made.old.own.eager) made.new.own.indexed made.old) }
-    ensures clash { (tells : Decl → Bool) → Tells (FnReturnsAt F.Fn passes.now) tells → IfErr result (IsClash made.old.own.seeds (keys_of (put_back (that_pass tells (map (entry_pair made.old.own.seeds) (listed_in parts.now))) made.old.own.eager))) }
+    ensures ok { (tells : Decl → Bool) → Tells (FnReturnsAt F.Fn passes.now) tells → OnOk result (made.new ≡ with_pairs (entries_over tells (listed_in parts.now) made.old.own) made.new.own.indexed made.old) }
+    ensures clash { (tells : Decl → Bool) → Tells (FnReturnsAt F.Fn passes.now) tells → IfErr result (IsClash made.old.own.seeds (keys_of (entries_over tells (listed_in parts.now) made.old.own))) }
 {
     for part in parts {
         register_entries_that(made, alloc, part.as_slice(), passes)?;
