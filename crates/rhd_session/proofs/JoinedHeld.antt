@@ -9,7 +9,7 @@ use Rattle.rhd_hash.specs.declared.mixer.Seeds.{Seeds}
 use Rattle.rhd_decl.specs.declared.declaration.Declaration.{Declaration}
 use Rattle.rhd_decl.specs.declared.fault.DeclFault.{DeclFault}
 use Rattle.rhd_manifest.specs.Entry.{Entry, entry_pair}
-use Rattle.rhd_module.specs.Algebra.{Passes, Joins, that_pass, registered_over, over, over_all, put_subs, fill_subs, merge_subs, merged_own, combined_with, flattened_with, filled_with, merged_with}
+use Rattle.rhd_module.specs.Algebra.{Passes, Joins, that_pass, registered_over, over, over_all, put_subs, fill_subs, merge_subs, merged_own, filled_with}
 use Rattle.rhd_module.specs.Contents.{put_sub, find_sub}
 use Rattle.rhd_module.specs.Manifests.{put_all, put_back}
 use Rattle.rhd_module.specs.Registered.{put}
