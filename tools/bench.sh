@@ -142,8 +142,8 @@ measure 'static modules asked by 1,000 calls' 100 1,000 layers 'static a%d 0'
 # Times both programs on a kind of text, of two counts. Lines of forms that don't stand yet are left out.
 beside() {
     local kind=$1 small=$2 large=$3 ours_small ours_large twin_small twin_large
-    "$twin" gen-run "$kind" "$small" 1 | grep -v '^file \|^import-path \|^signatures\|^merge \|^materialize' >"$work/small"
-    "$twin" gen-run "$kind" "$large" 1 | grep -v '^file \|^import-path \|^signatures\|^merge \|^materialize' >"$work/large"
+    "$twin" gen-run "$kind" "$small" 1 | grep -v '^file \|^import-path \|^signatures\|^materialize' >"$work/small"
+    "$twin" gen-run "$kind" "$large" 1 | grep -v '^file \|^import-path \|^signatures\|^materialize' >"$work/large"
     ours_small=$(best "$work/small" "$program")
     twin_small=$(best "$work/small" "$twin")
     ours_large=$(best "$work/large" "$program")
