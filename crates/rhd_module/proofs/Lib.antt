@@ -20,3 +20,5 @@ pub mod Combined
 pub mod Made
 pub mod LazyParts
 pub mod JoinParts
+pub mod MapOrder
+pub mod JoinLaws

@@ -50,7 +50,7 @@ first_put k q d ps = by (key_eq k q) refl
     by false s = finds_others key_eq key_eq-Decides q d k ps (λ same. is_other key_eq key_eq-Decides k q s (sym same))
 
 -- put in from the last to the first: the first of them is found, else what was there
-first_back : (k : Key) (ps base : Pairs) → first k (put_back ps base) ≡ option_or (first k ps) (first k base)
+pub first_back : (k : Key) (ps base : Pairs) → first k (put_back ps base) ≡ option_or (first k ps) (first k base)
 first_back k [] base = refl
 first_back k (p ∷ ps) base = first_put k p.0 p.1 (put_back ps base) ∙ ap (cond (key_eq k p.0) (Some p.1)) (first_back k ps base) ∙ cond_or (key_eq k p.0) p.1 (first k ps) (first k base)
 
@@ -60,7 +60,7 @@ Apart [] = ⊤
 Apart (p ∷ ps) = (key_path p.0 ≡ None) × (first p.0 ps ≡ None) × Apart ps
 
 -- of such ones, put in from the first to the last, the same is found
-first_all : (k : Key) (ps base : Pairs) → Apart ps → first k (put_all ps base) ≡ option_or (first k ps) (first k base)
+pub first_all : (k : Key) (ps base : Pairs) → Apart ps → first k (put_all ps base) ≡ option_or (first k ps) (first k base)
 first_all k [] base a = refl
 first_all k (p ∷ ps) base a =
     first_all k ps (put p.0 p.1 base) a.2 ∙ ap (option_or (first k ps)) (first_put k p.0 p.1 base) ∙ swap (key_eq k p.0) (first k ps) p.1 (first k base) (λ e. ap (λ x. first x ps) (one_key k p.0 e) ∙ a.1)
@@ -71,7 +71,7 @@ first_all k (p ∷ ps) base a =
 
 -- What a module shows and what it leaves registered: a declaration, else what is listed.
 module _ (own : Lists) (k : Key) where
-  first_shown : first k (shown own) ≡ option_or (first k own.eager) (first k (lazy own))
+  pub first_shown : first k (shown own) ≡ option_or (first k own.eager) (first k (lazy own))
   first_shown =
       lookup_append (key_eq k) own.eager (without own.eager (map (entry_pair own.seeds) (firsts own.listed)))
       ∙ ap (option_or (first k own.eager)) (first_filter (λ q. is_none (first q own.eager)) k (map (entry_pair own.seeds) (firsts own.listed)))

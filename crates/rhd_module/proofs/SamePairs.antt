@@ -40,7 +40,7 @@ pub apart_declared : (own : Lists) → DeclaresOwn own → Apart own.eager
 apart_declared own declares = apart_keys own.eager declares.0 declares.1
 
 -- declarations put in leave it so
-apart_put : (k : Key) (d : Declaration) (ps : Pairs) → key_path k ≡ None → Apart ps → Apart (put k d ps)
+pub apart_put : (k : Key) (d : Declaration) (ps : Pairs) → key_path k ≡ None → Apart ps → Apart (put k d ps)
 apart_put k d [] plain a = (plain, refl, tt)
 apart_put k d (p ∷ ps) plain a = by (key_eq k p.0) refl (apart_put k d ps plain a.2)
   where

@@ -44,6 +44,11 @@ abbrev pub subs_of : {Z : Type 0} → List (Bytes × Rc ModuleTree Z) → Subs
 subs_of [] = no_subs
 subs_of ((name, m) ∷ later) = sub name m.value.own m.value.subs (subs_of later)
 
+-- the names of sub-modules
+abbrev pub names_of : Subs → List Bytes
+names_of no_subs = []
+names_of (sub name own below later) = name ∷ names_of later
+
 -- how deep sub-modules go
 abbrev pub depth : Subs → ℕ
 depth no_subs = 0

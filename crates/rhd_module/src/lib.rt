@@ -19,7 +19,8 @@ mod setters;
 mod shared;
 
 pub use law::{
-    a_declaration_leaves_the_others, a_key_finds_its_first_declaration,
+    a_declaration_leaves_the_others, a_key_finds_its_first_declaration, combining_is_associative,
+    joining_finds_what_either_has, merging_combines_what_is_declared,
     registering_keeps_what_is_found,
 };
 pub use manifest_calls::{EntryCalls, ManifestCalls};
