@@ -132,7 +132,7 @@ impl Model for Module {
 }
 
 /// Notes the place of a declaration under its name, if it is a native's without a path.
-fn note_place(
+pub(crate) fn note_place(
     natives: &mut NativeIndex,
     alloc: Global,
     declarations: &KeyTable<Declaration>,
@@ -151,7 +151,7 @@ fn note_place(
 }
 
 /// Puts a declaration under a key of a table. Answers whether one stood there.
-fn put_pair(
+pub(crate) fn put_pair(
     table: &mut KeyTable<Declaration>,
     key: Key,
     declaration: Declaration,
