@@ -22,3 +22,4 @@ pub mod LazyParts
 pub mod JoinParts
 pub mod MapOrder
 pub mod JoinLaws
+pub mod PutParts

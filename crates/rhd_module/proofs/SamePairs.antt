@@ -24,7 +24,7 @@ use Rattle.rhd_module.specs.OwnKeys.{key_path, DeclaresOwn}
 use Rattle.rhd_module.proofs.Listed.{lookup_append}
 use Rattle.rhd_module.proofs.Lookups.{first, one_key, or_none, Apart, first_filter, first_put, first_registered}
 
-other_way : (a b : Key) → key_eq a b ≡ false → key_eq b a ≡ false
+pub other_way : (a b : Key) → key_eq a b ≡ false → key_eq b a ≡ false
 other_way a b e = other_key key_eq key_eq-Decides b a (λ same. is_other key_eq key_eq-Decides a b e (sym same))
 
 no_other : (k : Key) (ps : Pairs) → AllByRecursion (λ q. key_eq k q ≡ false) (keys_of ps) → first k ps ≡ None

@@ -55,9 +55,9 @@ pub struct Module {
     /// What it has of its tree, while it is indexed. Copies share it.
     pub(crate) index: Rc<TreeIndex>,
     /// Where the natives of a name stand among the declarations.
-    natives: NativeIndex,
+    pub(crate) natives: NativeIndex,
     /// Whether a script was ever declared: if not, a search for one ends at once.
-    scripts: bool,
+    pub(crate) scripts: bool,
 }
 
 impl Model for Module {
