@@ -3,6 +3,7 @@ use Rattle.std.proofs.Common.{◌≡◌, ℕ, Bool, true, false, cond, ◌||◌,
 use Rattle.std.specs.Iterator.{Yields}
 use Rattle.std.specs.List.{AllByRecursion, filter, list_any, Contains}
 use Rattle.std.specs.Map.{keys_of, lookup}
+use Rattle.std.specs.Prelude.{Result, Ok, Err, OnOk, OnErr}
 use Rattle.std.specs.Vec.Iter.{into_iter_items, into_iter_steps}
 use Rattle.std.specs.declared.vec.IntoIter.{IntoIter}
 use Rattle.rhd_hash.specs.declared.key.Key.{Key}
@@ -51,6 +52,11 @@ refusal_clash s ps k d clash fault is why = subst (IsClash s (keys_of (put k d p
       clash = subst (λ (q : Key). Clashes s held q) (sym same) clashes;
     }
     by OutOfMemory why = tt
+
+-- what is refused for what isn't there is done where it is there
+pub surely : {A : Type 0} (r : Result A DeclFault) (o : Option Declaration) (Q : Type 0) → OnOk r Q → OnErr r (o ≡ None) → is_some o ≡ true → Q
+surely (Ok a) o Q done none there = done
+surely (Err f) o Q done none there = absurd (true≢false (sym there ∙ ap is_some none))
 
 -- a key that isn't in front goes behind it
 pub put_behind : (k : Key) (d : Declaration) (old more : Pairs) → first k old ≡ None → put k d (old ++ more) ≡ old ++ put k d more

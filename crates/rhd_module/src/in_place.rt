@@ -14,6 +14,7 @@ ghost use Rattle.rhd_module.specs.Below.{may_be_dynamic};
 ghost use Rattle.rhd_module.specs.Index.{IsClash};
 ghost use Rattle.rhd_module.specs.Manifests.{put_all, with_pairs};
 ghost use Rattle.rhd_module.specs.NativeIndex.{IsIndex};
+ghost use Rattle.rhd_module.specs.Registered.{put};
 ghost use Rattle.rhd_module.specs.Scripts.{AreNoted};
 ghost use Rattle.rhd_module.specs.Shown.{shown, without};
 ghost use Rattle.rhd_module.specs.Tree.{Pairs};
@@ -112,16 +113,21 @@ fn insert_all(
     Ok(())
 }
 
+/// Puts a declaration in the place of that of an equal key, which is there.
+fn replace(table: &mut KeyTable<Declaration>, key: Key, declaration: Declaration)
+    requires there { is_some (lookup (key_eq key) table.old.pairs) ≡ true }
+    ensures { table.new ≡ record table.old { pairs = put key declaration table.old.pairs } }
+{
+    let _done = put_pair(table, key, declaration);
+}
+
 /// Puts declarations in the place of those of equal keys.
 fn replace_all(table: &mut KeyTable<Declaration>, pairs: Vec<(Key, Declaration)>)
     requires there { AllByRecursion (λ p. is_some (lookup (key_eq p.0) table.old.pairs) ≡ true) pairs.items }
     ensures { table.new ≡ record table.old { pairs = put_all pairs.items table.old.pairs } }
 {
     for (key, declaration) in pairs {
-        match table.insert(key, declaration) {
-            Ok(_replaced) => {}
-            Err(_fault) => {}
-        }
+        replace(table, key, declaration);
     }
 }
 

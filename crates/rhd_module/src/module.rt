@@ -160,6 +160,7 @@ pub(crate) fn put_pair(
     ensures pairs { OnOk result (table.new ≡ record table.old { pairs = put key declaration table.old.pairs }) }
     ensures apart { OnOk result (HasOwnHashes table.old.seeds (keys_of (put key declaration table.old.pairs))) }
     ensures unchanged { OnErr result (table.new ≡ table.old) }
+    ensures absent { OnErr result (lookup (key_eq key) table.old.pairs ≡ None) }
     ensures refused { IfErr result (λ fault. (clash : TableFault) × (fault ≡ collision clash) × IsRefusal table.old key clash) }
 {
     match table.insert(key, declaration) {
