@@ -1,33 +1,40 @@
 -- Declarations of which some take the places of those of equal keys, and others go last.
-use Rattle.std.proofs.Common.{◌≡◌, ℕ, Bool, true, false, cond, ◌||◌, List, [], ◌∷◌, ◌++◌, length, take, Option, None, Some, is_some, is_none, refl, sym, ap, subst, true≢false, append_assoc, append-nil, ◌∙◌}
+use Rattle.std.proofs.Common.{◌≡◌, ℕ, Bool, true, false, cond, not, ◌||◌, List, [], ◌∷◌, ◌++◌, length, take, Option, None, Some, is_some, is_none, refl, sym, ap, subst, true≢false, append_assoc, append-nil, ◌∙◌}
 use Rattle.std.specs.Iterator.{Yields}
-use Rattle.std.specs.List.{AllByRecursion, filter, list_any, Contains}
+use Rattle.std.specs.List.{AllByRecursion, IsDistinct, filter, list_any, Contains}
 use Rattle.std.specs.Map.{keys_of, lookup}
+use Rattle.std.specs.Option.{option_or}
 use Rattle.std.specs.Prelude.{Result, Ok, Err, OnOk, OnErr}
+use Rattle.std.proofs.lemmas.Map.Keys.{IsDistinct-head, IsDistinct-tail}
 use Rattle.std.specs.Vec.Iter.{into_iter_items, into_iter_steps}
 use Rattle.std.specs.declared.vec.IntoIter.{IntoIter}
 use Rattle.rhd_hash.specs.declared.key.Key.{Key}
 use Rattle.rhd_hash.specs.declared.mixer.Seeds.{Seeds}
 use Rattle.rhd_hash.specs.declared.fault.TableFault.{TableFault}
 use Rattle.rhd_hash.specs.declared.fault.TableFault.TheVariants.{Clash, OutOfMemory}
-use Rattle.rhd_hash.specs.Keys.{key_eq}
+use Rattle.rhd_hash.specs.Filter.{is_marked}
+use Rattle.rhd_hash.specs.Keys.{key_eq, is_script_key}
 use Rattle.rhd_hash.specs.Refusal.{IsRefusal}
-use Rattle.rhd_hash.specs.Table.{Clashes}
+use Rattle.rhd_hash.specs.Table.{Clashes, HasOwnHashes}
 use Rattle.rhd_decl.specs.Collisions.{collision}
 use Rattle.rhd_decl.specs.declared.declaration.Declaration.{Declaration}
 use Rattle.rhd_decl.specs.declared.fault.DeclFault.{DeclFault}
+use Rattle.rhd_manifest.specs.Entry.{Entry}
+use Rattle.rhd_module.specs.Below.{may_be_dynamic, lists_dynamic}
+use Rattle.rhd_module.specs.Scripts.{has_script, AreNoted}
 use Rattle.rhd_module.specs.declared.native_index.NativeIndex.{NativeIndex}
 use Rattle.rhd_module.specs.Index.{IsClash}
-use Rattle.rhd_module.specs.Manifests.{put_all}
+use Rattle.rhd_module.specs.Manifests.{lazy, put_all}
+use Rattle.rhd_module.specs.Shown.{shown}
 use Rattle.rhd_module.specs.NativeIndex.{IsIndex}
 use Rattle.rhd_module.specs.Registered.{put}
-use Rattle.rhd_module.specs.Tree.{Pairs}
+use Rattle.rhd_module.specs.Tree.{Lists, Pairs}
 use Rattle.rhd_module.proofs.JoinLaws.{put_past}
 use Rattle.rhd_module.proofs.Kept.{any_put, any_put_there}
-use Rattle.rhd_module.proofs.Lookups.{first, one_key, Apart, first_filter, first_put}
+use Rattle.rhd_module.proofs.Lookups.{first, one_key, first_filter, first_put, first_shown}
 use Rattle.rhd_module.proofs.Places.{index_put_there}
-use Rattle.rhd_module.proofs.Puts.{there, kept}
-use Rattle.rhd_module.proofs.SamePairs.{other_way}
+use Rattle.rhd_module.proofs.Puts.{there, kept, distinct_own}
+use Rattle.rhd_module.proofs.SamePairs.{other_way, no_other}
 
 -- what a list has given, and what is left of it
 pub taken_front : {X A : Type 0} (start : IntoIter X A) (done : List X) (last : IntoIter X A) → Yields into_iter_steps start done last → into_iter_items start ≡ done ++ into_iter_items last
@@ -115,17 +122,17 @@ any_there test [] x h = refl
 any_there test (p ∷ ps) x h = any_there test ps (put p.0 p.1 x) (all_still ps (p ∷ []) x h.1) ∙ any_put_there test p.0 p.1 x (none_is (first p.0 x) h.0)
 
 -- Those that are there, and those that are not.
-abbrev present : Pairs → Key → Bool
+abbrev pub present : Pairs → Key → Bool
 present x k = is_some (first k x)
 
-abbrev absent : Pairs → Key → Bool
+abbrev pub absent : Pairs → Key → Bool
 absent x k = is_none (first k x)
 
-same_filter : (f g : Key → Bool) (ps : Pairs) → AllByRecursion (λ p. f p.0 ≡ g p.0) ps → filter (λ p. f p.0) ps ≡ filter (λ p. g p.0) ps
+pub same_filter : (f g : Key → Bool) (ps : Pairs) → AllByRecursion (λ p. f p.0 ≡ g p.0) ps → filter (λ p. f p.0) ps ≡ filter (λ p. g p.0) ps
 same_filter f g [] h = refl
 same_filter f g (p ∷ ps) h = λ i. cond (h.0 i) (p ∷ same_filter f g ps h.1 i) (same_filter f g ps h.1 i)
 
-every : (f g : Key → Bool) (ps : Pairs) → ((k : Key) → f k ≡ g k) → AllByRecursion (λ p. f p.0 ≡ g p.0) ps
+pub every : (f g : Key → Bool) (ps : Pairs) → ((k : Key) → f k ≡ g k) → AllByRecursion (λ p. f p.0 ≡ g p.0) ps
 every f g [] h = tt
 every f g (p ∷ ps) h = (h p.0, every f g ps h)
 
@@ -176,7 +183,7 @@ module _ (p : Key × Declaration) (own : Pairs) where
       now = put p.0 p.1 own
 
       whole : AllByRecursion (λ q. present now q.0 ≡ present own q.0) ps → put_all (here own) (put_all (gone own) now) ≡ put_all ps now
-      whole same = (λ i. put_all (same_filter (present now) (present own) ps same (~ i)) (put_all (same_filter (absent now) (absent own) ps (absent_same ps same) (~ i)) now)) ∙ ih
+      whole same = sym (λ i. put_all (same_filter (present now) (present own) ps same i) (put_all (same_filter (absent now) (absent own) ps (absent_same ps same) i) now)) ∙ ih
 
       by : (b : Bool) → present own p.0 ≡ b → put_all (cond (present own p.0) (p ∷ here own) (here own)) (put_all (cond (absent own p.0) (p ∷ gone own) (gone own)) own) ≡ put_all ps now
       by true s =
@@ -187,10 +194,22 @@ module _ (p : Key × Declaration) (own : Pairs) where
           let none : absent own p.0 ≡ true = not_there (first p.0 own) s in
           (λ i. put_all (cond (s i) (p ∷ here own) (here own)) (put_all (cond (none i) (p ∷ gone own) (gone own)) own)) ∙ whole (last_same ps (none_others p.0 ps apart))
 
+-- no two of some declarations have the same key
+abbrev pub Alone : Pairs → Type 0
+Alone [] = Unit {0}
+Alone (p ∷ ps) = (first p.0 ps ≡ None) × Alone ps
+
+alone_distinct : (ps : Pairs) → IsDistinct key_eq (keys_of ps) → Alone ps
+alone_distinct [] distinct = tt
+alone_distinct (p ∷ ps) distinct = (no_other p.0 ps (IsDistinct-head key_eq p.0 (keys_of ps) distinct), alone_distinct ps (IsDistinct-tail key_eq p.0 (keys_of ps) distinct))
+
+pub alone_own : (s : Seeds) (ps : Pairs) → HasOwnHashes s (keys_of ps) → Alone ps
+alone_own s ps own = alone_distinct ps (distinct_own s (keys_of ps) own)
+
 -- put in all at once, or first those that aren't there
-pub split_all : (ps own : Pairs) → Apart ps → put_all (filter (λ p. present own p.0) ps) (put_all (filter (λ p. absent own p.0) ps) own) ≡ put_all ps own
+pub split_all : (ps own : Pairs) → Alone ps → put_all (filter (λ p. present own p.0) ps) (put_all (filter (λ p. absent own p.0) ps) own) ≡ put_all ps own
 split_all [] own a = refl
-split_all (p ∷ ps) own a = split_step p own ps a.1.0 (split_all ps (put p.0 p.1 own) a.1.1)
+split_all (p ∷ ps) own a = split_step p own ps a.0 (split_all ps (put p.0 p.1 own) a.1)
 
 pub all_present : (x ps : Pairs) → AllByRecursion (λ p. is_some (first p.0 x) ≡ true) (filter (λ p. present x p.0) ps)
 all_present x [] = tt
@@ -212,3 +231,53 @@ all_absent x test (p ∷ ps) out = by (test p.0) refl (all_absent x test ps out)
 pub is_nothing : {A : Type 0} (o : Option A) → is_none o ≡ true → o ≡ None
 is_nothing None h = refl
 is_nothing (Some x) h = absurd (true≢false (sym h))
+
+or_between : (a b c : Bool) → ((a || b) || c) ≡ ((a || c) || b)
+or_between true b c = refl
+or_between false true true = refl
+or_between false true false = refl
+or_between false false true = refl
+or_between false false false = refl
+
+-- the filter of a module, where the keys that are new were marked
+pub filter_grown : (marks marks2 : List ℕ) (s t : Seeds) (there new old grown : Pairs) (es : List Entry) → ((v : ℕ) → is_marked 8 marks v ≡ (list_any (λ p. may_be_dynamic s v p.0) old || lists_dynamic s v es))
+    → ((v : ℕ) → is_marked 8 marks2 v ≡ (is_marked 8 marks v || list_any (λ p. may_be_dynamic s v p.0) new)) → AllByRecursion (λ p. is_some (first p.0 old) ≡ true) there → t ≡ s → grown ≡ put_all there (put_all new old)
+    → (v : ℕ) → is_marked 8 marks2 v ≡ (list_any (λ p. may_be_dynamic t v p.0) grown || lists_dynamic t v es)
+filter_grown marks marks2 s t there new old grown es right more held same is v =
+    more v ∙ ap (λ b. b || list_any (λ p. may_be_dynamic s v p.0) new) (right v) ∙ or_between (list_any (λ p. may_be_dynamic s v p.0) old) (lists_dynamic s v es) (list_any (λ p. may_be_dynamic s v p.0) new)
+    ∙ ap (λ b. b || lists_dynamic s v es) (sym (any_there (may_be_dynamic s v) there (put_all new old) (all_still there new old held) ∙ any_all (may_be_dynamic s v) new old))
+    ∙ (λ i. list_any (λ p. may_be_dynamic (sym same i) v p.0) (sym is i) || lists_dynamic (sym same i) v es)
+
+first_false : (a b : Bool) → (a || b) ≡ false → a ≡ false
+first_false true b e = e
+first_false false b e = refl
+
+second_false : (a b : Bool) → (a || b) ≡ false → b ≡ false
+second_false true b e = absurd (true≢false e)
+second_false false b e = e
+
+-- and the note of scripts, where it takes in what is known of those that are put in
+pub scripts_grown : (noted more : Bool) (there new old grown : Pairs) → AreNoted noted old → AreNoted more there → AreNoted more new → grown ≡ put_all there (put_all new old) → AreNoted (noted || more) grown
+scripts_grown noted more there new old grown had a b is none =
+    ap has_script is ∙ any_all is_script_key there (put_all new old) ∙ (λ i. (any_all is_script_key new old ∙ (λ j. had (first_false noted more none) j || b (second_false noted more none) j)) i || a (second_false noted more none) i)
+
+-- of some that are no scripts, none is one
+pub none_kept : (test : Key → Bool) (ps : Pairs) → has_script ps ≡ false → has_script (filter (λ p. test p.0) ps) ≡ false
+none_kept test [] none = refl
+none_kept test (p ∷ ps) none = by (test p.0) (none_kept test ps (second_false (is_script_key p.0) (has_script ps) none))
+  where
+    by : (b : Bool) → has_script (filter (λ q. test q.0) ps) ≡ false → has_script (cond b (p ∷ filter (λ q. test q.0) ps) (filter (λ q. test q.0) ps)) ≡ false
+    by true more = (λ i. first_false (is_script_key p.0) (has_script ps) none i || more i)
+    by false more = more
+
+pub not_is : {A : Type 0} (o : Option A) → not (is_some o) ≡ is_none o
+not_is None = refl
+not_is (Some x) = refl
+
+-- what isn't shown isn't declared
+pub front_none : (k : Key) (own : Lists) → is_none (first k (shown own)) ≡ true → first k own.eager ≡ None
+front_none k own h = by (first k own.eager) (ap is_none (sym (first_shown own k)) ∙ h)
+  where
+    by : (o : Option Declaration) → is_none (option_or o (first k (lazy own))) ≡ true → o ≡ None
+    by None h = refl
+    by (Some d) h = absurd (true≢false (sym h))

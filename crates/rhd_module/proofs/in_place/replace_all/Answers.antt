@@ -20,7 +20,7 @@ replace-requires c =
     let items : c.args.pairs.items ≡ done ++ p ∷ later =
     sym c.into_iter-key-iterator.ensures.into_iter_gives.0 ∙ taken_front c.into_iter-key-iterator.result done c.loop-key.key-iterator c.loop-key.yielded_by ∙ ap (λ (ps : Pairs). done ++ ps) c.in-Some.ensures.steps.0 in
     let there : is_some (first p.0 old.pairs) ≡ true = holds_at (λ q. is_some (first q.0 old.pairs) ≡ true) done later c.args.pairs.items p items c.requires.there in
-    ap (λ (t : Table Declaration). is_some (first p.0 t.pairs)) c.loop-key.invariant ∙ still_all p.0 done old.pairs there
+    record { there = ap (λ (t : Table Declaration). is_some (first p.0 t.pairs)) c.loop-key.invariant ∙ still_all p.0 done old.pairs there }
 
 pub loop-key-preserved : goal.loop-key-preserved
 loop-key-preserved c =
