@@ -126,7 +126,7 @@ put_again k d e (r ∷ rs) = by (key_eq k r.0) refl (put_again k d e rs)
     by false s ih = (λ i. cond (s i) ((r.0, d) ∷ put k e rs) (r ∷ put k d (put k e rs))) ∙ ap (λ (x : Pairs). r ∷ x) ih
 
 -- one that is there may be put before others of other keys
-put_past : (k : Key) (d : Declaration) (ps x : Pairs) → first k ps ≡ None → is_some (first k x) ≡ true → put k d (put_all ps x) ≡ put_all ps (put k d x)
+pub put_past : (k : Key) (d : Declaration) (ps x : Pairs) → first k ps ≡ None → is_some (first k x) ≡ true → put k d (put_all ps x) ≡ put_all ps (put k d x)
 put_past k d [] x none there = refl
 put_past k d (p ∷ ps) x none there = by (key_eq k p.0) refl none (put_past k d ps (put p.0 p.1 x))
   where

@@ -20,5 +20,7 @@ pub mod Combined
 pub mod Made
 pub mod LazyParts
 pub mod JoinParts
+pub mod PlacesBack
 pub mod MapOrder
 pub mod JoinLaws
+pub mod PutParts

@@ -12,7 +12,7 @@ turned_step : (a b : List ℕ) (same : Bool) → text_eq a b ≡ same → text_e
 turned_step a b true s e = let same : a ≡ b = (bytes_eq-Decides a b).0 s in let back : text_eq b a ≡ true = (bytes_eq-Decides b a).1 (sym same) in absurd cc
 turned_step a b false s e = s
 
-turned : (a b : List ℕ) → text_eq b a ≡ false → text_eq a b ≡ false
+pub turned : (a b : List ℕ) → text_eq b a ≡ false → text_eq a b ≡ false
 turned a b e = turned_step a b (text_eq a b) refl e
 
 module _ {X : Type 0} (items : X → List ℕ) (m n : List ℕ → Option X) (name : List ℕ) (w : X) (changes : (other : List ℕ) → n other ≡ update text_eq m name (Some w) other) where

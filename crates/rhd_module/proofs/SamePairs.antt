@@ -24,10 +24,10 @@ use Rattle.rhd_module.specs.OwnKeys.{key_path, DeclaresOwn}
 use Rattle.rhd_module.proofs.Listed.{lookup_append}
 use Rattle.rhd_module.proofs.Lookups.{first, one_key, or_none, Apart, first_filter, first_put, first_registered}
 
-other_way : (a b : Key) → key_eq a b ≡ false → key_eq b a ≡ false
+pub other_way : (a b : Key) → key_eq a b ≡ false → key_eq b a ≡ false
 other_way a b e = other_key key_eq key_eq-Decides b a (λ same. is_other key_eq key_eq-Decides a b e (sym same))
 
-no_other : (k : Key) (ps : Pairs) → AllByRecursion (λ q. key_eq k q ≡ false) (keys_of ps) → first k ps ≡ None
+pub no_other : (k : Key) (ps : Pairs) → AllByRecursion (λ q. key_eq k q ≡ false) (keys_of ps) → first k ps ≡ None
 no_other k [] h = refl
 no_other k (p ∷ ps) h = (λ i. cond (h.0 i) (Some p.1) (first k ps)) ∙ no_other k ps h.1
 

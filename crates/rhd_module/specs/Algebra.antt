@@ -5,6 +5,7 @@ use Rattle.std.specs.List.{filter, AllByRecursion, Contains}
 use Rattle.std.specs.Map.{keys_of}
 use Rattle.rhd_value.specs.Tree.{Bytes, Tree}
 use Rattle.rhd_value.specs.Entries.{found}
+use Rattle.rhd_hash.specs.declared.key.Key.{Key}
 use Rattle.rhd_hash.specs.declared.mixer.Seeds.{Seeds}
 use Rattle.rhd_hash.specs.Table.{HasOwnHashes, Clashing}
 use Rattle.rhd_func.specs.declared.access.FnAccess.{FnAccess}
@@ -120,6 +121,10 @@ scripts_that passes m = record m { own = record m.own { eager = that_pass (λ d.
 -- what a test answers is told by a function
 abbrev pub Tells : (Declaration → Bool → Type 0) → Passes → Type 0
 Tells Answers passes = (d : Declaration) (r : Bool) → Answers d r → r ≡ passes d
+
+-- and of a test of keys
+abbrev pub TellsKeys : (Key → Bool → Type 0) → (Key → Bool) → Type 0
+TellsKeys Answers passes = (k : Key) (r : Bool) → Answers k r → r ≡ passes k
 
 -- a filter tells by the namespace, the access, whether it is a script, the name and the number of parameters
 abbrev pub passes_by : (FnNamespace → FnAccess → Bool → Bytes → ℕ → Bool) → Passes

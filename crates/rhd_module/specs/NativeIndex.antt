@@ -28,6 +28,12 @@ place_at name ps place = if option_map_or (λ p. is_native_of name p.0) (slice_g
 abbrev pub noted : NativeIndex → Bytes → List ℕ
 noted natives name = option_map_or (λ v. v.items) (get_by_text natives.places name) []
 
+-- a list without its last element
+abbrev pub but_last : {A : Type 0} → List A → List A
+but_last [] = []
+but_last (a ∷ []) = []
+but_last (a ∷ b ∷ more) = a ∷ but_last (b ∷ more)
+
 -- under each name stand the places of its natives
 abbrev pub IsIndex : NativeIndex → Pairs → Type 0
 IsIndex natives ps = (name : Bytes) → noted natives name ≡ places_from 0 name ps

@@ -4,6 +4,7 @@
 mod algebra;
 mod combining;
 mod contents;
+mod in_place;
 mod index;
 mod joining;
 mod law;

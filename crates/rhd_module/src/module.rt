@@ -55,9 +55,9 @@ pub struct Module {
     /// What it has of its tree, while it is indexed. Copies share it.
     pub(crate) index: Rc<TreeIndex>,
     /// Where the natives of a name stand among the declarations.
-    natives: NativeIndex,
+    pub(crate) natives: NativeIndex,
     /// Whether a script was ever declared: if not, a search for one ends at once.
-    scripts: bool,
+    pub(crate) scripts: bool,
 }
 
 impl Model for Module {
@@ -132,7 +132,7 @@ impl Model for Module {
 }
 
 /// Notes the place of a declaration under its name, if it is a native's without a path.
-fn note_place(
+pub(crate) fn note_place(
     natives: &mut NativeIndex,
     alloc: Global,
     declarations: &KeyTable<Declaration>,
@@ -151,7 +151,7 @@ fn note_place(
 }
 
 /// Puts a declaration under a key of a table. Answers whether one stood there.
-fn put_pair(
+pub(crate) fn put_pair(
     table: &mut KeyTable<Declaration>,
     key: Key,
     declaration: Declaration,
@@ -160,6 +160,7 @@ fn put_pair(
     ensures pairs { OnOk result (table.new ≡ record table.old { pairs = put key declaration table.old.pairs }) }
     ensures apart { OnOk result (HasOwnHashes table.old.seeds (keys_of (put key declaration table.old.pairs))) }
     ensures unchanged { OnErr result (table.new ≡ table.old) }
+    ensures absent { OnErr result (lookup (key_eq key) table.old.pairs ≡ None) }
     ensures refused { IfErr result (λ fault. (clash : TableFault) × (fault ≡ collision clash) × IsRefusal table.old key clash) }
 {
     match table.insert(key, declaration) {

@@ -2,7 +2,7 @@
 
 ghost use Rattle.std.specs.Prelude.{◌≡◌, ℕ, List, ◌++◌, [], ◌∷◌, OnOk, OnErr, IfOk, if◌then◌else◌};
 ghost use Rattle.rhd_value.specs.Same.{text_eq};
-ghost use Rattle.rhd_module.specs.NativeIndex.{noted};
+ghost use Rattle.rhd_module.specs.NativeIndex.{but_last, noted};
 
 use indexmap::IndexMap;
 use rhd_value::{OutOfMemory, Text};
@@ -44,6 +44,15 @@ impl NativeIndex {
         match self.places.get(name.as_str()) {
             Some(places) => places.as_slice(),
             None => &[],
+        }
+    }
+
+    /// Takes the place that was noted last under a name out again.
+    pub fn unnote(&mut self, name: &Text)
+        ensures { (other : List ℕ) → noted self.new other ≡ (if text_eq other name.now then but_last (noted self.old other) else noted self.old other) }
+    {
+        if let Some(places) = self.places.get_mut(name.as_str()) {
+            places.pop();
         }
     }
 
