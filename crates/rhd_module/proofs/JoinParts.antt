@@ -1,14 +1,15 @@
 -- What one module puts into another, one thing after the other.
-use Rattle.std.proofs.Common.{◌≡◌, Bool, true, false, cond, List, [], ◌∷◌, ◌++◌, map, reverse, is_some, arith, true≢false, ◌+◌, ◌≤◌, refl, sym, ap, subst, append_assoc, append-nil, ◌∙◌}
+use Rattle.std.proofs.Common.{◌≡◌, ◌||◌, ℕ, Bool, true, false, cond, List, [], ◌∷◌, ◌++◌, map, reverse, is_some, arith, true≢false, ◌+◌, ◌≤◌, refl, sym, ap, subst, append_assoc, append-nil, ◌∙◌}
 use Rattle.std.specs.Map.{keys_of}
 use Rattle.std.specs.Prelude.{Result, Ok, Err, IsErr, IsErrAnd}
 use Rattle.std.specs.declared.rc.Rc.{Rc}
-use Rattle.std.specs.List.{filter, IsDistinct, AllByRecursion, Contains}
+use Rattle.std.specs.List.{filter, list_any, IsDistinct, AllByRecursion, Contains}
 use Rattle.std.proofs.lemmas.List.Elements.{filter-append, Contains-append_left, Contains-append_right}
 use Rattle.std.proofs.lemmas.List.{map-append, reverse-append}
 use Rattle.rhd_value.specs.Tree.{Bytes, Tree}
 use Rattle.rhd_hash.specs.declared.key.Key.{Key}
 use Rattle.rhd_hash.specs.declared.mixer.Seeds.{Seeds}
+use Rattle.rhd_hash.specs.Filter.{is_marked, Joins as IsSum}
 use Rattle.rhd_hash.specs.Keys.{key_eq}
 use Rattle.rhd_hash.specs.Table.{HasOwnHashes}
 use Rattle.rhd_decl.specs.declared.declaration.Declaration.{Declaration}
@@ -19,7 +20,8 @@ use Rattle.rhd_manifest.specs.Listing.{listed_in}
 use Rattle.rhd_manifest.proofs.Firsts.{listed_append, listed_last}
 use Rattle.rhd_module.specs.Algebra.{SomeClash, Joins, IsJoined, put_subs, fill_subs, over, over_all, flattened_with, Passes, merge_subs, merged_with, merged_all, rebuilt}
 use Rattle.rhd_module.specs.Contents.{put_sub, find_sub}
-use Rattle.rhd_module.specs.Index.{IsClash}
+use Rattle.rhd_module.specs.Below.{may_be_dynamic, lists_dynamic}
+use Rattle.rhd_module.specs.Index.{IsClash, IsFilter}
 use Rattle.rhd_value.specs.Entries.{put as put_var}
 use Rattle.rhd_module.specs.Manifests.{put_back, put_all, put_vars}
 use Rattle.rhd_module.specs.Registered.{put}
@@ -95,12 +97,6 @@ module _ (test : Key × Declaration → Bool) where
   pub passed_next : (front : Pairs) (p : Key × Declaration) (ps : Pairs) → put_all (filter test (p ∷ [])) (put_all (filter test front) ps) ≡ put_all (filter test (front ++ p ∷ [])) ps
   passed_next front p ps = sym (passing_next front p ps)
 
-  pub kept_next : (front : Pairs) (p : Key × Declaration) (ps : Pairs) → test p ≡ true → put p.0 p.1 (put_all (filter test front) ps) ≡ put_all (filter test (front ++ p ∷ [])) ps
-  kept_next front p ps is = (λ i. put_all (cond (sym is i) (p ∷ []) []) (put_all (filter test front) ps)) ∙ passed_next front p ps
-
-  pub left_next : (front : Pairs) (p : Key × Declaration) (ps : Pairs) → test p ≡ false → put_all (filter test front) ps ≡ put_all (filter test (front ++ p ∷ [])) ps
-  left_next front p ps is = (λ i. put_all (cond (sym is i) (p ∷ []) []) (put_all (filter test front) ps)) ∙ passed_next front p ps
-
   whole_passed : (front later all : Pairs) (p : Key × Declaration) (ps : Pairs) → all ≡ front ++ p ∷ later → put_all (filter test later) (put_all (filter test (front ++ p ∷ [])) ps) ≡ put_all (filter test all) ps
   whole_passed front later all p ps is =
       sym (all_append (filter test (front ++ p ∷ [])) (filter test later) ps) ∙ ap (λ qs. put_all qs ps) (sym (filter-append test (front ++ p ∷ []) later)) ∙ ap (λ qs. put_all (filter test qs) ps) (append_assoc front (p ∷ []) later ∙ sym is)
@@ -110,12 +106,6 @@ module _ (test : Key × Declaration → Bool) where
   clash_passed s front later all p ps fault is c =
       let P : Pairs → Type 0 = λ qs. IsClash s (keys_of qs) fault in
       subst P (whole_passed front later all p ps is) (clash_all s (filter test later) (put_all (filter test (front ++ p ∷ [])) ps) fault (subst P (passed_next front p ps) c))
-
-  pub clash_kept : (s : Seeds) (front later all : Pairs) (p : Key × Declaration) (ps : Pairs) (fault : DeclFault) → all ≡ front ++ p ∷ later → test p ≡ true
-      → IsClash s (keys_of (put p.0 p.1 (put_all (filter test front) ps))) fault → IsClash s (keys_of (put_all (filter test all) ps)) fault
-  clash_kept s front later all p ps fault is passes c =
-      let P : Pairs → Type 0 = λ qs. IsClash s (keys_of qs) fault in
-      clash_passed s front later all p ps fault is (subst P (λ i. put_all (cond (sym passes i) (p ∷ []) []) (put_all (filter test front) ps)) c)
 
   back_split : (xs ys ps : Pairs) → put_back (filter test (xs ++ ys)) ps ≡ put_back (filter test xs) (put_back (filter test ys) ps)
   back_split xs ys ps = ap (λ qs. put_back qs ps) (filter-append test xs ys) ∙ back_append (filter test xs) (filter test ys) ps
@@ -184,6 +174,20 @@ clash_first m ms (IndexerNotAllowed key) c = c
 clash_first m ms NotCallable c = c
 clash_first m ms (UnknownNumber n l) c = c
 clash_first m ms OutOfMemory c = tt
+
+or_assoc : (a b c : Bool) → ((a || b) || c) ≡ (a || (b || c))
+or_assoc true b c = refl
+or_assoc false b c = refl
+
+-- the filter of what a module declares and another one lists, where that one declares nothing, and lists all that the module lists
+pub filters_joined : (marks more sum : List ℕ) (own made : Lists) → IsFilter marks own → IsFilter more made → made.eager ≡ [] → made.seeds ≡ own.seeds
+    → ((v : ℕ) → lists_dynamic own.seeds v made.listed ≡ (lists_dynamic own.seeds v own.listed || lists_dynamic own.seeds v made.listed)) → IsSum 8 marks more sum
+    → (v : ℕ) → is_marked 8 sum v ≡ (list_any (λ p. may_be_dynamic own.seeds v p.0) own.eager || lists_dynamic own.seeds v made.listed)
+filters_joined marks more sum own made is others bare same listed joins v =
+    let declared : Bool = list_any (λ p. may_be_dynamic own.seeds v p.0) own.eager in
+    let before : Bool = lists_dynamic own.seeds v own.listed in
+    joins v ∙ (λ i. is v i || others v i) ∙ (λ i. (declared || before) || (list_any (λ p. may_be_dynamic (same i) v p.0) (bare i) || lists_dynamic (same i) v made.listed))
+    ∙ or_assoc declared before (lists_dynamic own.seeds v made.listed) ∙ ap (λ b. declared || b) (sym (listed v))
 
 -- what refuses a join
 pub refused_join : {A : Type 0} (r : Result A DeclFault) (e : DeclFault) (changed : List ModuleTree) (done old : ModuleTree) → IsErr r × IsErrAnd r (λ f. f ≡ e) → SomeClash changed e → Joins changed done old r old

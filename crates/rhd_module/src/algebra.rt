@@ -6,7 +6,7 @@ ghost use Rattle.rhd_func.specs.declared.access.FnAccess.{FnAccess as Access};
 ghost use Rattle.rhd_func.specs.declared.access.FnNamespace.{FnNamespace as Namespace};
 ghost use Rattle.rhd_module.specs.Algebra.{merged_with, merged_all, scripts_that, passes_by, IsJoined, Combines, Flattens, Fills, Merges, FilterTells, ScriptFilterTells};
 
-use crate::joining::{combine, fill, flatten, merge_that, merged, retained};
+use crate::joining::{contents_below, contents_over, flatten, merge_that, merged, retained};
 use crate::module::Module;
 use rhd_decl::{DeclFault, Declaration};
 use rhd_func::{FnAccess, FnNamespace};
@@ -20,9 +20,9 @@ impl Module {
     pub fn combine(&mut self, alloc: Global, other: &Module) -> Result<(), DeclFault>
         ensures { Combines other.now self.old result self.new }
     {
-        let mut made = self.dup(alloc)?;
-        combine(&mut made, alloc, other)?;
-        *self = made;
+        let made = contents_over(alloc, self, other)?;
+        self.put_declared(alloc, other)?;
+        self.take_contents(made);
         Ok(())
     }
 
@@ -45,9 +45,9 @@ impl Module {
     pub fn fill_with(&mut self, alloc: Global, other: &Module) -> Result<(), DeclFault>
         ensures { Fills other.now self.old result self.new }
     {
-        let mut made = self.dup(alloc)?;
-        fill(&mut made, alloc, self, other)?;
-        *self = made;
+        let made = contents_below(alloc, self, other)?;
+        self.put_unshown(alloc, other)?;
+        self.take_contents(made);
         Ok(())
     }
 

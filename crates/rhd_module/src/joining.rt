@@ -1,16 +1,16 @@
 //! What of one module is put into another where they are joined.
 
-ghost use Rattle.std.specs.Prelude.{◌≡◌, ◌∷◌, ◌++◌, [], Bool, false, reverse, IfOk, IfErr, OnOk};
+ghost use Rattle.std.specs.Prelude.{◌≡◌, ◌∷◌, ◌++◌, ◌||◌, [], ℕ, Bool, false, reverse, IfOk, IfErr, OnOk};
 ghost use Rattle.std.specs.Fn.{FnReturnsAt};
 ghost use Rattle.std.specs.List.{AllByRecursion};
 ghost use Rattle.std.specs.Map.{keys_of};
 ghost use Rattle.rhd_decl.specs.declared.declaration.Declaration.{Declaration as Decl};
 ghost use Rattle.rhd_manifest.specs.Listing.{listed_in};
-ghost use Rattle.rhd_module.specs.Algebra.{joined_doc, over, fill_vars, fill_subs, put_subs, that_pass, registered_over, combined_with, flattened_with, filled_with, merged_own, merged_with, merged_all, entries_over};
+ghost use Rattle.rhd_module.specs.Algebra.{joined_doc, over, fill_vars, fill_subs, put_subs, that_pass, registered_over, flattened_with, filled_with, merged_own, merged_with, merged_all, entries_over};
 ghost use Rattle.rhd_module.specs.Algebra.{HasOwnTable, SomeClash, IsJoined, Merges, Tells};
+ghost use Rattle.rhd_module.specs.Below.{lists_dynamic};
 ghost use Rattle.rhd_module.specs.Index.{IsClash};
 ghost use Rattle.rhd_module.specs.Manifests.{put_vars, put_all, with_contents, with_pairs};
-ghost use Rattle.rhd_module.specs.Shown.{shown, without};
 ghost use Rattle.rhd_module.specs.Tree.{empty_module};
 
 use crate::manifests::{mark_parts, put_entry, register_declared, register_pair};
@@ -81,24 +81,6 @@ fn fill_subs(made: &mut Module, alloc: Global, other: &Module) -> Result<(), Out
     for (name, child) in other.iter_sub_modules() {
         if !made.contains_sub_module(name) {
             made.set_sub_module(alloc, name.dup(alloc)?, Rc::clone(child)?)?;
-        }
-    }
-    Ok(())
-}
-
-/// Declares what another module declares under keys for which a module has nothing.
-fn fill_declared(
-    made: &mut Module,
-    alloc: Global,
-    own: &Module,
-    other: &Module,
-) -> Result<(), DeclFault>
-    ensures ok { OnOk result (made.new ≡ with_pairs (put_all (without (shown own.now.own) other.now.own.eager) made.old.own.eager) made.new.own.indexed made.old) }
-    ensures clash { IfErr result (IsClash made.old.own.seeds (keys_of (put_all (without (shown own.now.own) other.now.own.eager) made.old.own.eager))) }
-{
-    for (key, declaration) in other.iter_fn() {
-        if !own.contains_fn(key) {
-            register_pair(made, alloc, key, declaration)?;
         }
     }
     Ok(())
@@ -257,6 +239,77 @@ impl Module {
         self.flags.set_indexed(false);
         Ok(())
     }
+
+    /// Takes all but the declarations of another module. The module isn't indexed any more.
+    pub(crate) fn take_contents(&mut self, made: Module)
+        requires bare { made.own.eager ≡ [] }
+        requires seeds { made.own.seeds ≡ self.old.own.seeds }
+        requires listed { (v : ℕ) → lists_dynamic self.old.own.seeds v made.own.listed ≡ (lists_dynamic self.old.own.seeds v self.old.own.listed || lists_dynamic self.old.own.seeds v made.own.listed) }
+        ensures { self.new ≡ record { own = record made.own { eager = self.old.own.eager; indexed = false }; subs = made.subs } }
+    {
+        let Module {
+            id,
+            doc,
+            types,
+            vars,
+            manifests,
+            listed,
+            subs,
+            flags,
+            filter,
+            ..
+        } = made;
+        self.id = id;
+        self.doc = doc;
+        self.types = types;
+        self.vars = vars;
+        self.manifests = manifests;
+        self.listed = listed;
+        self.subs = subs;
+        self.flags = flags;
+        self.flags.set_indexed(false);
+        self.filter += &filter;
+    }
+}
+
+/// Puts what another module has over what a module has, but for its declarations and sub-modules.
+fn put_contents(made: &mut Module, alloc: Global, other: &Module) -> Result<(), OutOfMemory>
+    ensures { OnOk result (made.new ≡ record made.old { own = record (over other.now.own made.old.own) { eager = made.old.own.eager } }) }
+{
+    put_vars(made, alloc, other)?;
+    made.join_doc(alloc, other)?;
+    made.list_above(alloc, other)?;
+    Ok(())
+}
+
+/// What a module is but for its declarations, once another one is put over it.
+pub(crate) fn contents_over(
+    alloc: Global,
+    own: &Module,
+    other: &Module,
+) -> Result<Module, OutOfMemory>
+    ensures { IfOk result (λ m. m ≡ record { own = record (over other.now.own own.now.own) { eager = [] }; subs = put_subs other.now.subs own.now.subs }) }
+{
+    let mut made = own.bare(alloc)?;
+    put_subs(&mut made, alloc, other)?;
+    put_contents(&mut made, alloc, other)?;
+    Ok(made)
+}
+
+/// What a module is but for its declarations, once what is new of another one is put in.
+pub(crate) fn contents_below(
+    alloc: Global,
+    own: &Module,
+    other: &Module,
+) -> Result<Module, OutOfMemory>
+    ensures { IfOk result (λ m. m ≡ record { own = record (filled_with other.now own.now).own { eager = [] }; subs = fill_subs other.now.subs own.now.subs }) }
+{
+    let mut made = own.bare(alloc)?;
+    fill_vars(&mut made, alloc, own, other)?;
+    fill_subs(&mut made, alloc, other)?;
+    made.join_doc(alloc, other)?;
+    made.list_below(alloc, other)?;
+    Ok(made)
 }
 
 /// Puts what another module has over what a module has, but for its sub-modules.
@@ -265,21 +318,7 @@ fn put_over(made: &mut Module, alloc: Global, other: &Module) -> Result<(), Decl
     ensures clash { IfErr result (IsClash made.old.own.seeds (keys_of (put_all other.now.own.eager made.old.own.eager))) }
 {
     register_declared(made, alloc, other)?;
-    put_vars(made, alloc, other)?;
-    made.join_doc(alloc, other)?;
-    made.list_above(alloc, other)?;
-    Ok(())
-}
-
-/// Puts another module over a module with its sub-modules.
-pub(crate) fn combine(made: &mut Module, alloc: Global, other: &Module) -> Result<(), DeclFault>
-    ensures ok { OnOk result (made.new ≡ combined_with other.now made.old) }
-    ensures table { OnOk result (HasOwnTable (combined_with other.now made.old)) }
-    ensures clash { IfErr result (IsClash made.old.own.seeds (keys_of (combined_with other.now made.old).own.eager)) }
-{
-    put_subs(made, alloc, other)?;
-    put_over(made, alloc, other)?;
-    let _apart = made.iter_fn();
+    put_contents(made, alloc, other)?;
     Ok(())
 }
 
@@ -293,27 +332,6 @@ pub(crate) fn flatten(made: &mut Module, alloc: Global, other: &Module) -> Resul
         flatten(made, alloc, child)?;
     }
     put_over(made, alloc, other)?;
-    let _apart = made.iter_fn();
-    Ok(())
-}
-
-/// Puts what is new of another module into a copy of a module.
-pub(crate) fn fill(
-    made: &mut Module,
-    alloc: Global,
-    own: &Module,
-    other: &Module,
-) -> Result<(), DeclFault>
-    requires { made.old ≡ own.now }
-    ensures ok { OnOk result (made.new ≡ filled_with other.now own.now) }
-    ensures table { OnOk result (HasOwnTable (filled_with other.now own.now)) }
-    ensures clash { IfErr result (IsClash own.now.own.seeds (keys_of (filled_with other.now own.now).own.eager)) }
-{
-    fill_declared(made, alloc, own, other)?;
-    fill_vars(made, alloc, own, other)?;
-    fill_subs(made, alloc, other)?;
-    made.join_doc(alloc, other)?;
-    made.list_below(alloc, other)?;
     let _apart = made.iter_fn();
     Ok(())
 }
