@@ -27,12 +27,7 @@ use rhd_value::OutOfMemory;
 use std::alloc::Global;
 
 /// Takes the places of natives between two places out of their index again.
-fn forget_places(
-    natives: &mut NativeIndex,
-    table: &KeyTable<Declaration>,
-    from: usize,
-    to: usize,
-)
+fn forget_places(natives: &mut NativeIndex, table: &KeyTable<Declaration>, from: usize, to: usize)
     requires order { from ≤ to }
     requires within { to ≤ length table.now.pairs }
     requires index { IsIndex natives.old (take to table.now.pairs) }

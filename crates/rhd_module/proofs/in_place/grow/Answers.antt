@@ -1,9 +1,8 @@
-use Rattle.std.proofs.Common.{◌≡◌, true, is_some, sym, ap, subst}
+use Rattle.std.proofs.Common.{◌≡◌, true, is_some, sym, subst}
 use Rattle.std.specs.List.{AllByRecursion}
 use Rattle.rhd_hash.specs.Table.{Table}
 use Rattle.rhd_decl.specs.declared.declaration.Declaration.{Declaration}
 use Rattle.rhd_module.specs.NativeIndex.{IsIndex}
-use Rattle.rhd_module.specs.Tree.{Pairs}
 use Rattle.rhd_module.proofs.Lookups.{first}
 use Rattle.rhd_module.proofs.PutParts.{all_still, index_all}
 use Rattle.rhd_module.proofs.in_place.grow.Goals as goal

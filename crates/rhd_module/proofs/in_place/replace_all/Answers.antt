@@ -1,9 +1,8 @@
-use Rattle.std.proofs.Common.{◌≡◌, ◌∷◌, ◌++◌, [], true, is_some, sym, ap, subst, ◌∙◌}
+use Rattle.std.proofs.Common.{◌≡◌, ◌∷◌, ◌++◌, [], true, is_some, sym, ap, ◌∙◌}
 use Rattle.std.specs.Vec.Iter.{into_iter_items}
 use Rattle.rhd_hash.specs.Table.{Table}
 use Rattle.rhd_hash.specs.declared.key.Key.{Key}
 use Rattle.rhd_decl.specs.declared.declaration.Declaration.{Declaration}
-use Rattle.rhd_module.specs.Manifests.{put_all}
 use Rattle.rhd_module.specs.Registered.{put}
 use Rattle.rhd_module.specs.Tree.{Pairs}
 use Rattle.rhd_module.proofs.Lookups.{first}

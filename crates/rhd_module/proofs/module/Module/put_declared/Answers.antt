@@ -1,10 +1,10 @@
-use Rattle.std.proofs.Common.{◌≡◌, true, false, is_some, is_none, None, OnOk, List, rules, sym, ap, subst, ◌∙◌}
+use Rattle.std.proofs.Common.{◌≡◌, true, false, is_some, None, OnOk, rules, sym, ap, subst, ◌∙◌}
 use Rattle.std.specs.List.{AllByRecursion, filter}
 use Rattle.std.specs.Map.{keys_of}
 use Rattle.rhd_hash.specs.Table.{HasOwnHashes}
 use Rattle.rhd_module.specs.Index.{IsClash}
 use Rattle.rhd_module.specs.Manifests.{put_all, with_pairs}
-use Rattle.rhd_module.specs.Scripts.{has_script, AreNoted}
+use Rattle.rhd_module.specs.Scripts.{has_script}
 use Rattle.rhd_module.specs.Tree.{ModuleTree, Pairs}
 use Rattle.rhd_module.proofs.Fills.{if_more}
 use Rattle.rhd_module.proofs.Lookups.{first}
