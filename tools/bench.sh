@@ -4,7 +4,8 @@
 # values of 0.3 and 3 MB, which are read, passed to natives, and printed; on 10,000 and 100,000 calls
 # of a name with three overloads; on as many calls that find a native with parameters of any type;
 # on 1,000 and 10,000 calls with seventeen arguments that aren't found; on 10,000 and 100,000 imports
-# that are pushed and popped, and as many declarations that are indexed; and on 1,000 calls over 100
+# that are pushed and popped, as many declarations that are indexed, joined with others, and put over by
+# a small module a thousand times; and on 1,000 calls over 100
 # and 1,000 libraries, imports and static modules. Prints the seconds of both sizes and their ratio,
 # which is near 10 where it is linear, and how many of them that is in a second.
 #
@@ -100,6 +101,26 @@ indexed() {
     }'
 }
 
+# Two modules of so many declarations, half of them under keys of both, joined by each of four commands.
+joined() {
+    awk -v times="$1" 'BEGIN {
+        print "module\nmodule\nmodule\nmodule\nmodule"
+        for (i = 0; i < times; i++) print "native 0 f" i " 1"
+        for (i = 0; i < times; i++) print "native 1 f" (i + times / 2) " 2"
+        print "combine 0 1\ncombine-flatten 2 0\nfill 3 0\nmerge 4 0\ncount 4"
+    }'
+}
+
+# A module of twenty declarations put over one of so many, a thousand times.
+put_over() {
+    awk -v times="$1" 'BEGIN {
+        print "module\nmodule"
+        for (i = 0; i < times; i++) print "native 0 f" i " 1"
+        for (i = 0; i < 20; i++) print "native 1 g" i " 2"
+        for (i = 0; i < 1000; i++) print "combine 0 1"
+    }'
+}
+
 # Modules that are put in by lines of this form, and 1,000 calls that ask each of them.
 layers() {
     awk -v line="$1\n" -v times="$2" 'BEGIN {
@@ -135,6 +156,8 @@ measure 'calls of natives for any type' 10,000 100,000 any_type
 measure 'calls of 17 arguments not found' 1,000 10,000 not_found
 measure 'imports pushed and popped' 10,000 100,000 imports
 measure 'declarations indexed' 10,000 100,000 indexed
+measure 'declarations joined' 10,000 100,000 joined
+measure 'declarations a small module is put over' 10,000 100,000 put_over
 measure 'libraries asked by 1,000 calls' 100 1,000 layers 'lib 0'
 measure 'imports asked by 1,000 calls' 100 1,000 layers 'import a%d 0'
 measure 'static modules asked by 1,000 calls' 100 1,000 layers 'static a%d 0'
