@@ -1,16 +1,12 @@
 //! What tests are made of: small values, keys and scripts.
 
-ghost use Rattle.std.specs.Prelude.{◌≡◌, ◌∷◌, [], List, false, None};
+ghost use Rattle.std.specs.Prelude.{◌≡◌, false, None};
 ghost use Rattle.std.specs.Option.{option_and_then, option_copied, option_map_or};
 ghost use Rattle.std.specs.Ordering.{int_eq};
 ghost use Rattle.rhd_value.specs.Kinds.{int_in};
 ghost use Rattle.rhd_value.specs.Same.{text_eq};
-ghost use Rattle.rhd_value.specs.Tree.{Bytes, Tree, integer};
-ghost use Rattle.rhd_value.specs.declared.tag.TypeTag.{TypeTag as Tag};
-ghost use Rattle.rhd_hash.specs.declared.key.Key.TheVariants as keys;
+ghost use Rattle.rhd_value.specs.Tree.{integer};
 ghost use Rattle.rhd_func.specs.declared.access.FnAccess.TheVariants.{Public};
-ghost use Rattle.rhd_func.specs.declared.request.CallShape.TheVariants.{Plain};
-ghost use Rattle.rhd_tests.specs.Given.{OrNone, OneText};
 
 use rhd_func::{BodyId, CallShape, FnAccess, ScriptFuncDef};
 use rhd_hash::{Key, Seeds};
@@ -32,9 +28,7 @@ pub const CLASHING: Seeds = Seeds {
 };
 
 /// A text; empty where memory ran out.
-pub fn text(alloc: Global, word: &str) -> Text
-    ensures { OrNone word.now result }
-{
+pub fn text(alloc: Global, word: &str) -> Text {
     let mut text = Text::new(alloc);
     let _ = text.push(word);
     text
@@ -64,18 +58,14 @@ pub fn is_int(value: Option<&Dynamic>, number: i64) -> bool
 }
 
 /// One text; none where memory ran out.
-pub fn texts(alloc: Global, word: &str) -> Texts
-    ensures { OneText word.now result }
-{
+pub fn texts(alloc: Global, word: &str) -> Texts {
     let mut texts = Texts::new(alloc);
     let _ = texts.push(text(alloc, word));
     texts
 }
 
 /// One type; none where memory ran out.
-pub fn types(alloc: Global, tag: TypeTag) -> Types
-    ensures { OrNone (tag ∷ []) result }
-{
+pub fn types(alloc: Global, tag: TypeTag) -> Types {
     let mut types = Types::new(alloc);
     let _ = types.push(tag);
     types
@@ -88,25 +78,19 @@ pub fn int(number: i64) -> Dynamic
 }
 
 /// One value; none where memory ran out.
-pub fn one(alloc: Global, value: Dynamic) -> Values
-    ensures { OrNone (value ∷ []) result }
-{
+pub fn one(alloc: Global, value: Dynamic) -> Values {
     let mut values = Values::new(alloc);
     let _ = values.push(value);
     values
 }
 
 /// One argument by value.
-pub fn plain(alloc: Global, number: i64) -> CallShape
-    ensures { (value : Tree) × (value.kind ≡ integer number) × (args : List Tree) × OrNone (value ∷ []) args × (result ≡ Plain args) }
-{
+pub fn plain(alloc: Global, number: i64) -> CallShape {
     CallShape::Plain(one(alloc, int(number)))
 }
 
 /// The key of a script without parameters.
-pub fn script_key(alloc: Global, word: &str) -> Key
-    ensures { (name : Bytes) × OrNone word.now name × (result ≡ keys.Script None name 0) }
-{
+pub fn script_key(alloc: Global, word: &str) -> Key {
     Key::Script {
         path: None,
         name: text(alloc, word),
@@ -115,9 +99,7 @@ pub fn script_key(alloc: Global, word: &str) -> Key
 }
 
 /// The key of a native of one type.
-pub fn native_key(alloc: Global, word: &str, tag: TypeTag) -> Key
-    ensures { (name : Bytes) × (types : List Tag) × OrNone word.now name × OrNone (tag ∷ []) types × (result ≡ keys.Native None name types) }
-{
+pub fn native_key(alloc: Global, word: &str, tag: TypeTag) -> Key {
     Key::Native {
         path: None,
         name: text(alloc, word),
@@ -127,11 +109,8 @@ pub fn native_key(alloc: Global, word: &str, tag: TypeTag) -> Key
 
 /// A script that takes nothing.
 pub fn script(alloc: Global, word: &str) -> ScriptFuncDef
-    ensures name { OrNone word.now result.name }
-    ensures params { result.params ≡ [] }
     ensures object { result.this_type ≡ None }
     ensures access { result.access ≡ Public }
-    ensures body { result.body.0 ≡ 0 }
 {
     ScriptFuncDef {
         name: text(alloc, word),
