@@ -24,6 +24,20 @@ impl Entries {
         }
     }
 
+    /// The entries of a map.
+    pub fn from_map(entries: BTreeMap<Text, Dynamic>) -> Entries
+        ensures { result ≡ entries.entries }
+    {
+        Entries { entries }
+    }
+
+    /// The map of its entries.
+    pub fn into_map(self) -> BTreeMap<Text, Dynamic>
+        ensures { result.entries ≡ self }
+    {
+        self.entries
+    }
+
     /// Puts a value under a name, in the place of an equal name's.
     pub fn insert(&mut self, name: Text, value: Dynamic) -> Result<(), OutOfMemory>
         ensures { self.new ≡ (if is_ok result then put name value self.old else self.old) }
