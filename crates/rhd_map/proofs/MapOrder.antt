@@ -16,7 +16,7 @@ less_greater : Less ≡ Greater → ⊥
 less_greater h = true≢false (ap (λ o. match_ordering o true false false) h)
 
 module _ {K : Type 0} (R : K → K → Ordering) (o : IsTotalOrder R) where
-  itself : (k : K) → R k k ≡ Equal
+  pub itself : (k : K) → R k k ≡ Equal
   itself k = by (R k k) (o.antisymm k k)
     where
       by : (r : Ordering) → r ≡ ordering_reverse r → r ≡ Equal
@@ -24,10 +24,10 @@ module _ {K : Type 0} (R : K → K → Ordering) (o : IsTotalOrder R) where
       by Equal h = refl
       by Greater h = absurd (less_greater (sym h))
 
-  back : (x y : K) (r : Ordering) → R x y ≡ r → R y x ≡ ordering_reverse r
+  pub back : (x y : K) (r : Ordering) → R x y ≡ r → R y x ≡ ordering_reverse r
   back x y r h = o.antisymm y x ∙ ap ordering_reverse h
 
-  all_trans : (k q : K) (ks : List K) → R k q ≡ Less → AllByRecursion (λ y. R q y ≡ Less) ks → AllByRecursion (λ y. R k y ≡ Less) ks
+  pub all_trans : (k q : K) (ks : List K) → R k q ≡ Less → AllByRecursion (λ y. R q y ≡ Less) ks → AllByRecursion (λ y. R k y ≡ Less) ks
   all_trans k q [] less below = tt
   all_trans k q (y ∷ ks) less below = (o.trans k q y less below.0, all_trans k q ks less below.1)
 
@@ -75,7 +75,7 @@ module _ {K X : Type 0} (R : K → K → Ordering) (o : IsTotalOrder R) (same : 
       by Greater s Equal t ih = absurd (less_greater (sym (back R o k r.0 Greater s) ∙ sym (o.congr q r.0 k t) ∙ above))
 
   -- of one key the later one stays
-  again : (k : K) (d e : X) (x : List (K × X)) → insert_entry R (insert_entry R x k e) k d ≡ insert_entry R x k d
+  pub again : (k : K) (d e : X) (x : List (K × X)) → insert_entry R (insert_entry R x k e) k d ≡ insert_entry R x k d
   again k d e [] = λ i. match_ordering (itself R o k i) (two k d k e) (one k d) (two k e k d)
   again k d e (r ∷ rs) = by (R k r.0) refl (again k d e rs)
     where
@@ -113,7 +113,7 @@ module _ {K X : Type 0} (R : K → K → Ordering) (o : IsTotalOrder R) (same : 
       by Equal more = all
       by Greater more = (all.0, more)
 
-  sorted_inserted : (k : K) (d : X) (es : List (K × X)) → IsStrictlySortedBy R (keys_of es) → IsStrictlySortedBy R (keys_of (insert_entry R es k d))
+  pub sorted_inserted : (k : K) (d : X) (es : List (K × X)) → IsStrictlySortedBy R (keys_of es) → IsStrictlySortedBy R (keys_of (insert_entry R es k d))
   unfolding IsStrictlySortedBy
   sorted_inserted k d [] sorted = (tt, tt)
   sorted_inserted k d (e ∷ es) sorted = by (R k e.0) refl (sorted_inserted k d es sorted.1)

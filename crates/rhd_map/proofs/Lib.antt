@@ -1,0 +1,2 @@
+pub mod MapOrder
+pub mod Undone
