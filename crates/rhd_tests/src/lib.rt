@@ -3,6 +3,8 @@
 #![tactic(auto)]
 
 #[cfg(test)]
+mod algebra;
+#[cfg(test)]
 mod decl;
 #[cfg(test)]
 mod dispatch;
@@ -14,7 +16,11 @@ pub mod given;
 #[cfg(test)]
 mod hash;
 #[cfg(test)]
+mod listed;
+#[cfg(test)]
 mod manifest;
+#[cfg(test)]
+mod map;
 #[cfg(test)]
 mod module;
 #[cfg(test)]
