@@ -238,7 +238,7 @@ found_held n key (p ∷ ps) d all e = found_step n key p ps d (key_eq key p.0) a
 
 -- What a module shows.
 
-kept_held : {A : Type 0} (held kept : A → Bool) (xs : List A) → list_all held xs ≡ true → list_all held (filter kept xs) ≡ true
+pub kept_held : {A : Type 0} (held kept : A → Bool) (xs : List A) → list_all held xs ≡ true → list_all held (filter kept xs) ≡ true
 kept_held held kept [] all = refl
 kept_held {A} held kept (x ∷ xs) all = by (kept x) (parts (held x) (list_all held xs) all).0 (kept_held held kept xs (parts (held x) (list_all held xs) all).1)
   where

@@ -13,11 +13,11 @@ use Rattle.rhd_engine.specs.Held.{own_held, below_held, names_held}
 use Rattle.rhd_engine.proofs.HeldLaws.{both, parts, is_held, listed_held, pairs_held, put_held}
 use Rattle.rhd_engine.proofs.HeldTrees.{three}
 
-put_back_held : (n : ℕ) (ps qs : Pairs) → pairs_held n ps ≡ true → pairs_held n qs ≡ true → pairs_held n (put_back ps qs) ≡ true
+pub put_back_held : (n : ℕ) (ps qs : Pairs) → pairs_held n ps ≡ true → pairs_held n qs ≡ true → pairs_held n (put_back ps qs) ≡ true
 put_back_held n [] qs all rest = rest
 put_back_held n (p ∷ ps) qs all rest = let h = parts (is_held n p.1) (pairs_held n ps) all in put_held n p.0 p.1 (put_back ps qs) h.0 (put_back_held n ps qs h.1 rest)
 
-put_all_held : (n : ℕ) (ps qs : Pairs) → pairs_held n ps ≡ true → pairs_held n qs ≡ true → pairs_held n (put_all ps qs) ≡ true
+pub put_all_held : (n : ℕ) (ps qs : Pairs) → pairs_held n ps ≡ true → pairs_held n qs ≡ true → pairs_held n (put_all ps qs) ≡ true
 put_all_held n [] qs all rest = rest
 put_all_held n (p ∷ ps) qs all rest = let h = parts (is_held n p.1) (pairs_held n ps) all in put_all_held n ps (put p.0 p.1 qs) h.1 (put_held n p.0 p.1 qs h.0 rest)
 

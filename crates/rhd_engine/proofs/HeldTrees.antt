@@ -27,7 +27,7 @@ three a b c p q r = both a (b && c) p (both b c q r)
 
 -- Modules.
 
-put_sub_held : (n : ℕ) (name : Bytes) (child : ModuleTree) (s : Subs) → names_held n child ≡ true → below_held n s ≡ true → below_held n (put_sub name child s) ≡ true
+pub put_sub_held : (n : ℕ) (name : Bytes) (child : ModuleTree) (s : Subs) → names_held n child ≡ true → below_held n s ≡ true → below_held n (put_sub name child s) ≡ true
 put_sub_held n name child no_subs h all =
     let c = parts (own_held n child.own) (below_held n child.subs) h in
     three (own_held n child.own) (below_held n child.subs) true c.0 c.1 refl

@@ -27,8 +27,8 @@ use Rattle.rhd_module.specs.Shown.{shown, without}
 use Rattle.rhd_module.specs.Algebra.{put_subs, that_pass, filled_with, merged_with, registered_over}
 use Rattle.rhd_module.proofs.Listed.{lookup_append}
 use Rattle.rhd_module.proofs.Lookups.{first, one_key, Apart, first_all, first_back, first_filter, first_put, first_shown}
-use Rattle.rhd_module.proofs.MapOrder.{put_entries, entries_through}
-use Rattle.rhd_module.proofs.SamePairs.{apart_put}
+use Rattle.rhd_map.proofs.MapOrder.{put_entries, sorted_inserted, entries_through}
+use Rattle.rhd_module.proofs.SamePairs.{Alone, alone_put, alone_back}
 
 -- those whose keys pass a test are apart as well
 apart_filter : (f : Key → Bool) (ps : Pairs) → Apart ps → Apart (filter (λ p. f p.0) ps)
@@ -141,20 +141,25 @@ put_past k d (p ∷ ps) x none there = by (key_eq k p.0) refl none (put_past k d
         ih h (ap is_some (first_put k p.0 p.1 x) ∙ still (key_eq k p.0) (first k x) there) ∙ ap (put_all ps) (put_swap k p.0 d p.1 x s there)
 
 -- one put into others before these are put is as one put after them
-put_through : (k : Key) (d : Declaration) (b a : Pairs) → Apart b → put_all (put k d b) a ≡ put k d (put_all b a)
-put_through k d [] a apart = refl
-put_through k d (p ∷ ps) a apart = by (key_eq k p.0) refl (put_through k d ps (put p.0 p.1 a) apart.2)
+put_through : (k : Key) (d : Declaration) (b a : Pairs) → Alone b → put_all (put k d b) a ≡ put k d (put_all b a)
+put_through k d [] a alone = refl
+put_through k d (p ∷ ps) a alone = by (key_eq k p.0) refl (put_through k d ps (put p.0 p.1 a) alone.1)
   where
     by : (b : Bool) → key_eq k p.0 ≡ b → put_all (put k d ps) (put p.0 p.1 a) ≡ put k d (put_all ps (put p.0 p.1 a)) → put_all (cond b ((p.0, d) ∷ ps) (p ∷ put k d ps)) a ≡ put k d (put_all ps (put p.0 p.1 a))
     by true s ih =
         let is : p.0 ≡ k = sym (one_key k p.0 s) in
         let there : is_some (first p.0 (put p.0 p.1 a)) ≡ true = ap is_some (first_put p.0 p.0 p.1 a) ∙ ap (λ (c : Bool). is_some (cond c (Some p.1) (first p.0 a))) (same_itself p.0) in
-        ap (put_all ps) (sym (put_again p.0 d p.1 a)) ∙ sym (put_past p.0 d ps (put p.0 p.1 a) apart.1 there) ∙ ap (λ (q : Key). put q d (put_all ps (put p.0 p.1 a))) is
+        ap (put_all ps) (sym (put_again p.0 d p.1 a)) ∙ sym (put_past p.0 d ps (put p.0 p.1 a) alone.0 there) ∙ ap (λ (q : Key). put q d (put_all ps (put p.0 p.1 a))) is
     by false s ih = ih
 
-pub all_through : (c b a : Pairs) → Apart c → Apart b → put_all c (put_all b a) ≡ put_all (put_all c b) a
-all_through [] b a apart held = refl
-all_through (p ∷ ps) b a apart held = ap (put_all ps) (sym (put_through p.0 p.1 b a held)) ∙ all_through ps (put p.0 p.1 b) a apart.2 (apart_put p.0 p.1 b apart.0 held)
+pub all_through : (c b a : Pairs) → Alone b → put_all c (put_all b a) ≡ put_all (put_all c b) a
+all_through [] b a alone = refl
+all_through (p ∷ ps) b a alone = ap (put_all ps) (sym (put_through p.0 p.1 b a alone)) ∙ all_through ps (put p.0 p.1 b) a (alone_put p.0 p.1 b alone)
+
+-- so it is of some that are first put into an empty list, the last first
+pub back_through : (b a : Pairs) → put_all (put_back b []) a ≡ put_back b a
+back_through [] a = refl
+back_through (p ∷ ps) a = put_through p.0 p.1 (put_back ps []) a (alone_back ps [] tt) ∙ ap (put p.0 p.1) (back_through ps a)
 
 -- Variables and sub-modules, in ascending order of name.
 abbrev order : Bytes → Bytes → Ordering
@@ -178,6 +183,11 @@ put_vars_are (v ∷ vs) es = put_vars_are vs (insert_entry order es v.0 v.1)
 pub vars_through : (c b a : List (Bytes × Tree)) → IsStrictlySortedBy order (keys_of b) → put_vars c (put_vars b a) ≡ put_vars (put_vars c b) a
 vars_through c b a sorted =
     put_vars_are c (put_vars b a) ∙ ap (put_texts c) (put_vars_are b a) ∙ texts_through c b a sorted ∙ ap (λ (es : List (Bytes × Tree)). put_texts es a) (sym (put_vars_are c b)) ∙ sym (put_vars_are (put_vars c b) a)
+
+-- variables put in leave the order
+pub vars_sorted : (vs es : List (Bytes × Tree)) → IsStrictlySortedBy order (keys_of es) → IsStrictlySortedBy order (keys_of (put_vars vs es))
+vars_sorted [] es sorted = sorted
+vars_sorted (v ∷ vs) es sorted = vars_sorted vs (insert_entry order es v.0 v.1) (sorted_inserted order (lists_total nat_cmp_total) same_text v.0 v.1 es sorted)
 
 -- sub-modules as a list
 abbrev listed_subs : Subs → List (Bytes × ModuleTree)

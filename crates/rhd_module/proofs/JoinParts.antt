@@ -1,15 +1,18 @@
 -- What one module puts into another, one thing after the other.
 use Rattle.std.proofs.Common.{◌≡◌, ◌||◌, ℕ, Bool, true, false, cond, List, [], ◌∷◌, ◌++◌, map, reverse, is_some, arith, true≢false, ◌+◌, ◌≤◌, refl, sym, ap, subst, append_assoc, append-nil, ◌∙◌}
+use Rattle.std.specs.BTreeMap.{insert_entry}
+use Rattle.std.specs.Cmp.Lexicographic.{slice_cmp}
 use Rattle.std.specs.Map.{keys_of}
+use Rattle.std.specs.Ordering.{nat_cmp}
 use Rattle.std.specs.Prelude.{Result, Ok, Err, IsErr, IsErrAnd}
 use Rattle.std.specs.declared.rc.Rc.{Rc}
 use Rattle.std.specs.List.{filter, list_any, IsDistinct, AllByRecursion, Contains}
 use Rattle.std.proofs.lemmas.List.Elements.{filter-append, Contains-append_left, Contains-append_right}
 use Rattle.std.proofs.lemmas.List.{map-append, reverse-append}
-use Rattle.rhd_value.specs.Tree.{Bytes, Tree}
+use Rattle.rhd_value.specs.Tree.{Bytes}
 use Rattle.rhd_hash.specs.declared.key.Key.{Key}
 use Rattle.rhd_hash.specs.declared.mixer.Seeds.{Seeds}
-use Rattle.rhd_hash.specs.Filter.{is_marked, Joins as IsSum}
+use Rattle.rhd_hash.specs.Filter.{is_marked}
 use Rattle.rhd_hash.specs.Keys.{key_eq}
 use Rattle.rhd_hash.specs.Table.{HasOwnHashes}
 use Rattle.rhd_decl.specs.declared.declaration.Declaration.{Declaration}
@@ -18,47 +21,65 @@ use Rattle.rhd_decl.specs.declared.fault.DeclFault.TheVariants.{HashCollision, I
 use Rattle.rhd_manifest.specs.Entry.{Entry, entry_pair}
 use Rattle.rhd_manifest.specs.Listing.{listed_in}
 use Rattle.rhd_manifest.proofs.Firsts.{listed_append, listed_last}
-use Rattle.rhd_module.specs.Algebra.{SomeClash, Joins, IsJoined, put_subs, fill_subs, over, over_all, flattened_with, Passes, merge_subs, merged_with, merged_all, rebuilt}
+use Rattle.rhd_module.specs.Algebra.{SomeClash, Joins, IsJoined, put_subs, new_subs, over, over_all, flattened_with, Passes, merge_subs, merged_with, merged_all, rebuilt}
 use Rattle.rhd_module.specs.Contents.{put_sub, find_sub}
 use Rattle.rhd_module.specs.Below.{may_be_dynamic, lists_dynamic}
 use Rattle.rhd_module.specs.Index.{IsClash, IsFilter}
-use Rattle.rhd_value.specs.Entries.{put as put_var}
-use Rattle.rhd_module.specs.Manifests.{put_back, put_all, put_vars}
+use Rattle.rhd_module.specs.Manifests.{put_back, put_all}
 use Rattle.rhd_module.specs.Registered.{put}
 use Rattle.rhd_module.specs.Tree.{ModuleTree, Lists, Subs, no_subs, sub, Pairs, subs_of, depth, empty_module}
-use Rattle.rhd_module.proofs.Combined.{vars_append}
+use Rattle.rhd_map.specs.Puts.{put_entries}
+use Rattle.rhd_module.proofs.SubModules.{subs_put}
 use Rattle.rhd_module.proofs.Puts.{put_next, distinct_own}
 use Rattle.rhd_module.proofs.Registers.{all_append, all_keeps, back_append, clash_all, clash_back}
 use Rattle.rhd_module.proofs.Filled.{has_key, clash_among}
 use Rattle.rhd_module.proofs.LazyParts.{all_append as all_by}
 
--- one variable more
-vars_next : (test : Bytes × Tree → Bool) (front : List (Bytes × Tree)) (x : Bytes × Tree) (own : List (Bytes × Tree)) → put_vars (filter test (x ∷ [])) (put_vars (filter test front) own) ≡ put_vars (filter test (front ++ x ∷ [])) own
-vars_next test front x own = sym (ap (λ vs. put_vars vs own) (filter-append test front (x ∷ [])) ∙ vars_append (filter test front) (filter test (x ∷ [])) own)
+-- Sub-modules as they stand in a map.
+abbrev behind : Subs → Subs → Subs
+behind no_subs more = more
+behind (sub name own below later) more = sub name own below (behind later more)
 
-pub vars_kept : (test : Bytes × Tree → Bool) (front : List (Bytes × Tree)) (x : Bytes × Tree) (own : List (Bytes × Tree)) → test x ≡ true → put_var x.0 x.1 (put_vars (filter test front) own) ≡ put_vars (filter test (front ++ x ∷ [])) own
-vars_kept test front x own is = (λ i. put_vars (cond (sym is i) (x ∷ []) []) (put_vars (filter test front) own)) ∙ vars_next test front x own
+behind_none : (s : Subs) → behind s no_subs ≡ s
+behind_none no_subs = refl
+behind_none (sub name own below later) = ap (sub name own below) (behind_none later)
 
-pub vars_left : (test : Bytes × Tree → Bool) (front : List (Bytes × Tree)) (x : Bytes × Tree) (own : List (Bytes × Tree)) → test x ≡ false → put_vars (filter test front) own ≡ put_vars (filter test (front ++ x ∷ [])) own
-vars_left test front x own is = (λ i. put_vars (cond (sym is i) (x ∷ []) []) (put_vars (filter test front) own)) ∙ vars_next test front x own
+new_behind : (held s more : Subs) → new_subs held (behind s more) ≡ behind (new_subs held s) (new_subs held more)
+new_behind held no_subs more = refl
+new_behind held (sub name own below later) more = by (is_some (find_sub name held)) (new_behind held later more)
+  where
+    by : (b : Bool) → new_subs held (behind later more) ≡ behind (new_subs held later) (new_subs held more)
+        → cond b (new_subs held (behind later more)) (sub name own below (new_subs held (behind later more))) ≡ behind (cond b (new_subs held later) (sub name own below (new_subs held later))) (new_subs held more)
+    by true ih = ih
+    by false ih = ap (sub name own below) ih
 
 module _ {Z : Type 0} where
+  abbrev alone : Bytes × Rc ModuleTree Z → Subs
+  alone x = sub x.0 x.1.value.own x.1.value.subs no_subs
+
+  behind_of : (xs : List (Bytes × Rc ModuleTree Z)) (x : Bytes × Rc ModuleTree Z) → subs_of (xs ++ x ∷ []) ≡ behind (subs_of xs) (alone x)
+  behind_of [] x = refl
+  behind_of (y ∷ xs) x = ap (sub y.0 y.1.value.own y.1.value.subs) (behind_of xs x)
+
   -- one sub-module more
-  pub subs_next : (front : List (Bytes × Rc ModuleTree Z)) (x : Bytes × Rc ModuleTree Z) (held : Subs) → put_subs (subs_of (front ++ x ∷ [])) held ≡ put_sub x.0 x.1.value (put_subs (subs_of front) held)
-  subs_next [] x held = refl
-  subs_next (f ∷ front) x held = subs_next front x (put_sub f.0 f.1.value held)
+  pub subs_last : (xs ys : List (Bytes × Rc ModuleTree Z)) (x y : Bytes × Rc ModuleTree Z) → subs_of xs ≡ subs_of ys → x.0 ≡ y.0 → x.1.value ≡ y.1.value → subs_of (xs ++ x ∷ []) ≡ subs_of (ys ++ y ∷ [])
+  subs_last xs ys x y is name child = behind_of xs x ∙ (λ i. behind (is i) (sub (name i) (child i).own (child i).subs no_subs)) ∙ sym (behind_of ys y)
 
-  filled_next : (front : List (Bytes × Rc ModuleTree Z)) (x : Bytes × Rc ModuleTree Z) (held : Subs)
-      → fill_subs (subs_of (front ++ x ∷ [])) held ≡ cond (is_some (find_sub x.0 (fill_subs (subs_of front) held))) (fill_subs (subs_of front) held) (put_sub x.0 x.1.value (fill_subs (subs_of front) held))
-  filled_next [] x held = refl
-  filled_next (f ∷ front) x held = filled_next front x (cond (is_some (find_sub f.0 held)) held (put_sub f.0 f.1.value held))
+  pub new_last : (held : Subs) (xs front : List (Bytes × Rc ModuleTree Z)) (x y : Bytes × Rc ModuleTree Z) → subs_of xs ≡ new_subs held (subs_of front) → x.0 ≡ y.0 → x.1.value ≡ y.1.value → is_some (find_sub y.0 held) ≡ false
+      → subs_of (xs ++ x ∷ []) ≡ new_subs held (subs_of (front ++ y ∷ []))
+  new_last held xs front x y is name child new =
+      behind_of xs x ∙ (λ i. behind (is i) (sub (name i) (child i).own (child i).subs no_subs)) ∙ (λ i. behind (new_subs held (subs_of front)) (cond (sym new i) no_subs (alone y)))
+      ∙ sym (new_behind held (subs_of front) (alone y)) ∙ sym (ap (new_subs held) (behind_of front y))
 
-  pub filled_there : (front : List (Bytes × Rc ModuleTree Z)) (x : Bytes × Rc ModuleTree Z) (held : Subs) → is_some (find_sub x.0 (fill_subs (subs_of front) held)) ≡ true → fill_subs (subs_of (front ++ x ∷ [])) held ≡ fill_subs (subs_of front) held
-  filled_there front x held is = filled_next front x held ∙ (λ i. cond (is i) (fill_subs (subs_of front) held) (put_sub x.0 x.1.value (fill_subs (subs_of front) held)))
+  pub new_left : (held : Subs) (xs front : List (Bytes × Rc ModuleTree Z)) (y : Bytes × Rc ModuleTree Z) → subs_of xs ≡ new_subs held (subs_of front) → is_some (find_sub y.0 held) ≡ true → subs_of xs ≡ new_subs held (subs_of (front ++ y ∷ []))
+  new_left held xs front y is there =
+      is ∙ sym (behind_none (new_subs held (subs_of front))) ∙ (λ i. behind (new_subs held (subs_of front)) (cond (sym there i) no_subs (alone y)))
+      ∙ sym (new_behind held (subs_of front) (alone y)) ∙ sym (ap (new_subs held) (behind_of front y))
 
-  pub filled_new : (front : List (Bytes × Rc ModuleTree Z)) (x : Bytes × Rc ModuleTree Z) (held : Subs) → is_some (find_sub x.0 (fill_subs (subs_of front) held)) ≡ false
-      → fill_subs (subs_of (front ++ x ∷ [])) held ≡ put_sub x.0 x.1.value (fill_subs (subs_of front) held)
-  filled_new front x held is = filled_next front x held ∙ (λ i. cond (is i) (fill_subs (subs_of front) held) (put_sub x.0 x.1.value (fill_subs (subs_of front) held)))
+  -- all of a list put in
+  pub subs_put_all : (ps es : List (Bytes × Rc ModuleTree Z)) → subs_of (put_entries ps es) ≡ put_subs (subs_of ps) (subs_of es)
+  subs_put_all [] es = refl
+  subs_put_all (p ∷ ps) es = subs_put_all ps (insert_entry (slice_cmp nat_cmp) es p.0 p.1) ∙ ap (put_subs (subs_of ps)) (subs_put es p.0 p.1)
 
 -- declarations of distinct keys that are put in one after the other go last
 put_apart : (ps front : Pairs) → IsDistinct key_eq (keys_of (front ++ ps)) → put_all ps front ≡ front ++ ps
@@ -179,15 +200,12 @@ or_assoc : (a b c : Bool) → ((a || b) || c) ≡ (a || (b || c))
 or_assoc true b c = refl
 or_assoc false b c = refl
 
--- the filter of what a module declares and another one lists, where that one declares nothing, and lists all that the module lists
-pub filters_joined : (marks more sum : List ℕ) (own made : Lists) → IsFilter marks own → IsFilter more made → made.eager ≡ [] → made.seeds ≡ own.seeds
-    → ((v : ℕ) → lists_dynamic own.seeds v made.listed ≡ (lists_dynamic own.seeds v own.listed || lists_dynamic own.seeds v made.listed)) → IsSum 8 marks more sum
-    → (v : ℕ) → is_marked 8 sum v ≡ (list_any (λ p. may_be_dynamic own.seeds v p.0) own.eager || lists_dynamic own.seeds v made.listed)
-filters_joined marks more sum own made is others bare same listed joins v =
+-- the filter of a module that lists besides what another one lists, which is marked
+pub filters_listed : (marks more : List ℕ) (own : Lists) (listed others : List Entry) → IsFilter marks own → ((v : ℕ) → is_marked 8 more v ≡ (is_marked 8 marks v || lists_dynamic own.seeds v others))
+    → ((v : ℕ) → lists_dynamic own.seeds v listed ≡ (lists_dynamic own.seeds v own.listed || lists_dynamic own.seeds v others)) → (v : ℕ) → is_marked 8 more v ≡ (list_any (λ p. may_be_dynamic own.seeds v p.0) own.eager || lists_dynamic own.seeds v listed)
+filters_listed marks more own listed others is marked all v =
     let declared : Bool = list_any (λ p. may_be_dynamic own.seeds v p.0) own.eager in
-    let before : Bool = lists_dynamic own.seeds v own.listed in
-    joins v ∙ (λ i. is v i || others v i) ∙ (λ i. (declared || before) || (list_any (λ p. may_be_dynamic (same i) v p.0) (bare i) || lists_dynamic (same i) v made.listed))
-    ∙ or_assoc declared before (lists_dynamic own.seeds v made.listed) ∙ ap (λ b. declared || b) (sym (listed v))
+    marked v ∙ ap (λ b. b || lists_dynamic own.seeds v others) (is v) ∙ or_assoc declared (lists_dynamic own.seeds v own.listed) (lists_dynamic own.seeds v others) ∙ ap (λ b. declared || b) (sym (all v))
 
 -- what refuses a join
 pub refused_join : {A : Type 0} (r : Result A DeclFault) (e : DeclFault) (changed : List ModuleTree) (done old : ModuleTree) → IsErr r × IsErrAnd r (λ f. f ≡ e) → SomeClash changed e → Joins changed done old r old

@@ -21,6 +21,6 @@ pub mod Made
 pub mod LazyParts
 pub mod JoinParts
 pub mod PlacesBack
-pub mod MapOrder
 pub mod JoinLaws
 pub mod PutParts
+pub mod Gathered

@@ -1,11 +1,10 @@
 -- Declarations of which some take the places of those of equal keys, and others go last.
 use Rattle.std.proofs.Common.{◌≡◌, ℕ, Bool, true, false, cond, not, ◌||◌, List, [], ◌∷◌, ◌++◌, Option, None, Some, is_some, is_none, refl, sym, ap, subst, true≢false, ◌∙◌}
 use Rattle.std.specs.Iterator.{Yields}
-use Rattle.std.specs.List.{AllByRecursion, IsDistinct, filter, list_any, Contains}
+use Rattle.std.specs.List.{AllByRecursion, filter, list_any, Contains}
 use Rattle.std.specs.Map.{keys_of}
 use Rattle.std.specs.Option.{option_or}
 use Rattle.std.specs.Prelude.{Result, Ok, Err, OnOk, OnErr}
-use Rattle.std.proofs.lemmas.Map.Keys.{IsDistinct-head, IsDistinct-tail}
 use Rattle.std.specs.Vec.Iter.{into_iter_items, into_iter_steps}
 use Rattle.std.specs.declared.vec.IntoIter.{IntoIter}
 use Rattle.rhd_hash.specs.declared.key.Key.{Key}
@@ -34,7 +33,7 @@ use Rattle.rhd_module.proofs.Kept.{any_put, any_put_there}
 use Rattle.rhd_module.proofs.Lookups.{first, one_key, first_filter, first_put, first_shown}
 use Rattle.rhd_module.proofs.Places.{index_put_there}
 use Rattle.rhd_module.proofs.Puts.{there, kept, distinct_own}
-use Rattle.rhd_module.proofs.SamePairs.{other_way, no_other}
+use Rattle.rhd_module.proofs.SamePairs.{other_way, Alone, alone_distinct}
 
 -- what a list has given, and what is left of it
 pub taken_front : {X A : Type 0} (start : IntoIter X A) (done : List X) (last : IntoIter X A) → Yields into_iter_steps start done last → into_iter_items start ≡ done ++ into_iter_items last
@@ -193,15 +192,6 @@ module _ (p : Key × Declaration) (own : Pairs) where
       by false s =
           let none : absent own p.0 ≡ true = not_there (first p.0 own) s in
           (λ i. put_all (cond (s i) (p ∷ here own) (here own)) (put_all (cond (none i) (p ∷ gone own) (gone own)) own)) ∙ whole (last_same ps (none_others p.0 ps apart))
-
--- no two of some declarations have the same key
-abbrev pub Alone : Pairs → Type 0
-Alone [] = Unit {0}
-Alone (p ∷ ps) = (first p.0 ps ≡ None) × Alone ps
-
-alone_distinct : (ps : Pairs) → IsDistinct key_eq (keys_of ps) → Alone ps
-alone_distinct [] distinct = tt
-alone_distinct (p ∷ ps) distinct = (no_other p.0 ps (IsDistinct-head key_eq p.0 (keys_of ps) distinct), alone_distinct ps (IsDistinct-tail key_eq p.0 (keys_of ps) distinct))
 
 pub alone_own : (s : Seeds) (ps : Pairs) → HasOwnHashes s (keys_of ps) → Alone ps
 alone_own s ps own = alone_distinct ps (distinct_own s (keys_of ps) own)

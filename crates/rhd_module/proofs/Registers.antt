@@ -1,10 +1,12 @@
 -- Declarations that are put in one after the other: what stands then, and which keys.
-use Rattle.std.proofs.Common.{◌≡◌, true, List, [], ◌∷◌, ◌++◌, map, reverse, refl, sym, ap, subst, append_assoc, ◌∙◌}
+use Rattle.std.proofs.Common.{◌≡◌, Bool, true, false, true≢false, ◌||◌, List, [], ◌∷◌, ◌++◌, map, reverse, refl, sym, ap, subst, append_assoc, ◌∙◌}
+use Rattle.std.specs.List.{Contains}
 use Rattle.std.specs.Map.{keys_of}
 use Rattle.std.specs.declared.rc.Rc.{Rc}
 use Rattle.std.proofs.lemmas.List.{map-append, reverse-append}
 use Rattle.rhd_hash.specs.declared.key.Key.{Key}
 use Rattle.rhd_hash.specs.declared.mixer.Seeds.{Seeds}
+use Rattle.rhd_hash.specs.Keys.{key_eq, key_eq-Decides}
 use Rattle.rhd_decl.specs.declared.declaration.Declaration.{Declaration}
 use Rattle.rhd_decl.specs.declared.fault.DeclFault.{DeclFault}
 use Rattle.rhd_module.specs.Tree.{Pairs}
@@ -14,7 +16,7 @@ use Rattle.rhd_manifest.specs.Listing.{listed_in}
 use Rattle.rhd_manifest.proofs.Firsts.{listed_append, listed_last}
 use Rattle.rhd_module.specs.Registered.{put}
 use Rattle.rhd_module.specs.Manifests.{put_back, put_all}
-use Rattle.rhd_module.proofs.Puts.{kept}
+use Rattle.rhd_module.proofs.Puts.{there, kept}
 use Rattle.rhd_module.proofs.Filled.{has_key, is_in, is_held, clash_among}
 
 pub back_append : (xs ys ps : Pairs) → put_back (xs ++ ys) ps ≡ put_back xs (put_back ys ps)
@@ -36,6 +38,24 @@ back_keeps (x ∷ xs) ps q h = still x.0 x.1 q (put_back xs ps) (back_keeps xs p
 pub all_keeps : (xs ps : Pairs) (q : Key) → has_key q (keys_of ps) ≡ true → has_key q (keys_of (put_all xs ps)) ≡ true
 all_keeps [] ps q h = h
 all_keeps (x ∷ xs) ps q h = all_keeps xs (put x.0 x.1 ps) q (still x.0 x.1 q ps h)
+
+-- each key that is put in is there
+pub all_put : (xs ps : Pairs) (q : Key) → has_key q (keys_of xs) ≡ true → has_key q (keys_of (put_all xs ps)) ≡ true
+all_put [] ps q h = absurd (true≢false (sym h))
+all_put (x ∷ xs) ps q h = by (key_eq q x.0) refl h (all_put xs (put x.0 x.1 ps) q)
+  where
+    now : Pairs
+    now = put x.0 x.1 ps
+
+    by : (b : Bool) → key_eq q x.0 ≡ b → (b || has_key q (keys_of xs)) ≡ true → (has_key q (keys_of xs) ≡ true → has_key q (keys_of (put_all xs now)) ≡ true) → has_key q (keys_of (put_all xs now)) ≡ true
+    by true s h ih =
+        let here : Contains (keys_of now) q = subst (λ (k : Key). Contains (keys_of now) k) (sym ((key_eq-Decides q x.0).0 s)) (there x.0 x.1 ps) in
+        all_keeps xs now q (is_held (keys_of now) q here)
+    by false s h ih = ih h
+
+-- a clash of some is one once they are put in
+pub clash_put : (s : Seeds) (xs ps : Pairs) (fault : DeclFault) → IsClash s (keys_of xs) fault → IsClash s (keys_of (put_all xs ps)) fault
+clash_put s xs ps fault c = clash_among s s (keys_of xs) (keys_of (put_all xs ps)) fault refl (all_put xs ps) c
 
 -- a clash of some stays one once more are put in
 pub clash_back : (s : Seeds) (xs ps : Pairs) (fault : DeclFault) → IsClash s (keys_of ps) fault → IsClash s (keys_of (put_back xs ps)) fault

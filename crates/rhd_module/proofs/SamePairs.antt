@@ -31,6 +31,32 @@ pub no_other : (k : Key) (ps : Pairs) → AllByRecursion (λ q. key_eq k q ≡ f
 no_other k [] h = refl
 no_other k (p ∷ ps) h = (λ i. cond (h.0 i) (Some p.1) (first k ps)) ∙ no_other k ps h.1
 
+-- no two of some declarations have the same key
+abbrev pub Alone : Pairs → Type 0
+Alone [] = Unit {0}
+Alone (p ∷ ps) = (first p.0 ps ≡ None) × Alone ps
+
+pub alone_distinct : (ps : Pairs) → IsDistinct key_eq (keys_of ps) → Alone ps
+alone_distinct [] distinct = tt
+alone_distinct (p ∷ ps) distinct = (no_other p.0 ps (IsDistinct-head key_eq p.0 (keys_of ps) distinct), alone_distinct ps (IsDistinct-tail key_eq p.0 (keys_of ps) distinct))
+
+-- declarations put in leave it so
+pub alone_put : (k : Key) (d : Declaration) (ps : Pairs) → Alone ps → Alone (put k d ps)
+alone_put k d [] a = (refl, tt)
+alone_put k d (p ∷ ps) a = by (key_eq k p.0) refl (alone_put k d ps a.1)
+  where
+    by : (same : Bool) → key_eq k p.0 ≡ same → Alone (put k d ps) → Alone (cond same ((p.0, d) ∷ ps) (p ∷ put k d ps))
+    by true s more = a
+    by false s more = (first_put p.0 k d ps ∙ (λ i. cond (other_way k p.0 s i) (Some d) (a.0 i)), more)
+
+pub alone_back : (ps base : Pairs) → Alone base → Alone (put_back ps base)
+alone_back [] base a = a
+alone_back (p ∷ ps) base a = alone_put p.0 p.1 (put_back ps base) (alone_back ps base a)
+
+pub alone_all : (ps base : Pairs) → Alone base → Alone (put_all ps base)
+alone_all [] base a = a
+alone_all (p ∷ ps) base a = alone_all ps (put p.0 p.1 base) (alone_put p.0 p.1 base a)
+
 apart_keys : (ps : Pairs) → IsDistinct key_eq (keys_of ps) → AllByRecursion (λ k. key_path k ≡ None) (keys_of ps) → Apart ps
 apart_keys [] distinct plain = tt
 apart_keys (p ∷ ps) distinct plain = (plain.0, no_other p.0 ps (IsDistinct-head key_eq p.0 (keys_of ps) distinct), apart_keys ps (IsDistinct-tail key_eq p.0 (keys_of ps) distinct) plain.1)
@@ -39,7 +65,7 @@ apart_keys (p ∷ ps) distinct plain = (plain.0, no_other p.0 ps (IsDistinct-hea
 pub apart_declared : (own : Lists) → DeclaresOwn own → Apart own.eager
 apart_declared own declares = apart_keys own.eager declares.0 declares.1
 
--- declarations put in leave it so
+-- declarations without a path put in leave it so
 pub apart_put : (k : Key) (d : Declaration) (ps : Pairs) → key_path k ≡ None → Apart ps → Apart (put k d ps)
 apart_put k d [] plain a = (plain, refl, tt)
 apart_put k d (p ∷ ps) plain a = by (key_eq k p.0) refl (apart_put k d ps plain a.2)

@@ -5,7 +5,6 @@ use Rattle.std.specs.List.{filter, AllByRecursion, Contains}
 use Rattle.std.specs.Map.{keys_of}
 use Rattle.rhd_value.specs.Tree.{Bytes, Tree}
 use Rattle.rhd_value.specs.Entries.{found}
-use Rattle.rhd_hash.specs.declared.key.Key.{Key}
 use Rattle.rhd_hash.specs.declared.mixer.Seeds.{Seeds}
 use Rattle.rhd_hash.specs.Table.{HasOwnHashes, Clashing}
 use Rattle.rhd_func.specs.declared.access.FnAccess.{FnAccess}
@@ -29,6 +28,10 @@ joined_doc (b ∷ bs) more = (b ∷ bs) ++ 10 ∷ more
 abbrev pub put_subs : Subs → Subs → Subs
 put_subs no_subs held = held
 put_subs (sub name own below later) held = put_subs later (put_sub name (record { own = own; subs = below }) held)
+
+-- variables and sub-modules put into a module
+abbrev pub with_named : List (Bytes × Tree) → Subs → ModuleTree → ModuleTree
+with_named vars subs m = record { own = record m.own { vars = put_vars vars m.own.vars }; subs = put_subs subs m.subs }
 
 -- the lists of another module over those of one: its manifests above, its declarations and variables in the place of those of equal keys and names
 abbrev pub over : Lists → Lists → Lists
@@ -55,12 +58,18 @@ abbrev pub flattened_with : ModuleTree → ModuleTree → ModuleTree
 flattened_with other m = record m { own = over other.own (over_all other.subs m.own) }
 
 -- variables and sub-modules under new names alone
+abbrev pub new_vars : List (Bytes × Tree) → List (Bytes × Tree) → List (Bytes × Tree)
+new_vars own others = filter (λ v. is_none (found v.0 own)) others
+
 abbrev pub fill_vars : List (Bytes × Tree) → List (Bytes × Tree) → List (Bytes × Tree)
-fill_vars others own = put_vars (filter (λ v. is_none (found v.0 own)) others) own
+fill_vars others own = put_vars (new_vars own others) own
+
+abbrev pub new_subs : Subs → Subs → Subs
+new_subs held no_subs = no_subs
+new_subs held (sub name own below later) = if is_some (find_sub name held) then new_subs held later else sub name own below (new_subs held later)
 
 abbrev pub fill_subs : Subs → Subs → Subs
-fill_subs no_subs held = held
-fill_subs (sub name own below later) held = fill_subs later (if is_some (find_sub name held) then held else put_sub name (record { own = own; subs = below }) held)
+fill_subs others held = put_subs (new_subs held others) held
 
 -- `fill_with`: its manifests below, and its declarations under keys for which nothing is declared or listed
 abbrev pub filled_with : ModuleTree → ModuleTree → ModuleTree
@@ -86,6 +95,10 @@ that_pass passes ps = filter (λ p. passes p.1) ps
 -- listed functions, from the lowest precedence to the highest, put over the declarations of a module
 abbrev pub entries_over : Passes → List Entry → Lists → Pairs
 entries_over passes es own = put_back (that_pass passes (map (entry_pair own.seeds) es)) own.eager
+
+-- declarations put over those of a module
+abbrev pub declared_over : Passes → Pairs → Lists → Pairs
+declared_over passes ps own = put_all (that_pass passes ps) own.eager
 
 -- what another module lists, and over it what it declares
 abbrev pub registered_over : Passes → Lists → Lists → Pairs
@@ -119,16 +132,16 @@ abbrev pub scripts_that : Passes → ModuleTree → ModuleTree
 scripts_that passes m = record m { own = record m.own { eager = that_pass (λ d. is_script d.func && passes d) m.own.eager; manifests = []; listed = []; indexed = false } }
 
 -- what a test answers is told by a function
-abbrev pub Tells : (Declaration → Bool → Type 0) → Passes → Type 0
-Tells Answers passes = (d : Declaration) (r : Bool) → Answers d r → r ≡ passes d
-
--- and of a test of keys
-abbrev pub TellsKeys : (Key → Bool → Type 0) → (Key → Bool) → Type 0
-TellsKeys Answers passes = (k : Key) (r : Bool) → Answers k r → r ≡ passes k
+abbrev pub Tells : {A : Type 0} → (A → Bool → Type 0) → (A → Bool) → Type 0
+Tells {A} Answers passes = (a : A) (r : Bool) → Answers a r → r ≡ passes a
 
 -- a filter tells by the namespace, the access, whether it is a script, the name and the number of parameters
 abbrev pub passes_by : (FnNamespace → FnAccess → Bool → Bytes → ℕ → Bool) → Passes
 passes_by filter d = filter d.metadata.namespace d.metadata.access (is_script d.func) d.metadata.name d.metadata.num_params
+
+-- one for scripts alone by the rest
+abbrev pub script_passes_by : (FnNamespace → FnAccess → Bytes → ℕ → Bool) → Passes
+script_passes_by filter d = filter d.metadata.namespace d.metadata.access d.metadata.name d.metadata.num_params
 
 -- what such a filter answers is told by a function; what one for scripts alone answers too
 abbrev pub FilterTells : (FnNamespace → FnAccess → Bool → Bor Bytes → ℕ → Bool → Type 0) → (FnNamespace → FnAccess → Bool → Bytes → ℕ → Bool) → Type 0

@@ -3,7 +3,7 @@ use Rattle.std.specs.Prelude.{◌≡◌, Bool, true, false, List, [], ◌∷◌,
 use Rattle.std.specs.List.{find}
 use Rattle.std.specs.Map.{keys_of}
 use Rattle.rhd_value.specs.Tree.{Bytes, Tree}
-use Rattle.rhd_value.specs.Entries.{put as put_var}
+use Rattle.rhd_map.specs.Puts.{put_entries}
 use Rattle.rhd_hash.specs.Table.{HasOwnHashes, Clashing}
 use Rattle.rhd_decl.specs.CustomTypes.{CustomTypes, type_info, put_type}
 use Rattle.rhd_func.specs.declared.access.ManifestId.{ManifestId}
@@ -25,8 +25,7 @@ with_manifest table id flatten m = with_listed (id, flatten) (rank table id flat
 
 -- variables and custom types put in one after the other
 abbrev pub put_vars : List (Bytes × Tree) → List (Bytes × Tree) → List (Bytes × Tree)
-put_vars [] es = es
-put_vars (v ∷ vs) es = put_vars vs (put_var v.0 v.1 es)
+put_vars vs es = put_entries vs es
 
 abbrev pub put_types : List (Bytes × Bytes) → CustomTypes → CustomTypes
 put_types [] types = types

@@ -4,9 +4,9 @@ ghost use Rattle.std.specs.Prelude.{◌≡◌, ◌<◌, ℕ, Bool, true, OnOk, O
 ghost use Rattle.rhd_value.specs.Tree.{Bytes};
 ghost use Rattle.rhd_func.specs.declared.access.FnAccess.{FnAccess as Access};
 ghost use Rattle.rhd_func.specs.declared.access.FnNamespace.{FnNamespace as Namespace};
-ghost use Rattle.rhd_module.specs.Algebra.{merged_with, merged_all, scripts_that, passes_by, IsJoined, Combines, Flattens, Fills, Merges, FilterTells, ScriptFilterTells};
+ghost use Rattle.rhd_module.specs.Algebra.{merged_with, merged_all, scripts_that, passes_by, script_passes_by, IsJoined, Combines, Flattens, Fills, Merges, FilterTells, ScriptFilterTells};
 
-use crate::joining::{contents_below, contents_over, flatten, merge_that, merged, retained};
+use crate::joining::{flattened, joined_doc, merge_that, merged, retained};
 use crate::module::Module;
 use rhd_decl::{DeclFault, Declaration};
 use rhd_func::{FnAccess, FnNamespace};
@@ -20,10 +20,8 @@ impl Module {
     pub fn combine(&mut self, alloc: Global, other: &Module) -> Result<(), DeclFault>
         ensures { Combines other.now self.old result self.new }
     {
-        let made = contents_over(alloc, self, other)?;
-        self.put_declared(alloc, other)?;
-        self.take_contents(made);
-        Ok(())
+        let doc = joined_doc(alloc, &self.doc, &other.doc)?;
+        self.join_over(alloc, other, doc)
     }
 
     /// Puts what stands in the tree of another module over this one, from the deepest up: first each of its
@@ -32,10 +30,9 @@ impl Module {
     pub fn combine_flatten(&mut self, alloc: Global, other: &Module) -> Result<(), DeclFault>
         ensures { Flattens other.now self.old result self.new }
     {
-        let mut made = self.dup(alloc)?;
-        flatten(&mut made, alloc, other)?;
-        *self = made;
-        Ok(())
+        let made = flattened(alloc, self.seeds(), &self.doc, other)?;
+        let doc = made.doc.dup(alloc)?;
+        self.join_over(alloc, &made, doc)
     }
 
     /// Puts in what is new of another module: its manifests below, its declarations under keys for which
@@ -45,10 +42,7 @@ impl Module {
     pub fn fill_with(&mut self, alloc: Global, other: &Module) -> Result<(), DeclFault>
         ensures { Fills other.now self.old result self.new }
     {
-        let made = contents_below(alloc, self, other)?;
-        self.put_unshown(alloc, other)?;
-        self.take_contents(made);
-        Ok(())
+        self.join_below(alloc, other)
     }
 
     /// Registers what another module lists, and its declarations over that, in the place of those of equal
@@ -70,7 +64,8 @@ impl Module {
         filter: F,
     ) -> Result<(), DeclFault>
         requires { F.IsAlwaysCallable filter }
-        ensures { (tells : Namespace → Access → Bool → Bytes → ℕ → Bool) → FilterTells (F.post filter) tells → Merges (passes_by tells) other.now self.old result self.new }
+        ensures joins { (tells : Namespace → Access → Bool → Bytes → ℕ → Bool) → FilterTells (F.post filter) tells → Merges (passes_by tells) other.now self.old result self.new }
+        ensures err { OnErr result (self.new ≡ self.old) }
     {
         merge_that(
             self,
@@ -98,7 +93,7 @@ impl Module {
         filter: F,
     ) -> Result<(), OutOfMemory>
         requires { F.IsAlwaysCallable filter }
-        ensures ok { (tells : Namespace → Access → Bytes → ℕ → Bool) → ScriptFilterTells (F.post filter) tells → OnOk result (self.new ≡ scripts_that (passes_by (λ namespace access script. tells namespace access)) self.old) }
+        ensures ok { (tells : Namespace → Access → Bytes → ℕ → Bool) → ScriptFilterTells (F.post filter) tells → OnOk result (self.new ≡ scripts_that (script_passes_by tells) self.old) }
         ensures err { OnErr result (self.new ≡ self.old) }
     {
         let kept = retained(

@@ -1,30 +1,32 @@
 //! What of one module is put into another where they are joined.
 
-ghost use Rattle.std.specs.Prelude.{◌≡◌, ◌∷◌, ◌++◌, ◌||◌, [], ℕ, Bool, false, reverse, IfOk, IfErr, OnOk};
+ghost use Rattle.std.specs.Prelude.{◌≡◌, ◌∷◌, ◌++◌, ◌||◌, [], ℕ, Bool, false, reverse, IfOk, IfErr, OnOk, OnErr};
 ghost use Rattle.std.specs.Fn.{FnReturnsAt};
 ghost use Rattle.std.specs.List.{AllByRecursion};
 ghost use Rattle.std.specs.Map.{keys_of};
 ghost use Rattle.rhd_decl.specs.declared.declaration.Declaration.{Declaration as Decl};
 ghost use Rattle.rhd_manifest.specs.Listing.{listed_in};
-ghost use Rattle.rhd_module.specs.Algebra.{joined_doc, over, fill_vars, fill_subs, put_subs, that_pass, registered_over, flattened_with, filled_with, merged_own, merged_with, merged_all, entries_over};
-ghost use Rattle.rhd_module.specs.Algebra.{HasOwnTable, SomeClash, IsJoined, Merges, Tells};
+ghost use Rattle.rhd_module.specs.Algebra.{joined_doc, over, combined_with, new_vars, new_subs, that_pass, declared_over, registered_over, flattened_with, filled_with, merged_own, merged_with, merged_all, entries_over};
+ghost use Rattle.rhd_module.specs.Algebra.{HasOwnTable, SomeClash, IsJoined, Joins, Fills, Merges, Tells};
 ghost use Rattle.rhd_module.specs.Below.{lists_dynamic};
+ghost use Rattle.rhd_module.specs.Contents.{with_doc};
 ghost use Rattle.rhd_module.specs.Index.{IsClash};
 ghost use Rattle.rhd_module.specs.Manifests.{put_vars, put_all, with_contents, with_pairs};
-ghost use Rattle.rhd_module.specs.Tree.{empty_module};
+ghost use Rattle.rhd_module.specs.Tree.{empty_module, subs_of};
 
+use crate::in_place::Named;
 use crate::manifests::{mark_parts, put_entry, register_declared, register_pair};
 use crate::module::Module;
 use rhd_decl::{DeclFault, Declaration};
 use rhd_func::ManifestId;
-use rhd_hash::Key;
+use rhd_hash::{Key, Seeds};
 use rhd_manifest::{EntryList, FnManifestEntry, Listing};
-use rhd_value::{OutOfMemory, Text};
+use rhd_value::{Dynamic, OutOfMemory, Text};
 use std::alloc::Global;
 use std::rc::Rc;
 
 /// Documentation with more, after a line break where there is some already.
-fn joined_doc(alloc: Global, own: &Text, more: &Text) -> Result<Text, OutOfMemory>
+pub(crate) fn joined_doc(alloc: Global, own: &Text, more: &Text) -> Result<Text, OutOfMemory>
     ensures { IfOk result (λ doc. doc ≡ joined_doc own.now more.now) }
 {
     if own.len() == 0 {
@@ -46,44 +48,98 @@ fn put_vars(made: &mut Module, alloc: Global, other: &Module) -> Result<(), OutO
     Ok(())
 }
 
-/// Puts the sub-modules of another module in, which are shared.
-fn put_subs(made: &mut Module, alloc: Global, other: &Module) -> Result<(), OutOfMemory>
-    ensures { OnOk result (made.new ≡ record { own = record made.old.own { indexed = made.new.own.indexed }; subs = put_subs other.now.subs made.old.subs }) }
+/// Copies of the variables of a module.
+fn vars_of(alloc: Global, of: &Module) -> Result<Vec<(Text, Dynamic)>, OutOfMemory>
+    ensures { IfOk result (λ vars. vars.items ≡ of.now.own.vars) }
 {
-    for (name, child) in other.iter_sub_modules() {
-        made.set_sub_module(alloc, name.dup(alloc)?, Rc::clone(child)?)?;
+    let mut vars = Vec::new(alloc);
+    for (name, value) in of.iter_var() {
+        vars.push((name.dup(alloc)?, value.dup(alloc)?))?;
     }
-    Ok(())
+    Ok(vars)
 }
 
-/// Puts the variables of another module in whose names a module has none of.
-fn fill_vars(
-    made: &mut Module,
+/// The sub-modules of a module, which are shared.
+fn sub_modules_of(alloc: Global, of: &Module) -> Result<Vec<(Text, Rc<Module>)>, OutOfMemory>
+    ensures { IfOk result (λ subs. subs_of subs.items ≡ of.now.subs) }
+{
+    let mut subs = Vec::new(alloc);
+    for (name, child) in of.iter_sub_modules() {
+        subs.push((name.dup(alloc)?, Rc::clone(child)?))?;
+    }
+    Ok(subs)
+}
+
+/// Copies of the variables of another module in whose names a module has none of its own.
+fn new_vars(
     alloc: Global,
     own: &Module,
     other: &Module,
-) -> Result<(), OutOfMemory>
-    requires { made.old.own.vars ≡ own.now.own.vars }
-    ensures { OnOk result (made.new ≡ record made.old { own = record made.old.own { vars = fill_vars other.now.own.vars own.now.own.vars } }) }
+) -> Result<Vec<(Text, Dynamic)>, OutOfMemory>
+    ensures { IfOk result (λ vars. vars.items ≡ new_vars own.now.own.vars other.now.own.vars) }
 {
+    let mut vars = Vec::new(alloc);
     for (name, value) in other.iter_var() {
         if !own.contains_var(name) {
-            made.set_var(alloc, name.dup(alloc)?, value.dup(alloc)?)?;
+            vars.push((name.dup(alloc)?, value.dup(alloc)?))?;
         }
     }
-    Ok(())
+    Ok(vars)
 }
 
-/// Puts the sub-modules of another module in under new names, which are shared.
-fn fill_subs(made: &mut Module, alloc: Global, other: &Module) -> Result<(), OutOfMemory>
-    ensures { OnOk result (made.new ≡ record { own = record made.old.own { indexed = made.new.own.indexed }; subs = fill_subs other.now.subs made.old.subs }) }
+/// The sub-modules of another module in whose names a module has none of its own, which are shared.
+fn new_sub_modules(
+    alloc: Global,
+    own: &Module,
+    other: &Module,
+) -> Result<Vec<(Text, Rc<Module>)>, OutOfMemory>
+    ensures { IfOk result (λ subs. subs_of subs.items ≡ new_subs own.now.subs other.now.subs) }
 {
+    let mut subs = Vec::new(alloc);
     for (name, child) in other.iter_sub_modules() {
-        if !made.contains_sub_module(name) {
-            made.set_sub_module(alloc, name.dup(alloc)?, Rc::clone(child)?)?;
+        if !own.contains_sub_module(name) {
+            subs.push((name.dup(alloc)?, Rc::clone(child)?))?;
         }
     }
-    Ok(())
+    Ok(subs)
+}
+
+/// The variables and sub-modules of a module.
+fn named_of(alloc: Global, of: &Module) -> Result<Named, OutOfMemory>
+    ensures { IfOk result (λ named. (named.vars.items ≡ of.now.own.vars) × (subs_of named.subs.items ≡ of.now.subs)) }
+{
+    Ok(Named {
+        vars: vars_of(alloc, of)?,
+        subs: sub_modules_of(alloc, of)?,
+    })
+}
+
+/// Those of another module in whose names a module has none of its own.
+fn new_named(alloc: Global, own: &Module, other: &Module) -> Result<Named, OutOfMemory>
+    ensures { IfOk result (λ named. (named.vars.items ≡ new_vars own.now.own.vars other.now.own.vars) × (subs_of named.subs.items ≡ new_subs own.now.subs other.now.subs)) }
+{
+    Ok(Named {
+        vars: new_vars(alloc, own, other)?,
+        subs: new_sub_modules(alloc, own, other)?,
+    })
+}
+
+/// The manifests of two modules, and what they list.
+#[derive(Drop)]
+struct Lists {
+    manifests: Vec<(ManifestId, bool)>,
+    listed: Listing,
+}
+
+/// Those of one module above those of another.
+fn lists_over(alloc: Global, upper: &Module, lower: &Module) -> Result<Lists, OutOfMemory>
+    ensures { IfOk result (λ lists. (lists.manifests.items ≡ lower.now.own.manifests ++ upper.now.own.manifests) × (lists.listed ≡ upper.now.own.listed ++ lower.now.own.listed)) }
+{
+    let mut listed = lower.listed.dup(alloc)?;
+    listed.raise(upper.listed.dup(alloc)?)?;
+    let mut manifests = Vec::from_slice(alloc, lower.manifests.as_slice())?;
+    manifests.extend_from_slice(upper.manifests.as_slice())?;
+    Ok(Lists { manifests, listed })
 }
 
 /// Declares a listed function, as a declaration that passes, in the place of one of an equal key, else last.
@@ -147,8 +203,8 @@ fn register_pair_that<F: Fn(&Declaration) -> bool>(
     passes: &F,
 ) -> Result<(), DeclFault>
     requires { F.IsAlwaysCallable passes.now }
-    ensures ok { (tells : Decl → Bool) → Tells (FnReturnsAt F.Fn passes.now) tells → OnOk result (made.new ≡ with_pairs (put_all (that_pass tells ((key.now, declaration.now) ∷ [])) made.old.own.eager) made.new.own.indexed made.old) }
-    ensures clash { (tells : Decl → Bool) → Tells (FnReturnsAt F.Fn passes.now) tells → IfErr result (IsClash made.old.own.seeds (keys_of (put_all (that_pass tells ((key.now, declaration.now) ∷ [])) made.old.own.eager))) }
+    ensures ok { (tells : Decl → Bool) → Tells (FnReturnsAt F.Fn passes.now) tells → OnOk result (made.new ≡ with_pairs (declared_over tells ((key.now, declaration.now) ∷ []) made.old.own) made.new.own.indexed made.old) }
+    ensures clash { (tells : Decl → Bool) → Tells (FnReturnsAt F.Fn passes.now) tells → IfErr result (IsClash made.old.own.seeds (keys_of (declared_over tells ((key.now, declaration.now) ∷ []) made.old.own))) }
     ensures others { OnOk result ((made.new.own.seeds ≡ made.old.own.seeds) × (made.new.own.listed ≡ made.old.own.listed)) }
 {
     if !passes(declaration) {
@@ -165,8 +221,8 @@ fn register_declared_that<F: Fn(&Declaration) -> bool>(
     passes: &F,
 ) -> Result<(), DeclFault>
     requires { F.IsAlwaysCallable passes.now }
-    ensures ok { (tells : Decl → Bool) → Tells (FnReturnsAt F.Fn passes.now) tells → OnOk result (made.new ≡ with_pairs (put_all (that_pass tells other.now.own.eager) made.old.own.eager) made.new.own.indexed made.old) }
-    ensures clash { (tells : Decl → Bool) → Tells (FnReturnsAt F.Fn passes.now) tells → IfErr result (IsClash made.old.own.seeds (keys_of (put_all (that_pass tells other.now.own.eager) made.old.own.eager))) }
+    ensures ok { (tells : Decl → Bool) → Tells (FnReturnsAt F.Fn passes.now) tells → OnOk result (made.new ≡ with_pairs (declared_over tells other.now.own.eager made.old.own) made.new.own.indexed made.old) }
+    ensures clash { (tells : Decl → Bool) → Tells (FnReturnsAt F.Fn passes.now) tells → IfErr result (IsClash made.old.own.seeds (keys_of (declared_over tells other.now.own.eager made.old.own))) }
     ensures others { OnOk result ((made.new.own.seeds ≡ made.old.own.seeds) × (made.new.own.listed ≡ made.old.own.listed)) }
 {
     for (key, declaration) in other.iter_fn() {
@@ -206,69 +262,45 @@ impl Module {
         Ok(())
     }
 
-    /// Lists what another module lists above what it lists itself. The module isn't indexed any more.
-    fn list_above(&mut self, alloc: Global, other: &Module) -> Result<(), OutOfMemory>
-        ensures { OnOk result (self.new ≡ record self.old { own = record self.old.own { manifests = self.old.own.manifests ++ other.now.own.manifests; listed = other.now.own.listed ++ self.old.own.listed; indexed = false } }) }
+    /// Lists what it lists itself and what another module lists, and has this documentation. The module
+    /// isn't indexed any more.
+    fn take_lists(&mut self, other: &Module, lists: Lists, doc: Text)
+        requires listed { (v : ℕ) → lists_dynamic self.old.own.seeds v lists.listed ≡ (lists_dynamic self.old.own.seeds v self.old.own.listed || lists_dynamic self.old.own.seeds v other.now.own.listed) }
+        ensures { self.new ≡ record self.old { own = record self.old.own { doc = doc; manifests = lists.manifests.items; listed = lists.listed; indexed = false } } }
     {
-        let mut listed = self.listed.dup(alloc)?;
-        listed.raise(other.listed.dup(alloc)?)?;
-        let mut manifests = Vec::from_slice(alloc, self.manifests.as_slice())?;
-        manifests.extend_from_slice(other.manifests.as_slice())?;
-        let mut filter = self.filter.clone()?;
-        mark_parts(&mut filter, self.seeds(), other.listed.parts());
-        self.filter = filter;
-        self.listed = listed;
-        self.manifests = manifests;
-        self.flags.set_indexed(false);
-        Ok(())
-    }
-
-    /// Lists what another module lists below what it lists itself. The module isn't indexed any more.
-    fn list_below(&mut self, alloc: Global, other: &Module) -> Result<(), OutOfMemory>
-        ensures { OnOk result (self.new ≡ record self.old { own = record self.old.own { manifests = other.now.own.manifests ++ self.old.own.manifests; listed = self.old.own.listed ++ other.now.own.listed; indexed = false } }) }
-    {
-        let mut listed = other.listed.dup(alloc)?;
-        listed.raise(self.listed.dup(alloc)?)?;
-        let mut manifests = Vec::from_slice(alloc, other.manifests.as_slice())?;
-        manifests.extend_from_slice(self.manifests.as_slice())?;
-        let mut filter = self.filter.clone()?;
-        mark_parts(&mut filter, self.seeds(), other.listed.parts());
-        self.filter = filter;
-        self.listed = listed;
-        self.manifests = manifests;
-        self.flags.set_indexed(false);
-        Ok(())
-    }
-
-    /// Takes all but the declarations of another module. The module isn't indexed any more.
-    pub(crate) fn take_contents(&mut self, made: Module)
-        requires bare { made.own.eager ≡ [] }
-        requires seeds { made.own.seeds ≡ self.old.own.seeds }
-        requires listed { (v : ℕ) → lists_dynamic self.old.own.seeds v made.own.listed ≡ (lists_dynamic self.old.own.seeds v self.old.own.listed || lists_dynamic self.old.own.seeds v made.own.listed) }
-        ensures { self.new ≡ record { own = record made.own { eager = self.old.own.eager; indexed = false }; subs = made.subs } }
-    {
-        let Module {
-            id,
-            doc,
-            types,
-            vars,
-            manifests,
-            listed,
-            subs,
-            flags,
-            filter,
-            ..
-        } = made;
-        self.id = id;
+        mark_parts(&mut self.filter, self.eager.seeds(), other.listed.parts());
         self.doc = doc;
-        self.types = types;
-        self.vars = vars;
-        self.manifests = manifests;
-        self.listed = listed;
-        self.subs = subs;
-        self.flags = flags;
+        self.manifests = lists.manifests;
+        self.listed = lists.listed;
         self.flags.set_indexed(false);
-        self.filter += &filter;
+    }
+
+    /// Puts another module over this one in its place, and has this documentation.
+    pub(crate) fn join_over(
+        &mut self,
+        alloc: Global,
+        other: &Module,
+        doc: Text,
+    ) -> Result<(), DeclFault>
+        ensures { Joins (with_doc doc (combined_with other.now self.old) ∷ []) (with_doc doc (combined_with other.now self.old)) self.old result self.new }
+    {
+        let named = named_of(alloc, other)?;
+        let lists = lists_over(alloc, other, self)?;
+        self.put_declared(alloc, other, named)?;
+        self.take_lists(other, lists, doc);
+        Ok(())
+    }
+
+    /// Fills this module in its place with what is new of another one.
+    pub(crate) fn join_below(&mut self, alloc: Global, other: &Module) -> Result<(), DeclFault>
+        ensures { Fills other.now self.old result self.new }
+    {
+        let doc = joined_doc(alloc, &self.doc, &other.doc)?;
+        let named = new_named(alloc, self, other)?;
+        let lists = lists_over(alloc, self, other)?;
+        self.put_unshown(alloc, other, named)?;
+        self.take_lists(other, lists, doc);
+        Ok(())
     }
 }
 
@@ -277,39 +309,10 @@ fn put_contents(made: &mut Module, alloc: Global, other: &Module) -> Result<(), 
     ensures { OnOk result (made.new ≡ record made.old { own = record (over other.now.own made.old.own) { eager = made.old.own.eager } }) }
 {
     put_vars(made, alloc, other)?;
-    made.join_doc(alloc, other)?;
-    made.list_above(alloc, other)?;
+    let doc = joined_doc(alloc, &made.doc, &other.doc)?;
+    let lists = lists_over(alloc, other, made)?;
+    made.take_lists(other, lists, doc);
     Ok(())
-}
-
-/// What a module is but for its declarations, once another one is put over it.
-pub(crate) fn contents_over(
-    alloc: Global,
-    own: &Module,
-    other: &Module,
-) -> Result<Module, OutOfMemory>
-    ensures { IfOk result (λ m. m ≡ record { own = record (over other.now.own own.now.own) { eager = [] }; subs = put_subs other.now.subs own.now.subs }) }
-{
-    let mut made = own.bare(alloc)?;
-    put_subs(&mut made, alloc, other)?;
-    put_contents(&mut made, alloc, other)?;
-    Ok(made)
-}
-
-/// What a module is but for its declarations, once what is new of another one is put in.
-pub(crate) fn contents_below(
-    alloc: Global,
-    own: &Module,
-    other: &Module,
-) -> Result<Module, OutOfMemory>
-    ensures { IfOk result (λ m. m ≡ record { own = record (filled_with other.now own.now).own { eager = [] }; subs = fill_subs other.now.subs own.now.subs }) }
-{
-    let mut made = own.bare(alloc)?;
-    fill_vars(&mut made, alloc, own, other)?;
-    fill_subs(&mut made, alloc, other)?;
-    made.join_doc(alloc, other)?;
-    made.list_below(alloc, other)?;
-    Ok(made)
 }
 
 /// Puts what another module has over what a module has, but for its sub-modules.
@@ -323,7 +326,7 @@ fn put_over(made: &mut Module, alloc: Global, other: &Module) -> Result<(), Decl
 }
 
 /// Puts what stands in the tree of another module over what a module has, from the deepest up.
-pub(crate) fn flatten(made: &mut Module, alloc: Global, other: &Module) -> Result<(), DeclFault>
+fn flatten(made: &mut Module, alloc: Global, other: &Module) -> Result<(), DeclFault>
     ensures ok { OnOk result (made.new ≡ flattened_with other.now made.old) }
     ensures table { OnOk result (HasOwnTable (flattened_with other.now made.old)) }
     ensures clash { IfErr result (IsClash made.old.own.seeds (keys_of (flattened_with other.now made.old).own.eager)) }
@@ -334,6 +337,22 @@ pub(crate) fn flatten(made: &mut Module, alloc: Global, other: &Module) -> Resul
     put_over(made, alloc, other)?;
     let _apart = made.iter_fn();
     Ok(())
+}
+
+/// A module of this documentation, over which what stands in the tree of another module is put.
+pub(crate) fn flattened(
+    alloc: Global,
+    seeds: Seeds,
+    doc: &Text,
+    other: &Module,
+) -> Result<Module, DeclFault>
+    ensures ok { IfOk result (λ made. made ≡ flattened_with other.now (with_doc doc.now (empty_module seeds))) }
+    ensures clash { IfErr result (IsClash seeds (keys_of (flattened_with other.now (with_doc doc.now (empty_module seeds))).own.eager)) }
+{
+    let mut made = Module::new(alloc, seeds)?;
+    made.set_doc(doc.dup(alloc)?);
+    flatten(&mut made, alloc, other)?;
+    Ok(made)
 }
 
 /// Merges what passes of another module's own lists.
@@ -392,7 +411,7 @@ pub(crate) fn merged<F: Fn(&Declaration) -> bool>(
     Ok(made)
 }
 
-/// Merges what passes of another module into one; a refusal changes nothing.
+/// Merges what passes of another module into one in its place; a refusal changes nothing.
 pub(crate) fn merge_that<F: Fn(&Declaration) -> bool>(
     target: &mut Module,
     alloc: Global,
@@ -400,11 +419,12 @@ pub(crate) fn merge_that<F: Fn(&Declaration) -> bool>(
     passes: &F,
 ) -> Result<(), DeclFault>
     requires { F.IsAlwaysCallable passes.now }
-    ensures { (tells : Decl → Bool) → Tells (FnReturnsAt F.Fn passes.now) tells → Merges tells other.now target.old result target.new }
+    ensures joins { (tells : Decl → Bool) → Tells (FnReturnsAt F.Fn passes.now) tells → Merges tells other.now target.old result target.new }
+    ensures err { OnErr result (target.new ≡ target.old) }
 {
-    let made = merged(alloc, target, other, passes)?;
-    *target = made;
-    Ok(())
+    let mut made = Module::new(alloc, target.seeds())?;
+    merge(&mut made, alloc, other, passes)?;
+    target.combine(alloc, &made)
 }
 
 /// A module in which what passes of the declarations of another one is declared.

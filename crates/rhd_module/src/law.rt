@@ -52,10 +52,10 @@ pub fn merging_combines_what_is_declared()
 {}
 
 /// It doesn't matter which of two joins is made first: combining is associative on functions, variables,
-/// sub-modules, manifests and what these list, where functions have keys of their own and variables and
-/// sub-modules stand in ascending order of name, as they do in each module.
+/// sub-modules, manifests and what these list, where the functions of the second module have keys of their
+/// own, and its variables and sub-modules stand in ascending order of name, as they do in each module.
 pub fn combining_is_associative()
-    ensures functions { (a b c : ModuleTree) → DeclaresOwn b.own → DeclaresOwn c.own → (combined_with c (combined_with b a)).own.eager ≡ (combined_with (combined_with c b) a).own.eager }
+    ensures functions { (a b c : ModuleTree) → DeclaresOwn b.own → (combined_with c (combined_with b a)).own.eager ≡ (combined_with (combined_with c b) a).own.eager }
     ensures variables { (a b c : ModuleTree) → IsStrictlySortedBy (slice_cmp nat_cmp) (keys_of b.own.vars) → (combined_with c (combined_with b a)).own.vars ≡ (combined_with (combined_with c b) a).own.vars }
     ensures sub_modules { (a b c : ModuleTree) → IsStrictlySortedBy (slice_cmp nat_cmp) (names_of b.subs) → (combined_with c (combined_with b a)).subs ≡ (combined_with (combined_with c b) a).subs }
     ensures manifests { (a b c : ModuleTree) → (combined_with c (combined_with b a)).own.manifests ≡ (combined_with (combined_with c b) a).own.manifests }

@@ -330,33 +330,6 @@ impl Module {
         })
     }
 
-    /// A copy of all but the declarations. It isn't indexed. Its sub-modules are shared.
-    pub(crate) fn bare(&self, alloc: Global) -> Result<Module, OutOfMemory>
-        ensures { IfOk result (λ copy. copy ≡ record self.now { own = record self.now.own { eager = []; indexed = false } }) }
-    {
-        let seeds = self.eager.seeds();
-        let mut flags = self.flags.dup();
-        flags.set_indexed(false);
-        let listed = self.listed.dup(alloc)?;
-        let mut filter = BloomFilterU64::new();
-        mark_parts(&mut filter, seeds, listed.parts());
-        Ok(Module {
-            id: self.share_id(alloc)?,
-            doc: self.doc.dup(alloc)?,
-            types: self.types.dup(alloc)?,
-            vars: self.vars.dup(alloc)?,
-            eager: KeyTable::new(alloc, seeds),
-            manifests: Vec::from_slice(alloc, self.manifests.as_slice())?,
-            listed,
-            subs: self.subs.clone()?,
-            flags,
-            filter,
-            index: self.index.clone()?,
-            natives: NativeIndex::new(alloc),
-            scripts: false,
-        })
-    }
-
     /// Sets the comments of the declaration under a key. Answers whether there is one; a listed function is
     /// none.
     pub fn set_fn_comments(

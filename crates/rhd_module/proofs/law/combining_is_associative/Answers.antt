@@ -1,10 +1,10 @@
 use Rattle.std.proofs.Common.{sym, append_assoc}
 use Rattle.rhd_module.proofs.JoinLaws.{all_through, vars_through, subs_through}
-use Rattle.rhd_module.proofs.SamePairs.{apart_declared}
+use Rattle.rhd_module.proofs.SamePairs.{alone_distinct}
 use Rattle.rhd_module.proofs.law.combining_is_associative.Goals as goal
 
 pub returns-clause-functions : goal.returns-clause-functions
-returns-clause-functions c = λ a b d own more. all_through d.own.eager b.own.eager a.own.eager (apart_declared d.own more) (apart_declared b.own own)
+returns-clause-functions c = λ a b d own. all_through d.own.eager b.own.eager a.own.eager (alone_distinct b.own.eager own.0)
 
 pub returns-clause-variables : goal.returns-clause-variables
 returns-clause-variables c = λ a b d sorted. vars_through d.own.vars b.own.vars a.own.vars sorted

@@ -1,4 +1,4 @@
-use Rattle.std.proofs.Common.{◌≡◌, ℕ, ◌||◌, true, is_some, sym, ap, subst, ◌∙◌, true≢false}
+use Rattle.std.proofs.Common.{◌≡◌, ℕ, ◌||◌, true, is_some, None, List, sym, ap, subst, ◌∙◌, true≢false}
 use Rattle.std.specs.List.{AllByRecursion, list_any}
 use Rattle.rhd_hash.specs.Filter.{is_marked}
 use Rattle.rhd_hash.specs.Table.{Table}
@@ -8,14 +8,32 @@ use Rattle.rhd_module.specs.Below.{may_be_dynamic}
 use Rattle.rhd_module.specs.Index.{IsFilter, IsKept}
 use Rattle.rhd_module.specs.NativeIndex.{IsIndex}
 use Rattle.rhd_module.specs.Scripts.{AreNoted}
-use Rattle.rhd_module.specs.Tree.{ModuleTree}
+use Rattle.rhd_value.specs.Tree.{Bytes, Tree}
+use Rattle.rhd_module.specs.Tree.{ModuleTree, Subs, subs_of}
 use Rattle.rhd_module.specs.contracts.module.Module.{the_view}
 use Rattle.rhd_module.proofs.Lookups.{first}
 use Rattle.rhd_module.proofs.PutParts.{filter_grown, scripts_grown}
 use Rattle.rhd_module.proofs.module.Module.put_copies.Goals as goal
 
+-- what stands in a module besides its declarations
+abbrev with_rest : ModuleTree → List (Bytes × Tree) → Subs → ModuleTree
+with_rest m vars subs = record { own = record m.own { vars = vars }; subs = subs }
+
 pub invariant_of-self : goal.invariant_of-self
 invariant_of-self c =
+    let inside = c.self.inside in
+    let K : List (Bytes × Tree) × Subs → Type 0 = λ p. IsKept inside.index.value (with_rest (the_view inside) p.0 p.1) in
+    let kept = subst K (λ i. (sym c.in_err-vars.ensures.vars_err i, sym (ap subs_of c.in_err-vars.ensures.subs_err) i)) c.self.invariant.3 in
+    (c.self.invariant.0, c.self.invariant.1, c.self.invariant.2, kept)
+
+pub grow-requires-clause-there : goal.grow-requires-clause-there
+grow-requires-clause-there c = subst (λ (m : ModuleTree). AllByRecursion (λ p. is_some (first p.0 m.own.eager) ≡ true) c.args.there.items) (sym c.self.view_is) c.requires.there
+
+pub grow-requires-clause-new : goal.grow-requires-clause-new
+grow-requires-clause-new c = subst (λ (m : ModuleTree). AllByRecursion (λ p. first p.0 m.own.eager ≡ None) c.args.new.items) (sym c.self.view_is) c.requires.new
+
+pub invariant_of-self-in-Ok-1 : goal.invariant_of-self-in-Ok-1
+invariant_of-self-in-Ok-1 c =
     let inside = c.self.inside in
     let there = c.args.there.items in
     let new = c.args.new.items in
@@ -37,6 +55,15 @@ pub invariant_of-self-in-Err : goal.invariant_of-self-in-Err
 invariant_of-self-in-Err c =
     let inside = c.self.inside in
     let natives = c.grow.new.natives in
-    let P : Table Declaration → Type 0 =
-    λ t. IsIndex natives t.pairs × AreNoted inside.scripts t.pairs × IsFilter inside.filter (the_view (record inside { eager = t })).own × IsKept inside.index.value (the_view (record inside { eager = t })) in
-    subst P (sym c.in-Err.ensures.err) (c.in-Err.ensures.still, c.self.invariant.1, c.self.invariant.2, c.self.invariant.3)
+    let vars = c.take_vars_back.ensures inside.vars c.in_ok-vars.ensures.vars_replaced in
+    let subs = c.take_back.ensures inside.subs.entries c.in_ok-vars.ensures.subs_replaced in
+    let P : Table Declaration × List (Bytes × Tree) × Subs → Type 0 =
+    λ p. let m = the_view (record inside { eager = p.0 }) in IsIndex natives p.0.pairs × AreNoted inside.scripts p.0.pairs × IsFilter inside.filter m.own × IsKept inside.index.value (with_rest m p.1 p.2) in
+    subst P (λ i. (sym c.in-Err.ensures.err i, sym vars i, sym (ap subs_of subs) i)) (c.in-Err.ensures.still, c.self.invariant.1, c.self.invariant.2, c.self.invariant.3)
+
+pub returns-in-Err-clause-err : goal.returns-in-Err-clause-err
+returns-in-Err-clause-err c =
+    let inside = c.self.inside in
+    let vars = c.take_vars_back.ensures inside.vars c.in_ok-vars.ensures.vars_replaced in
+    let subs = c.take_back.ensures inside.subs.entries c.in_ok-vars.ensures.subs_replaced in
+    (λ i. with_rest (the_view (record inside { eager = c.in-Err.ensures.err i })) (vars i) (subs_of (subs i))) ∙ c.self.view_is

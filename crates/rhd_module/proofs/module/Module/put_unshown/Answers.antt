@@ -3,11 +3,12 @@ use Rattle.std.specs.List.{AllByRecursion}
 use Rattle.std.specs.Map.{keys_of}
 use Rattle.rhd_hash.specs.declared.key.Key.{Key}
 use Rattle.rhd_hash.specs.Table.{HasOwnHashes}
+use Rattle.rhd_module.specs.Algebra.{with_named}
 use Rattle.rhd_module.specs.Index.{IsClash}
 use Rattle.rhd_module.specs.Manifests.{put_all, with_pairs}
 use Rattle.rhd_module.specs.Scripts.{has_script}
 use Rattle.rhd_module.specs.Shown.{shown, without, own_decl}
-use Rattle.rhd_module.specs.Tree.{ModuleTree, Pairs}
+use Rattle.rhd_module.specs.Tree.{ModuleTree, Pairs, subs_of}
 use Rattle.rhd_module.proofs.Fills.{if_more}
 use Rattle.rhd_module.proofs.Lookups.{first}
 use Rattle.rhd_module.proofs.PutParts.{all_absent, none_kept, not_is, same_filter, every, front_none}
@@ -47,7 +48,7 @@ whole c =
     λ i. put_all (c.new.ensures.items i) (put_all (items i) m.own.eager)
 
 pub returns-clause-ok : goal.returns-clause-ok
-returns-clause-ok c = subst (λ (ps : Pairs). OnOk c.put_copies.result (c.put_copies.new.self ≡ with_pairs ps false c.args.self.now)) (whole c) c.put_copies.ensures.ok
+returns-clause-ok c = subst (λ (ps : Pairs). OnOk c.put_copies.result (c.put_copies.new.self ≡ with_named c.args.named.vars.items (subs_of c.args.named.subs.items) (with_pairs ps false c.args.self.now))) (whole c) c.put_copies.ensures.ok
 
 pub returns-clause-table : goal.returns-clause-table
 returns-clause-table c = subst (λ (ps : Pairs). OnOk c.put_copies.result (HasOwnHashes c.args.self.now.own.seeds (keys_of ps))) (whole c) c.put_copies.ensures.table

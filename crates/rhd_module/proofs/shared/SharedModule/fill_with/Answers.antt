@@ -1,4 +1,4 @@
-use Rattle.std.proofs.Common.{◌≡◌, rules, subst, ◌∙◌}
+use Rattle.std.proofs.Common.{◌≡◌, rules, subst}
 use Rattle.rhd_module.specs.Algebra.{Fills}
 use Rattle.rhd_module.specs.Tree.{ModuleTree}
 use Rattle.rhd_module.proofs.shared.SharedModule.fill_with.Goals as goal

@@ -2,7 +2,7 @@ use Rattle.std.proofs.Common.{◌∷◌, [], sym, subst}
 use Rattle.rhd_module.specs.Algebra.{filled_with, Fills}
 use Rattle.rhd_module.specs.Tree.{ModuleTree}
 use Rattle.rhd_module.proofs.JoinParts.{clash_first, refused_join}
-use Rattle.rhd_module.proofs.module.Module.fill_with.Goals as goal
+use Rattle.rhd_module.proofs.module.Module.join_below.Goals as goal
 
 pub returns-in_err-put_unshown : goal.returns-in_err-put_unshown
 returns-in_err-put_unshown c =
