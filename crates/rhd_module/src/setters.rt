@@ -356,6 +356,19 @@ impl Module {
         self.put_script(alloc, def, None)
     }
 
+    /// The same of a script that runs in an environment.
+    pub fn set_script_fn_in(
+        &mut self,
+        alloc: Global,
+        def: SharedDef,
+        env: EnvId,
+    ) -> Result<u64, DeclFault>
+        ensures puts { Puts None (script_key def) (script_decl self.old.own.seeds def (Some env)) self.old result self.new }
+        ensures hash { IfOk result (λ hash. hash ≡ mixed self.old.own.seeds (script_key def)) }
+    {
+        self.put_script(alloc, def, Some(env))
+    }
+
     /// Declares a script with its environment, if it has one.
     fn put_script(
         &mut self,

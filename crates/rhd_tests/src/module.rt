@@ -5,7 +5,7 @@ ghost use Rattle.std.specs.Prelude.{◌≡◌, true};
 use crate::given::{SEEDS, int, is_int, is_text, native_key, script, script_key, text, texts};
 use crate::must::{empty, for_all, holds, must, shared, shared_script};
 use rhd_decl::CustomTypeInfo;
-use rhd_func::{FnAccess, FnNamespace, RhaiFunc, SharedDef};
+use rhd_func::{EnvId, FnAccess, FnNamespace, RhaiFunc, SharedDef};
 use rhd_hash::{HashedKey, Key, Steps};
 use rhd_module::{FuncRegistration, Module, is_pure_by_name, script_declaration};
 use rhd_value::TypeTag;
@@ -178,6 +178,28 @@ fn is_script(func: Option<&RhaiFunc>) -> bool {
         Some(func) => func.is_script(),
         None => false,
     }
+}
+
+/// The environment in which a script runs.
+fn env_of(func: Option<&RhaiFunc>) -> Option<EnvId> {
+    match func {
+        Some(RhaiFunc::Script { env, .. }) => *env,
+        _ => None,
+    }
+}
+
+#[test]
+fn a_script_runs_in_an_environment(rt: HostRuntime) {
+    let alloc = rt.alloc();
+    let mut module = with_script(&rt, alloc);
+    let (key, mut steps) = (script_key(alloc, "s"), Steps::new());
+    let none = env_of(module.get_fn(&key, &mut steps));
+    holds(&rt, none.is_none(), "in none");
+    let def = shared_script(&rt, alloc, "s");
+    let hash = must(&rt, module.set_script_fn_in(alloc, def, EnvId(3)), "again");
+    holds(&rt, hash == key.mixed(SEEDS), "its hash");
+    let env = env_of(module.get_fn(&key, &mut steps));
+    holds(&rt, env == Some(EnvId(3)), "in this one");
 }
 
 #[test]
