@@ -11,6 +11,8 @@ mod dispatch;
 #[cfg(test)]
 mod engine;
 #[cfg(test)]
+mod files;
+#[cfg(test)]
 mod func;
 pub mod given;
 #[cfg(test)]
@@ -27,3 +29,5 @@ mod module;
 mod must;
 #[cfg(test)]
 mod names;
+#[cfg(test)]
+mod resolve;
