@@ -111,12 +111,14 @@ joined() {
     }'
 }
 
-# A module of twenty declarations put over one of so many, a thousand times.
+# A module of twenty declarations, a variable and a submodule put over one of so many declarations and
+# variables, a thousand times.
 put_over() {
     awk -v times="$1" 'BEGIN {
-        print "module\nmodule"
-        for (i = 0; i < times; i++) print "native 0 f" i " 1"
+        print "module\nmodule\nmodule"
+        for (i = 0; i < times; i++) print "native 0 f" i " 1\nvar 0 v" i " 1"
         for (i = 0; i < 20; i++) print "native 1 g" i " 2"
+        print "var 1 w 1\nsubmodule 1 s 2"
         for (i = 0; i < 1000; i++) print "combine 0 1"
     }'
 }
