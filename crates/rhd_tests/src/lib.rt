@@ -3,8 +3,6 @@
 #![tactic(auto)]
 
 #[cfg(test)]
-mod algebra;
-#[cfg(test)]
 mod decl;
 #[cfg(test)]
 mod dispatch;
@@ -17,8 +15,6 @@ mod func;
 pub mod given;
 #[cfg(test)]
 mod hash;
-#[cfg(test)]
-mod listed;
 #[cfg(test)]
 mod manifest;
 #[cfg(test)]
