@@ -71,12 +71,13 @@ module_of seeds env loaded = indexed (with_scripts (Some env) (public_functions 
 abbrev pub environ_of : Seeds → LoadedScript → EncapsulatedEnviron
 environ_of seeds loaded = record { lib = library_of seeds loaded; imports = loaded.imports }
 
--- What loading a script answers, and the environments that it leaves: two keys that clash of a table of declarations or of the index refuse it.
+-- What loading a script answers, and the environments that it leaves: two keys that clash of the declarations of the library or of the module, or of the module's index, refuse it.
 abbrev pub Loads : LoadedScript → Envs → Result ModuleTree DeclFault → Envs → Type 0
 Loads loaded old (Ok made) new =
-    HasOwnTable (library_of old.seeds loaded) × HasOwnTable (module_of old.seeds (next_env old) loaded) × NoneClash old.seeds (keys_of (tree (module_of old.seeds (next_env old) loaded)))
-    × (made ≡ module_of old.seeds (next_env old) loaded) × (new ≡ with_env (environ_of old.seeds loaded) old)
+    let lib = library_of old.seeds loaded in
+    let done = module_of old.seeds (next_env old) loaded in
+    HasOwnTable lib × HasOwnTable done × NoneClash old.seeds (keys_of (tree done)) × (made ≡ done) × (new ≡ with_env (environ_of old.seeds loaded) old)
 Loads loaded old (Err fault) new =
-    (IsClash old.seeds (keys_of (library_of old.seeds loaded).own.eager) fault ⊎ IsClash old.seeds (keys_of (module_of old.seeds (next_env old) loaded).own.eager) fault
-    ⊎ IsClash old.seeds (keys_of (tree (module_of old.seeds (next_env old) loaded))) fault)
-    × (new ≡ old)
+    let lib = library_of old.seeds loaded in
+    let done = module_of old.seeds (next_env old) loaded in
+    (IsClash old.seeds (keys_of lib.own.eager) fault ⊎ IsClash old.seeds (keys_of done.own.eager) fault ⊎ IsClash old.seeds (keys_of (tree done)) fault) × (new ≡ old)

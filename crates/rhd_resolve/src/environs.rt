@@ -1,6 +1,6 @@
 //! Environments: what the functions of a loaded script run in.
 
-ghost use Rattle.std.specs.Prelude.{◌≡◌, [], length, slice_get, if◌then◌else◌, is_ok, IfOk, IfSome};
+ghost use Rattle.std.specs.Prelude.{◌≡◌, ◌≤◌, ◌^◌, ◌-◌, [], length, slice_get, if◌then◌else◌, is_ok, IfOk, IfSome, IfNone};
 ghost use Rattle.std.specs.Option.{option_copied};
 ghost use Rattle.rhd_resolve.specs.Environs.{next_env, with_env};
 
@@ -96,7 +96,8 @@ impl Environs {
 
     /// The number that the next environment gets; none where there are as many as there may be.
     pub(crate) fn next_id(&self) -> Option<EnvId>
-        ensures { IfSome result (λ id. id ≡ next_env self.now) }
+        ensures some { IfSome result (λ id. id ≡ next_env self.now) }
+        ensures none { IfNone result (2 ^ 32 - 1 ≤ length self.now.items) }
     {
         if self.items.len() >= u32::MAX as usize {
             return None;

@@ -14,7 +14,7 @@ returns c =
     let loaded = c.args.loaded.now in
     let envs = c.args.envs.now in
     let seeds = c.seeds-seeds.ensures in
-    let env = c.in-Some.ensures in
+    let env = c.in-Some.ensures.some in
     let lib = c.in_ok-lib.ensures ∙ c.in_ok-library.ensures.ok ∙ ap (λ (s : Seeds). library_of s loaded) seeds in (
       subst (λ (s : Seeds). HasOwnTable (library_of s loaded)) seeds c.in_ok-library.ensures.table,
       subst (λ (p : Seeds × EnvId). HasOwnTable (module_of p.0 p.1 loaded)) (λ i. (seeds i, env i)) c.in_ok-made.ensures.table,
