@@ -2,8 +2,8 @@
 use Rattle.std.specs.Prelude.{◌≡◌, ◌⊎◌, ℕ, ◌++◌, true, None, codes}
 use Rattle.rhd_value.specs.Tree.{Bytes}
 use Rattle.rhd_value.specs.declared.fault.EvalAltResult.{EvalAltResult}
-use Rattle.rhd_value.specs.declared.fault.EvalAltResult.TheVariants.{ErrorFunctionNotFound, ErrorDotExpr, ErrorIndexingType, ErrorParsing, ErrorNonPureMethodCallOnConstant, ErrorDataRace}
-use Rattle.rhd_value.specs.declared.fault.EvalAltResult.TheVariants.{ErrorMismatchOutputType, ErrorMismatchDataType, ErrorTooManyOperations, ErrorStackOverflow, ErrorDataTooLarge, ErrorModuleNotFound, ErrorRuntime}
+use Rattle.rhd_value.specs.Fault.{number_of}
+use Rattle.rhd_value.specs.Seen.{fault_seen}
 use Rattle.rhd_func.specs.declared.request.CallRequest.{CallRequest}
 use Rattle.rhd_func.specs.declared.request.HostAnswer.TheVariants.{Nothing}
 use Rattle.rhd_engine.specs.Engine.{EngineLists, Frame}
@@ -17,19 +17,7 @@ use Rattle.rhd_laws.specs.Hosts.{HostEnds}
 
 -- the number of a fault
 abbrev pub fault_number : EvalAltResult → ℕ
-fault_number (ErrorFunctionNotFound text pos) = 1
-fault_number (ErrorDotExpr text pos) = 2
-fault_number (ErrorIndexingType text pos) = 3
-fault_number (ErrorParsing error pos) = 4
-fault_number (ErrorNonPureMethodCallOnConstant name pos) = 5
-fault_number (ErrorDataRace text pos) = 6
-fault_number (ErrorMismatchOutputType wanted got pos) = 7
-fault_number (ErrorMismatchDataType wanted got pos) = 8
-fault_number (ErrorTooManyOperations pos) = 9
-fault_number (ErrorStackOverflow pos) = 10
-fault_number (ErrorDataTooLarge text pos) = 11
-fault_number (ErrorModuleNotFound path pos) = 12
-fault_number (ErrorRuntime text pos) = 15
+fault_number fault = number_of (fault_seen fault)
 
 -- The name is that of a getter or a setter, and n is the number of arguments that it takes.
 pub data IsProperty (name : Bytes) (n : ℕ) : Type 0 where

@@ -4,8 +4,8 @@ use Rattle.std.specs.List.{flat_map}
 use Rattle.std.specs.Fmt.{decimal}
 use Rattle.rhd_value.specs.Tree.{Bytes, Tree}
 use Rattle.rhd_value.specs.declared.fault.EvalAltResult.{EvalAltResult}
-use Rattle.rhd_value.specs.declared.fault.EvalAltResult.TheVariants.{ErrorFunctionNotFound, ErrorDotExpr, ErrorIndexingType, ErrorParsing, ErrorNonPureMethodCallOnConstant, ErrorDataRace}
-use Rattle.rhd_value.specs.declared.fault.EvalAltResult.TheVariants.{ErrorMismatchOutputType, ErrorMismatchDataType, ErrorTooManyOperations, ErrorStackOverflow, ErrorDataTooLarge, ErrorModuleNotFound, ErrorRuntime}
+use Rattle.rhd_value.specs.Fault.{Fault, function_not_found, dot_expr, indexing_type, parsing, non_pure, data_race, mismatch_output, mismatch_data, too_many_operations, stack_overflow, data_too_large, module_not_found, in_module, runtime}
+use Rattle.rhd_value.specs.Seen.{fault_seen}
 use Rattle.rhd_value.specs.declared.fault.ParseErrorType.{ParseErrorType}
 use Rattle.rhd_value.specs.declared.fault.ParseErrorType.TheVariants.{Reserved, MalformedIndexExpr}
 use Rattle.rhd_func.specs.declared.func.RhaiFunc.{RhaiFunc}
@@ -32,21 +32,22 @@ unfoldable pub spelled_error : ParseErrorType → List ℕ
 spelled_error (Reserved name) = codes "reserved " ++ quoted name
 spelled_error (MalformedIndexExpr text) = codes "index " ++ quoted text
 
--- the number of a fault and its parts
-unfoldable pub spelled_fault : EvalAltResult → List ℕ
-spelled_fault (ErrorFunctionNotFound text pos) = codes "1 " ++ quoted text
-spelled_fault (ErrorDotExpr text pos) = codes "2 " ++ quoted text
-spelled_fault (ErrorIndexingType text pos) = codes "3 " ++ quoted text
-spelled_fault (ErrorParsing error pos) = codes "4 " ++ spelled_error error
-spelled_fault (ErrorNonPureMethodCallOnConstant name pos) = codes "5 " ++ quoted name
-spelled_fault (ErrorDataRace text pos) = codes "6 " ++ quoted text
-spelled_fault (ErrorMismatchOutputType wanted got pos) = codes "7 " ++ quoted wanted ++ codes " " ++ quoted got
-spelled_fault (ErrorMismatchDataType wanted got pos) = codes "8 " ++ quoted wanted ++ codes " " ++ quoted got
-spelled_fault (ErrorTooManyOperations pos) = codes "9"
-spelled_fault (ErrorStackOverflow pos) = codes "10"
-spelled_fault (ErrorDataTooLarge text pos) = codes "11 " ++ quoted text
-spelled_fault (ErrorModuleNotFound path pos) = codes "12 " ++ quoted path
-spelled_fault (ErrorRuntime text pos) = codes "15 " ++ quoted text
+-- the number of a fault and its parts; a fault that stands inside another is in brackets
+unfoldable pub spelled_fault : Fault → List ℕ
+spelled_fault (function_not_found text pos) = codes "1 " ++ quoted text
+spelled_fault (dot_expr text pos) = codes "2 " ++ quoted text
+spelled_fault (indexing_type text pos) = codes "3 " ++ quoted text
+spelled_fault (parsing error pos) = codes "4 " ++ spelled_error error
+spelled_fault (non_pure name pos) = codes "5 " ++ quoted name
+spelled_fault (data_race text pos) = codes "6 " ++ quoted text
+spelled_fault (mismatch_output wanted got pos) = codes "7 " ++ quoted wanted ++ codes " " ++ quoted got
+spelled_fault (mismatch_data wanted got pos) = codes "8 " ++ quoted wanted ++ codes " " ++ quoted got
+spelled_fault (too_many_operations pos) = codes "9"
+spelled_fault (stack_overflow pos) = codes "10"
+spelled_fault (data_too_large text pos) = codes "11 " ++ quoted text
+spelled_fault (module_not_found path pos) = codes "12 " ++ quoted path
+spelled_fault (in_module path fault pos) = codes "13 " ++ quoted path ++ codes " (" ++ spelled_fault fault ++ codes ")"
+spelled_fault (runtime text pos) = codes "15 " ++ quoted text
 
 -- the number of a refusal and its parts
 unfoldable pub spelled_refusal : DeclFault → List ℕ
@@ -92,7 +93,7 @@ whose_text whose.Host = codes "host"
 -- the answer or the fault
 unfoldable pub result_text : Result Tree EvalAltResult → List ℕ
 result_text (Ok t) = codes "= " ++ spelled t
-result_text (Err fault) = codes "! " ++ spelled_fault fault
+result_text (Err fault) = codes "! " ++ spelled_fault (fault_seen fault)
 
 -- the first argument by reference, if there is one
 unfoldable pub after_text : Option Tree → List ℕ

@@ -3,6 +3,7 @@
 ghost use Rattle.std.specs.Prelude.{◌≡◌, ◌++◌, ◌∷◌, [], OnOk, codes, if◌then◌else◌};
 ghost use Rattle.rhd_print.specs.PrintedTexts.{quoted};
 ghost use Rattle.std.specs.Fmt.{decimal};
+ghost use Rattle.rhd_value.specs.Seen.{fault_seen};
 ghost use Rattle.rhd_print.specs.PrintedReplies.{spelled_error, spelled_fault, label, layer_text, func_text, pick_text, whose_text, result_text, after_text, shown_text, call_line, indent, tree_text, nodes_text};
 ghost use Rattle.rhd_call.specs.declared.node.CallNode.{out-CallNode};
 
@@ -61,9 +62,10 @@ fn push_fault_of_types(
 }
 
 /// A fault by its number, without its position.
+#[cycle(faults)]
 #[tactic(auto, unfolding(crate::specs::PrintedReplies::spelled_fault))]
 fn push_fault(fault: &EvalAltResult, out: &mut Vec<u8>) -> Result<(), OutOfMemory>
-    ensures { OnOk result (out.new.items ≡ out.old.items ++ spelled_fault fault.now) }
+    ensures { OnOk result (out.new.items ≡ out.old.items ++ spelled_fault (fault_seen fault.now)) }
 {
     match fault {
         EvalAltResult::ErrorFunctionNotFound(text, _) => push_fault_of(b"1 ", text, out),
@@ -85,6 +87,12 @@ fn push_fault(fault: &EvalAltResult, out: &mut Vec<u8>) -> Result<(), OutOfMemor
         EvalAltResult::ErrorStackOverflow(_) => Ok(out.extend_from_slice(b"10")?),
         EvalAltResult::ErrorDataTooLarge(text, _) => push_fault_of(b"11 ", text, out),
         EvalAltResult::ErrorModuleNotFound(path, _) => push_fault_of(b"12 ", path, out),
+        EvalAltResult::ErrorInModule(path, fault, _) => {
+            push_fault_of(b"13 ", path, out)?;
+            out.extend_from_slice(b" (")?;
+            push_fault(fault.fault(), out)?;
+            Ok(out.push(b')')?)
+        }
         EvalAltResult::ErrorRuntime(text, _) => push_fault_of(b"15 ", text, out),
     }
 }

@@ -12,3 +12,5 @@ pub mod Lends
 pub mod Pointers
 pub mod Variant
 pub mod Takes
+pub mod Fault
+pub mod Seen

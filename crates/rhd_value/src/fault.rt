@@ -2,10 +2,13 @@
 
 ghost use Rattle.std.specs.Prelude.{IfOk, ◌≡◌};
 
+mod boxed;
+
 use crate::memory::OutOfMemory;
 use crate::tag::Position;
 use crate::text::Text;
 use std::alloc::Global;
+use std::marker::Model;
 
 /// What is wrong with a name, or with the arguments of an indexer or a property.
 #[derive(Drop)]
@@ -31,6 +34,7 @@ impl ParseErrorType {
 }
 
 /// Why a call gave no value. Each fault ends with the position of its cause.
+#[cycle(fault)]
 #[derive(Drop)]
 pub enum EvalAltResult {
     /// Fault 1: no function has this signature.
@@ -59,12 +63,36 @@ pub enum EvalAltResult {
     ErrorDataTooLarge(Text, Position),
     /// Fault 12: there is no module of this path.
     ErrorModuleNotFound(Text, Position),
+    /// Fault 13: the module of this path couldn't be made, for this fault.
+    ErrorInModule(Text, BoxedFault, Position),
     /// Fault 15: a function failed with this text.
     ErrorRuntime(Text, Position),
 }
 
+/// A fault inside another one. Contracts see it as plain data.
+#[cycle(fault)]
+#[derive(Drop)]
+pub struct BoxedFault {
+    fault: Box<EvalAltResult>,
+}
+
+impl Model for BoxedFault {
+    ghost use Rattle.rhd_value.specs.Fault.{Fault, layers, coded_fault};
+
+    ghost Value = { Fault };
+
+    ghost coded = { coded_fault };
+
+    ghost use Rattle.rhd_value.specs.Seen.{fault_seen};
+
+    ghost view = { λ a. fault_seen a.fault.value };
+
+    ghost size = { layers };
+}
+
 impl EvalAltResult {
     /// An equal fault.
+    #[cycle(fault)]
     pub fn dup(&self, alloc: Global) -> Result<EvalAltResult, OutOfMemory>
         ensures { IfOk result (λ fault. fault ≡ self.now) }
     {
@@ -102,6 +130,11 @@ impl EvalAltResult {
             }
             EvalAltResult::ErrorModuleNotFound(path, pos) => {
                 Ok(EvalAltResult::ErrorModuleNotFound(path.dup(alloc)?, *pos))
+            }
+            EvalAltResult::ErrorInModule(path, fault, pos) => {
+                let path = path.dup(alloc)?;
+                let fault = fault.fault().dup(alloc)?;
+                Ok(EvalAltResult::ErrorInModule(path, BoxedFault::new(alloc, fault)?, *pos))
             }
             EvalAltResult::ErrorRuntime(text, pos) => {
                 Ok(EvalAltResult::ErrorRuntime(text.dup(alloc)?, *pos))

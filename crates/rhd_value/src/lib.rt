@@ -10,7 +10,7 @@ mod text;
 mod variant;
 
 pub use dynamic::{Dynamic, Entries, FnPtr, Value, Values};
-pub use fault::{EvalAltResult, ParseErrorType};
+pub use fault::{BoxedFault, EvalAltResult, ParseErrorType};
 pub use lists::{Texts, Types};
 pub use memory::OutOfMemory;
 pub use tag::{FnId, FnPtrType, Marks, Position, Sizes, TypeTag, map_type};
