@@ -1,7 +1,8 @@
 //! Environments: what the functions of a loaded script run in.
 
-ghost use Rattle.std.specs.Prelude.{◌≡◌, ◌≤◌, ◌^◌, ◌-◌, [], length, slice_get, if◌then◌else◌, is_ok, IfOk, IfSome, IfNone};
+ghost use Rattle.std.specs.Prelude.{◌≡◌, ◌≤◌, ◌^◌, ◌-◌, ◌++◌, ◌∷◌, [], List, length, slice_get, if◌then◌else◌, is_ok, IfOk, IfSome, IfNone};
 ghost use Rattle.std.specs.Option.{option_copied};
+ghost use Rattle.rhd_resolve.specs.declared.environs.EncapsulatedEnviron.{EncapsulatedEnviron};
 ghost use Rattle.rhd_resolve.specs.Environs.{next_env, with_env};
 
 use rhd_engine::ImportList;
@@ -103,6 +104,13 @@ impl Environs {
             return None;
         }
         Some(EnvId(self.items.len() as u32))
+    }
+
+    /// Takes the environment off again that was put last, where what came after it failed.
+    pub(crate) fn undo_push(&mut self)
+        ensures { (items : List EncapsulatedEnviron) (env : EncapsulatedEnviron) → self.old.items ≡ items ++ env ∷ [] → self.new ≡ record self.old { items = items } }
+    {
+        self.items.pop();
     }
 
     /// Puts an environment last.

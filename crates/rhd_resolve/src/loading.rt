@@ -1,13 +1,15 @@
 //! A loaded script becomes a module whose functions carry their environment.
 
-ghost use Rattle.std.specs.Prelude.{◌≡◌, ◌⊎◌, ◌∷◌, [], Option, None, Some, OnOk, IfOk, IfErr};
+ghost use Rattle.std.specs.Prelude.{◌≡◌, ◌⊎◌, ◌∷◌, [], List, Option, None, Some, OnOk, IfOk, IfErr};
 ghost use Rattle.std.specs.Option.{option_copied};
 ghost use Rattle.std.specs.Map.{keys_of};
+ghost use Rattle.rhd_manifest.specs.Manifest.{ManifestLists};
 ghost use Rattle.rhd_module.specs.Algebra.{HasOwnTable};
 ghost use Rattle.rhd_module.specs.Index.{IsClash, NoneClash};
 ghost use Rattle.rhd_module.specs.Manifests.{with_contents};
 ghost use Rattle.rhd_module.specs.Walk.{tree};
 ghost use Rattle.rhd_resolve.specs.Loading.{value_named, named_values, imported, with_scripts, public_functions, of_source, library_of, contents_of, module_of, Loads};
+ghost use Rattle.rhd_resolve.specs.Sessions.{seen, IsLoaded, IsGiven, Adds};
 
 use crate::environs::{EncapsulatedEnviron, Environs};
 use crate::loaded::{LoadedScript, ScopeEntry};
@@ -157,12 +159,17 @@ pub trait ModuleLoading {
     /// for each name the latest that has it, its imports as sub-modules, later ones in the place of earlier
     /// ones of the same name, its documentation, and its public functions, each with that environment. Its
     /// id and that of the library is the source. It is indexed. A refusal leaves the environments.
+    ///
+    /// Where each imported module may be given in a session with these manifests, so may the module, and
+    /// the environment was made there.
     fn eval_ast_as_new(
         alloc: Global,
         loaded: &LoadedScript,
         envs: &mut Environs,
     ) -> Result<Module, DeclFault>
-        ensures { Loads loaded.now envs.old result envs.new };
+        ensures loads { Loads loaded.now envs.old result envs.new }
+        ensures given { (manifests : List ManifestLists) → IsLoaded (seen manifests envs.old) loaded.now → IfOk result (IsGiven (seen manifests envs.new)) }
+        ensures adds { (manifests : List ManifestLists) → IsLoaded (seen manifests envs.old) loaded.now → OnOk result (Adds manifests envs.old envs.new) };
 }
 
 impl ModuleLoading for Module {

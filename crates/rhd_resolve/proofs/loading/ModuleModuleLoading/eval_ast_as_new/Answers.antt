@@ -1,4 +1,4 @@
-use Rattle.std.proofs.Common.{ap, subst, ◌∙◌}
+use Rattle.std.proofs.Common.{Ok, ap, subst, ◌∙◌}
 use Rattle.std.specs.Map.{keys_of}
 use Rattle.rhd_hash.specs.declared.mixer.Seeds.{Seeds}
 use Rattle.rhd_func.specs.declared.access.EnvId.{EnvId}
@@ -7,10 +7,11 @@ use Rattle.rhd_module.specs.Index.{NoneClash}
 use Rattle.rhd_module.specs.Walk.{tree}
 use Rattle.rhd_resolve.specs.Environs.{with_env}
 use Rattle.rhd_resolve.specs.Loading.{library_of, module_of}
+use Rattle.rhd_resolve.proofs.LoadedFits.{loads_given, loads_adds}
 use Rattle.rhd_resolve.proofs.loading.ModuleModuleLoading.eval_ast_as_new.Goals as goal
 
-pub returns : goal.returns
-returns c =
+pub returns-clause-loads : goal.returns-clause-loads
+returns-clause-loads c =
     let loaded = c.args.loaded.now in
     let envs = c.args.envs.now in
     let seeds = c.seeds-seeds.ensures in
@@ -22,3 +23,9 @@ returns c =
       c.in_ok-made.ensures.ok ∙ (λ i. module_of (seeds i) (env i) loaded),
       c.in_ok-push.ensures ∙ (λ i. with_env (record { lib = lib i; imports = c.in_ok-imports.ensures i }) envs),
     )
+
+pub returns-clause-given : goal.returns-clause-given
+returns-clause-given c = λ manifests given. loads_given manifests c.args.loaded.now c.args.envs.now _ (Ok c.in_ok-made.made) given (returns-clause-loads c)
+
+pub returns-clause-adds : goal.returns-clause-adds
+returns-clause-adds c = λ manifests given. loads_adds manifests c.args.loaded.now c.args.envs.now _ (Ok c.in_ok-made.made) given (returns-clause-loads c)
