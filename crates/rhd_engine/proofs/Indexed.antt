@@ -1,6 +1,6 @@
 -- Lists of modules that are indexed, and a search in them.
-use Rattle.std.proofs.Common.{◌≡◌, Bool, true, false, cond, ◌&&◌, List, [], ◌∷◌, ◌++◌, Some, refl, sym, ap, subst, ◌∙◌, append_assoc}
-use Rattle.std.specs.Prelude.{reverse, length, ◌==◌}
+use Rattle.std.proofs.Common.{◌≡◌, Bool, true, false, cond, ◌&&◌, List, [], ◌∷◌, ◌++◌, Some, refl, sym, ap, subst, ◌∙◌, append_assoc, ℕ, take}
+use Rattle.std.specs.Prelude.{zero, suc, reverse, length, ◌==◌}
 use Rattle.std.specs.List.{list_all, AllByRecursion, insert}
 use Rattle.std.specs.List.Sorted.{IsStrictlySortedBy}
 use Rattle.std.specs.Map.{lookup, keys_of}
@@ -55,6 +55,13 @@ pushed es name m h all = all_pushed (λ m. m.own.indexed) es name m h all
 
 pub put_indexed : (es : Imports) (name : Bytes) (m : ModuleTree) → m.own.indexed ≡ true → all_indexed es ≡ true → all_indexed (put_module name m es) ≡ true
 put_indexed es name m h all = all_put (λ m. m.own.indexed) es name m h all
+
+pub taken : (es : Imports) (n : ℕ) → all_indexed es ≡ true → all_indexed (take n es) ≡ true
+taken es zero all = refl
+taken [] (suc n) all = refl
+taken (e ∷ es) (suc n) all =
+    let p = parts e.1.own.indexed (all_indexed es) all in
+    both e.1.own.indexed (all_indexed (take n es)) p.0 (taken es n p.1)
 
 -- the latest of a name, from the last on
 pub latest_step : (name : Bytes) (es : Imports) (e : Bytes × ModuleTree) → latest_of name (es ++ e ∷ []) ≡ cond (text_eq name e.0) (Some e.1) (latest_of name es)

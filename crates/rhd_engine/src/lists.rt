@@ -1,6 +1,6 @@
 //! Lists of modules.
 
-ghost use Rattle.std.specs.Prelude.{◌≡◌, ◌++◌, ◌∷◌, [], true, if◌then◌else◌, is_ok, IfOk, OnOk, OnErr, None, length, ◌<◌, ◌≤◌};
+ghost use Rattle.std.specs.Prelude.{◌≡◌, ◌++◌, ◌∷◌, [], true, if◌then◌else◌, is_ok, IfOk, OnOk, OnErr, None, length, take, ◌<◌, ◌≤◌};
 ghost use Rattle.std.specs.List.{insert};
 ghost use Rattle.std.specs.Option.{option_copied};
 ghost use Rattle.rhd_func.specs.Infos.{infos_of};
@@ -87,6 +87,13 @@ impl ModuleList {
         ensures { Popped self.old result self.new }
     {
         self.items.pop()
+    }
+
+    /// Takes all modules off but so many, the oldest.
+    pub fn truncate(&mut self, len: usize)
+        ensures { self.new ≡ take len self.old }
+    {
+        self.items.truncate(len);
     }
 
     /// Registers the native of a number in the first module, as `FuncRegistration::set_into_module` does.
@@ -240,6 +247,23 @@ impl ImportList {
         self.items.pop()
     }
 
+    /// Puts all modules of another list last, with their names. Where memory runs out, some of them may
+    /// stand there.
+    pub fn extend(&mut self, alloc: Global, added: &ImportList) -> Result<(), OutOfMemory>
+        ensures ok { OnOk result (self.new ≡ self.old ++ added.now) }
+        ensures kept { take (length self.old) self.new ≡ self.old }
+    {
+        push_all(self, alloc, added.as_slice())
+    }
+
+    /// Takes all modules off but so many, the oldest.
+    #[tactic(auto, using(crate::proofs::Indexed::taken))]
+    pub fn truncate(&mut self, len: usize)
+        ensures { self.new ≡ take len self.old }
+    {
+        self.items.truncate(len);
+    }
+
     /// The latest module of a name.
     pub fn find(&self, name: &Text) -> Option<&SharedModule>
         ensures { option_copied result ≡ latest_of name.now self.now }
@@ -265,4 +289,20 @@ impl ImportList {
     {
         self.items.as_slice()
     }
+}
+
+/// Puts indexed modules last, with their names.
+fn push_all(
+    imports: &mut ImportList,
+    alloc: Global,
+    added: &[(Text, SharedModule)],
+) -> Result<(), OutOfMemory>
+    requires { all_indexed added.now ≡ true }
+    ensures ok { OnOk result (imports.new ≡ imports.old ++ added.now) }
+    ensures kept { take (length imports.old) imports.new ≡ imports.old }
+{
+    for (name, module) in added {
+        imports.push(name.dup(alloc)?, module.dup(alloc)?)?;
+    }
+    Ok(())
 }

@@ -6,6 +6,7 @@ ghost use Rattle.rhd_engine.specs.Lists.{Popped, latest_of};
 ghost use Rattle.rhd_engine.specs.Start.{start_frame};
 
 use crate::lists::{ImportList, ModuleList};
+use rhd_func::SharedText;
 use rhd_module::SharedModule;
 use rhd_value::{Dynamic, OutOfMemory, Text, Value};
 use std::alloc::Global;
@@ -19,7 +20,7 @@ pub struct GlobalRuntimeState {
     /// Imports with their names, oldest first. Each is indexed.
     pub imports: ImportList,
     /// The source of the function that makes the calls.
-    pub source: Option<Text>,
+    pub source: Option<SharedText>,
     /// How many calls are open.
     pub level: u32,
     /// The tag of the run.

@@ -7,7 +7,7 @@ use Rattle.rhd_decl.specs.declared.fault.DeclFault.{DeclFault}
 use Rattle.rhd_decl.specs.declared.fault.DeclFault.TheVariants.{HashCollision}
 use Rattle.rhd_call.specs.declared.command.Command.{Command}
 use Rattle.rhd_call.specs.declared.command.Command.TheVariants.{NewModule, SetId, SetDoc, SetVar, SetType, Native, RawNative, Script, SubModule, Combine, CombineFlatten, Fill, Merge, FromManifest, CombineManifest, RegisterLazy}
-use Rattle.rhd_call.specs.declared.command.Command.TheVariants.{Index, Clear, RegisterFn, RegisterRaw, RegisterType, GlobalModule, StaticModule, PushLib, PopLib, PushImport, PopImport, Call, Contains}
+use Rattle.rhd_call.specs.declared.command.Command.TheVariants.{Index, Clear, RegisterFn, RegisterRaw, RegisterType, GlobalModule, StaticModule, PushLib, PopLib, PushImport, PopImport, SetSource, SetTag, Call, Contains}
 use Rattle.rhd_call.specs.declared.command.Command.TheVariants.{Count as CountOf}
 use Rattle.rhd_call.specs.declared.command.ModuleId.{ModuleId}
 use Rattle.rhd_call.specs.declared.node.CallNode.{CallNode}
@@ -89,6 +89,8 @@ change_tree w f (PushLib m) c root h is = mapped_tree _ (slice_get w.modules m.0
 change_tree w f PopLib c root h is = one_tree _ c root (done_tree root) h is
 change_tree w f (PushImport name m) c root h is = mapped_tree _ (slice_get w.modules m.0) c root (λ added. done_tree root) h is
 change_tree w f PopImport c root h is = one_tree _ c root (done_tree root) h is
+change_tree w f (SetSource source) c root h is = one_tree _ c root (done_tree root) h is
+change_tree w f (SetTag tag) c root h is = one_tree _ c root (done_tree root) h is
 change_tree w f (CountOf m) c root h is = mapped_tree _ (slice_get w.modules m.0) c root (λ asked. count_tree _ _ _ root) h is
 change_tree w f (Contains m key) c root h is = mapped_tree _ (slice_get w.modules m.0) c root (λ asked. truth_tree _ root) h is
 change_tree w f (Call request) c root h is = absurd cc
@@ -139,6 +141,8 @@ module _ {H B : Type 0} (o : Objects H B) where
   replied_tree w w2 f f2 before after (PushLib m) reply root r is = absurd (applied_tree root r.0 is)
   replied_tree w w2 f f2 before after (PushImport name m) reply root r is = absurd (applied_tree root r.0 is)
   replied_tree w w2 f f2 before after PopImport reply root r is = absurd (applied_tree root r.0 is)
+  replied_tree w w2 f f2 before after (SetSource source) reply root r is = absurd (applied_tree root r.0 is)
+  replied_tree w w2 f f2 before after (SetTag tag) reply root r is = absurd (applied_tree root r.0 is)
   replied_tree w w2 f f2 before after (CountOf m) reply root r is = absurd (applied_tree root r.0 is)
   replied_tree w w2 f f2 before after (Contains m key) reply root r is = absurd (applied_tree root r.0 is)
   replied_tree w w2 f f2 before after (Call request) reply root r is = record { request = request; asked = refl; replied = subst (λ (x : Reply). CallReplied o w f before request x after) is r.0 }

@@ -226,20 +226,20 @@ module _ {H B : Type 0} (o : Objects H B) (w : World) where
   inner f node = entered_by w f (seen node) (seen node).pick
 
   steps_run : {f : Frame} {level : ℕ} {plan : Plan} {pick : Pick} {first last : NativeStep} {carries : List Carry} {children : List CallNode} {before after : Moment H B} → Steps o w f level plan pick first carries children last before after
-      → All (RunsUnder (entered w f level pick) level) children
-  steps_run {f} {level} {pick = pick} none_yet = All-nil (RunsUnder (entered w f level pick) level)
+      → All (RunsUnder (entered w.environs f level pick) level) children
+  steps_run {f} {level} {pick = pick} none_yet = All-nil (RunsUnder (entered w.environs f level pick) level)
   steps_run {f} {level} {pick = pick} (one_more {waited = waited} {child = child} {children = children} {more_children = more} {mid = mid} {answered = answered} steps r next p q) =
-      All-same (RunsUnder (entered w f level pick) level) more (children ++ child ∷ []) q (All-push (RunsUnder (entered w f level pick) level) children child (steps_run steps) (waited, mid, answered, false, r))
+      All-same (RunsUnder (entered w.environs f level pick) level) more (children ++ child ∷ []) q (All-push (RunsUnder (entered w.environs f level pick) level) children child (steps_run steps) (waited, mid, answered, false, r))
 
   none_run : (f : Frame) (level : ℕ) (children : List CallNode) → children ≡ [] → All (RunsUnder f level) children
   none_run f level children e = All-same (RunsUnder f level) children [] e (All-nil (RunsUnder f level))
 
   -- the children of a node whose function runs
   all_run : (f : Frame) (level : ℕ) (call : CallRequest) (node : CallNode) (pick : Pick) (carries : List Carry) (children : List CallNode) (end : End) → seen node ≡ begun_node call level (Some pick) carries children end
-      → All (RunsUnder (entered w f level pick) level) children → All (RunsUnder (inner f node) level) (seen node).children
+      → All (RunsUnder (entered w.environs f level pick) level) children → All (RunsUnder (inner f node) level) (seen node).children
   all_run f level call node pick carries children end s all =
       subst (λ (g : Frame). All (RunsUnder g level) (seen node).children) (sym (ap (λ (x : Seen). entered_by w f x x.pick) s))
-      (All-same (RunsUnder (entered w f level pick) level) (seen node).children children (ap (λ (x : Seen). x.children) s) all)
+      (All-same (RunsUnder (entered w.environs f level pick) level) (seen node).children children (ap (λ (x : Seen). x.children) s) all)
 
   -- so do all children of a node that runs
   pub runs_run : {f : Frame} {level : ℕ} {call : CallRequest} {node : CallNode} {before after : Moment H B} {cut : Bool} → Runs o w f level call node before after cut → All (RunsUnder (inner f node) level) (seen node).children
@@ -249,7 +249,7 @@ module _ {H B : Type 0} (o : Objects H B) (w : World) where
   runs_run (finished {f = f} {level = level} {call = call} {node = node} {pick = pick} {carries = carries} {children = children} {end = end} b d starts steps e s) = all_run f level call node pick carries children end s (steps_run steps)
   runs_run (cut_short {f = f} {level = level} {call = call} {waited = waited} {node = node} {child = child} {mid = mid} {after = after} {pick = pick} {carries = carries} {carry = carry} {children = children} b d starts steps r s) =
       all_run f level call node pick (carries ++ carry ∷ []) (children ++ child ∷ []) (cut_end call) s
-      (All-push (RunsUnder (entered w f level pick) level) children child (steps_run steps) (waited, mid, after, true, r))
+      (All-push (RunsUnder (entered w.environs f level pick) level) children child (steps_run steps) (waited, mid, after, true, r))
 
   child_runs : {f : Frame} {level : ℕ} {call : CallRequest} {node : CallNode} {before after : Moment H B} {cut : Bool} (child : CallNode) → Runs o w f level call node before after cut
       → Contains (seen node).children child → RunsUnder (inner f node) level child

@@ -1,3 +1,4 @@
+pub mod Environs
 pub mod Filled
 pub mod Finished
 pub mod Found

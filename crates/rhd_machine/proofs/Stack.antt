@@ -16,7 +16,8 @@ use Rattle.rhd_call.specs.End.{End}
 use Rattle.rhd_call.specs.Seen.{Seen, seen, unbegun_node, done_of}
 use Rattle.rhd_engine.specs.Engine.{EngineLists, Frame}
 use Rattle.rhd_engine.specs.Held.{func_held, all_held, named_held, builtins_held}
-use Rattle.rhd_machine.specs.Held.{frame_held}
+use Rattle.rhd_machine.specs.Held.{frame_held, environs_held}
+use Rattle.rhd_resolve.specs.declared.environs.EncapsulatedEnviron.{EncapsulatedEnviron}
 use Rattle.rhd_machine.specs.World.{World, Objects, Moment, one_begun}
 use Rattle.rhd_machine.specs.declared.machine.Outer.{Outer}
 use Rattle.rhd_machine.specs.declared.machine.StackFrame.{StackFrame}
@@ -33,7 +34,8 @@ use Rattle.rhd_machine.specs.Decisions.{runs, decision}
 use Rattle.rhd_machine.specs.Entered.{context, entered}
 use Rattle.rhd_machine.specs.Steps.{Starts, Resumes}
 use Rattle.rhd_machine.specs.Runs.{Runs, Steps, received_by, not_begun, finished, cut_short, one_more}
-use Rattle.rhd_machine.specs.Waits.{InProgress, in_progress, under_way, outcome_of, outer_of, given_back, IsAbove, Open, function_waits, Settled, asks, ends_with, Comes_to, it_waits, it_is_answered, Waits, lowest, above, Holds, holds_request, holds_answer, Going, Cutting, Put, put_frame, put_node}
+use Rattle.rhd_machine.specs.Waits.{InProgress, in_progress, under_way, outcome_of, outer_of, given_back, IsAbove, Open, function_waits, Settled, asks, ends_with, Comes_to, it_waits, it_is_answered, Waits, lowest, above, Holds, holds_request, holds_answer, Going, Cutting, IsPut, Put, put_frame, put_node}
+use Rattle.rhd_machine.proofs.Environs.{above_itself, above_trans, above_back, enters_above, entered_held}
 use Rattle.rhd_machine.proofs.Found.{runs_within, runs_plan, runs_is_held}
 
 -- what each step makes of a call under way
@@ -64,20 +66,11 @@ ends_same : (e : EngineLists) (plan same : Plan) (pick equal : Pick) (step : Nat
 ends_same e plan same pick equal step p q = λ i. end_of e (p i) (q i) step
 
 -- how the stack takes an outcome
-pub puts_frame : (w : World) (old new : List StackFrame) (f inner : Frame) (outcome : Outcome) (suspended : Suspended) (frame : StackFrame) (asked : CallRequest) → outcome ≡ Waiting suspended asked → frame.suspended ≡ suspended → frame.outer ≡ outer_of f → new ≡ old ++ frame ∷ [] →
-    inner ≡ entered w f (seen suspended.node).level suspended.pick → Put w old f outcome (Asked asked) new inner
-puts_frame w old new f inner outcome suspended frame asked is s o e g = subst (λ (x : Outcome). Put w old f x (Asked asked) new inner) (sym is) (put_frame s o e g)
+pub puts_frame : (environs : List EncapsulatedEnviron) (old new : List StackFrame) (f inner : Frame) (outcome : Outcome) (suspended : Suspended) (asked : CallRequest) → outcome ≡ Waiting suspended asked → IsPut environs old f suspended new inner → Put environs old f outcome (Asked asked) new inner
+puts_frame environs old new f inner outcome suspended asked is p = subst (λ (x : Outcome). Put environs old f x (Asked asked) new inner) (sym is) (put_frame p)
 
-pub puts_node : (w : World) (old : List StackFrame) (f : Frame) (outcome : Outcome) (node : CallNode) → outcome ≡ Finished node → Put w old f outcome (Answered node) old f
-puts_node w old f outcome node is = subst (λ (x : Outcome). Put w old f x (Answered node) old f) (sym is) (put_node refl refl)
-
--- what is above a frame stays above it where something is given back of it
-pub back_above : (base f g : Frame) (outer : Outer) → g ≡ given_back outer f → IsAbove base f → IsAbove base g
-back_above base f g outer e h = ap (given_back (outer_of base)) e ∙ h
-
--- the base is above itself
-pub above_itself : (base : Frame) → IsAbove base base
-above_itself base = refl
+pub puts_node : (environs : List EncapsulatedEnviron) (old : List StackFrame) (f : Frame) (outcome : Outcome) (node : CallNode) → outcome ≡ Finished node → Put environs old f outcome (Answered node) old f
+puts_node environs old f outcome node is = subst (λ (x : Outcome). Put environs old f x (Answered node) old f) (sym is) (put_node refl refl)
 
 module _ {H B : Type 0} (o : Objects H B) (w : World) where
   -- a step of a call that is under way
@@ -119,12 +112,13 @@ module _ {H B : Type 0} (o : Objects H B) (w : World) where
       (settles k (ap (λ (x : Seen). joined x frame.carry child) under) pick_is)
 
   -- the frame that a function has entered
-  pub opened_inner : {f inner : Frame} {level : ℕ} {call waited : CallRequest} {before after : Moment H B} {suspended : Suspended} → Open o w f level call suspended inner waited before after → inner ≡ entered w f (seen suspended.node).level suspended.pick
-  opened_inner {f = f} (function_waits {level = level} {pick = pick} under pick_is b d s steps) = (λ i. entered w f (sym (ap (λ (x : Seen). x.level) under) i) (sym pick_is i))
+  pub opened_inner : {f inner : Frame} {level : ℕ} {call waited : CallRequest} {before after : Moment H B} {suspended : Suspended} → Open o w f level call suspended inner waited before after → inner ≡ entered w.environs f (seen suspended.node).level suspended.pick
+  opened_inner {f = f} (function_waits {level = level} {pick = pick} under pick_is b d s steps) = (λ i. entered w.environs f (sym (ap (λ (x : Seen). x.level) under) i) (sym pick_is i))
 
   -- what is given back of it is its caller's frame
   pub outer_back : {f inner : Frame} {level : ℕ} {call waited : CallRequest} {before after : Moment H B} {suspended : Suspended} (outer : Outer) → outer ≡ outer_of f → Open o w f level call suspended inner waited before after → given_back outer inner ≡ f
-  outer_back outer e opened = (λ i. given_back (e i) (opened_inner opened i))
+  outer_back {f = f} {suspended = suspended} outer e opened =
+      (λ i. given_back (e i) (opened_inner opened i)) ∙ above_back f _ (enters_above w.environs f (seen suspended.node).level suspended.pick)
 
   -- the stack, seen from its top
   pub record Top (stack : List StackFrame) (frame : StackFrame) (base : Frame) (call : CallRequest) (before : Moment H B) (inner : Frame) (level : ℕ) (asked : CallRequest) (after : Moment H B) : Type 0 where
@@ -158,10 +152,18 @@ module _ {H B : Type 0} (o : Objects H B) (w : World) where
   bottom lowest e = (refl, refl, refl, refl)
   bottom (above {stack = stack'} {frame = frame'} waits opened outer_is e') e = let l : length stack' + 1 ≡ 0 = sym (length_push stack' frame') ∙ ap length (sym e' ∙ e) in absurd (omega (arith, l))
 
-  -- what every frame of a stack names is held as in the first
-  pub steady : (n : ℕ) {all : List StackFrame} {base f : Frame} {call asked : CallRequest} {before after : Moment H B} {level : ℕ} → Waits o w all base call before f level asked after → frame_held n f ≡ frame_held n base
-  steady n lowest = refl
-  steady n (above waits opened outer_is e) = ap (frame_held n) (opened_inner opened) ∙ steady n waits
+  -- what every frame of a stack names is held, if it is of the first and of the environments
+  pub steady : (n : ℕ) {all : List StackFrame} {base f : Frame} {call asked : CallRequest} {before after : Moment H B} {level : ℕ} → environs_held n w.environs ≡ true → frame_held n base ≡ true → Waits o w all base call before f level asked after → frame_held n f ≡ true
+  steady n environs held lowest = held
+  steady n environs held (above {outer = outer} {frame = frame} waits opened outer_is e) =
+      ap (frame_held n) (opened_inner opened) ∙ entered_held n w.environs outer (seen frame.suspended.node).level frame.suspended.pick environs (steady n environs held waits)
+
+  -- every frame of a stack is above the first
+  waits_above : {all : List StackFrame} {base f : Frame} {call asked : CallRequest} {before after : Moment H B} {level : ℕ} → Waits o w all base call before f level asked after → IsAbove base f
+  waits_above {base = base} lowest = above_itself base
+  waits_above (above {base = base} {outer = outer} {inner = inner} {frame = frame} waits opened outer_is e) =
+      let entering = enters_above w.environs outer (seen frame.suspended.node).level frame.suspended.pick in
+      above_trans base outer inner (waits_above waits) (subst (λ (x : Frame). IsAbove outer x) (sym (opened_inner opened)) entering)
 
   -- each level is at most one above the limit
   pub level_limited : {all : List StackFrame} {base f : Frame} {call asked : CallRequest} {before after : Moment H B} {level : ℕ} → Waits o w all base call before f level asked after → level ≤ w.engine.limits.level + 1
@@ -183,14 +185,15 @@ module _ {H B : Type 0} (o : Objects H B) (w : World) where
   put_goes : (stack news : List StackFrame) (base f g : Frame) (call waited : CallRequest) (before mid after : Moment H B) (outcome : Outcome) (hand : Hand) →
       Waits o w stack base call before f (length stack + 1) waited mid →
       Comes_to o w f (length stack + 1) waited outcome mid after →
-      Put w stack f outcome hand news g →
+      Put w.environs stack f outcome hand news g →
       Going o w news base call before hand g after
-  put_goes stack news base f g call waited before mid after outcome hand waits (it_waits {inner = inner} {waited = asked} {frame = suspended} opened) (put_frame {frame = frame} is outer_is e enters) =
-      let n : length stack + 1 ≡ length news = sym (length_push stack frame) ∙ ap length (sym e) in
-      let same : inner ≡ g = opened_inner opened ∙ sym enters in
+  put_goes stack news base f g call waited before mid after outcome hand waits (it_waits {inner = inner} {waited = asked} {frame = suspended} opened) (put_frame p) =
+      let frame = p.frame in
+      let n : length stack + 1 ≡ length news = sym (length_push stack frame) ∙ ap length (sym p.stack) in
+      let same : inner ≡ g = opened_inner opened ∙ sym p.enters in
       let open_at : Open o w f (length stack + 1) waited frame.suspended g asked mid after =
-      subst (λ (x : Suspended). Open o w f (length stack + 1) waited x g asked mid after) (sym is) (subst (λ (x : Frame). Open o w f (length stack + 1) waited suspended x asked mid after) same opened) in
-      record { waited = asked; mid = after; waits = subst (λ (k : ℕ). Waits o w news base call before g (k + 1) asked after) n (above waits open_at outer_is e); holds = holds_request }
+      subst (λ (x : Suspended). Open o w f (length stack + 1) waited x g asked mid after) (sym p.waits) (subst (λ (x : Frame). Open o w f (length stack + 1) waited suspended x asked mid after) same opened) in
+      record { waited = asked; mid = after; waits = subst (λ (k : ℕ). Waits o w news base call before g (k + 1) asked after) n (above waits open_at p.outer p.stack); holds = holds_request }
   put_goes stack news base f g call waited before mid after outcome hand waits (it_is_answered {node = node} r) (put_node e same) =
       subst (λ (fs : List StackFrame). Going o w fs base call before (Answered node) g after) (sym e)
       (subst (λ (x : Frame). Going o w stack base call before (Answered node) x after) (sym same)
@@ -199,7 +202,7 @@ module _ {H B : Type 0} (o : Objects H B) (w : World) where
   -- a call that was asked for is begun
   pub asked_goes : (stack news : List StackFrame) (base f g : Frame) (call request : CallRequest) (before begun after : Moment H B) (outcome : Outcome) (hand : Hand) →
       Comes_to o w f (length stack + 1) request outcome begun after →
-      Put w stack f outcome hand news g →
+      Put w.environs stack f outcome hand news g →
       Going o w stack base call before (Asked request) f begun →
       Going o w news base call before hand g after
   asked_goes stack news base f g call request before begun after outcome hand step p going =
@@ -235,7 +238,7 @@ module _ {H B : Type 0} (o : Objects H B) (w : World) where
   pub answered_goes : (stack news : List StackFrame) (frame : StackFrame) (node : CallNode) (base inner f g : Frame) (call : CallRequest) (before between after : Moment H B) (outcome : Outcome) (hand : Hand) →
       f ≡ given_back frame.outer inner →
       ((level : ℕ) (own waited : CallRequest) (begun mid : Moment H B) → Open o w f level own frame.suspended inner waited begun mid → Runs o w inner (level + 1) waited node mid between false → Comes_to o w f level own outcome begun after) →
-      Put w stack f outcome hand news g →
+      Put w.environs stack f outcome hand news g →
       Going o w (stack ++ frame ∷ []) base call before (Answered node) inner between →
       Going o w news base call before hand g after
   answered_goes stack news frame node base inner f g call before between after outcome hand left step p going =
@@ -246,20 +249,26 @@ module _ {H B : Type 0} (o : Objects H B) (w : World) where
       (subst (λ (k : ℕ). Runs o w inner (k + 1) going.waited node going.mid between false) (length_push stack frame) (answer_parts going.holds node refl)))
       p
 
+  -- the frame that a function leaves for its caller's is above the first
+  pub left_above : (stack : List StackFrame) (frame : StackFrame) (base inner f : Frame) (call : CallRequest) (before after : Moment H B) (hand : Hand) → Going o w (stack ++ frame ∷ []) base call before hand inner after → f ≡ given_back frame.outer inner → IsAbove base f
+  left_above stack frame base inner f call before after hand going left =
+      let q = opened_at stack frame base inner call going.waited before going.mid going.waits in
+      subst (λ (x : Frame). IsAbove base x) (sym q.back ∙ sym left) (waits_above q.waits)
+
   -- the function of the top is held
   pub top_held : (stack : List StackFrame) (frame : StackFrame) (base f : Frame) (call : CallRequest) (before after : Moment H B) (hand : Hand) (n : ℕ) →
-      all_held n w.engine.globals ≡ true → named_held n w.engine.statics ≡ true → frame_held n base ≡ true → builtins_held n w.engine.builtins ≡ true → Going o w (stack ++ frame ∷ []) base call before hand f after → func_held n frame.suspended.pick.func ≡ true
-  top_held stack frame base f call before after hand n globals statics held bs going =
+      all_held n w.engine.globals ≡ true → named_held n w.engine.statics ≡ true → environs_held n w.environs ≡ true → frame_held n base ≡ true → builtins_held n w.engine.builtins ≡ true → Going o w (stack ++ frame ∷ []) base call before hand f after → func_held n frame.suspended.pick.func ≡ true
+  top_held stack frame base f call before after hand n globals statics environs held bs going =
       let q = opened_at stack frame base f call going.waited before going.mid going.waits in
-      open_held q.opened (steady n q.waits ∙ held)
+      open_held q.opened (steady n environs held q.waits)
     where
       open_held : {f inner : Frame} {level : ℕ} {own waited : CallRequest} {begun mid : Moment H B} → Open o w f level own frame.suspended inner waited begun mid → frame_held n f ≡ true → func_held n frame.suspended.pick.func ≡ true
       open_held (function_waits {f = f} {level = level} {call = own} {plan = plan} {pick = pick} k q b d s steps) held' =
           ap (λ (x : Pick). func_held n x.func) q ∙ runs_is_held w.engine f level own plan pick n globals statics held' bs d
 
   -- what the frame that the state now is names is held
-  pub state_held : (stack : List StackFrame) (base f : Frame) (call : CallRequest) (before after : Moment H B) (hand : Hand) (n : ℕ) → frame_held n base ≡ true → Going o w stack base call before hand f after → frame_held n f ≡ true
-  state_held stack base f call before after hand n held going = steady n going.waits ∙ held
+  pub state_held : (stack : List StackFrame) (base f : Frame) (call : CallRequest) (before after : Moment H B) (hand : Hand) (n : ℕ) → environs_held n w.environs ≡ true → frame_held n base ≡ true → Going o w stack base call before hand f after → frame_held n f ≡ true
+  state_held stack base f call before after hand n environs held going = steady n environs held going.waits
 
   -- a call that waits is closed
   cut_opened : {f inner : Frame} {level : ℕ} {own waited : CallRequest} {suspended : Suspended} {child node : CallNode} {begun mid after : Moment H B} →
@@ -326,9 +335,9 @@ module _ {H B : Type 0} (o : Objects H B) (w : World) where
   root_ends base call before after outcome node step e = answered_at_once step node e
 
   -- or goes on
-  pub root_goes : (stack news : List StackFrame) (base g : Frame) (call : CallRequest) (before after : Moment H B) (outcome : Outcome) (hand : Hand) → Comes_to o w base 1 call outcome before after → stack ≡ [] → Put w stack base outcome hand news g → Going o w news base call before hand g after
+  pub root_goes : (stack news : List StackFrame) (base g : Frame) (call : CallRequest) (before after : Moment H B) (outcome : Outcome) (hand : Hand) → Comes_to o w base 1 call outcome before after → stack ≡ [] → Put w.environs stack base outcome hand news g → Going o w news base call before hand g after
   root_goes stack news base g call before after outcome hand step e p =
-      asked_goes [] news base base g call call before before after outcome hand step (subst (λ (fs : List StackFrame). Put w fs base outcome hand news g) e p) (begins_with base call before)
+      asked_goes [] news base base g call call before before after outcome hand step (subst (λ (fs : List StackFrame). Put w.environs fs base outcome hand news g) e p) (begins_with base call before)
 
   -- or isn't begun
   pub root_spent : (base : Frame) (call : CallRequest) (begun : Moment H B) (node : CallNode) → begun.begun ≡ w.engine.limits.budget → seen node ≡ unbegun_node call 1 → Runs o w base 1 call node begun begun true

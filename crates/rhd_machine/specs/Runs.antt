@@ -62,7 +62,7 @@ mutual
         decision w.engine f level call ≡ runs plan pick →
         Starts o w.engine.natives (context f level plan pick) pick.func (received_by w.engine plan pick) (one_begun before) first started →
         Steps o w f level plan pick first carries children (Ask waited carry) started mid →
-        Runs o w (entered w f level pick) (level + 1) waited child mid after true →
+        Runs o w (entered w.environs f level pick) (level + 1) waited child mid after true →
         seen node ≡ begun_node call level (Some pick) (carries ++ carry ∷ []) (children ++ child ∷ []) (cut_end call) →
         Runs o w f level call node before after true
 
@@ -73,7 +73,7 @@ mutual
     one_more : {f : Frame} {level : ℕ} {plan : Plan} {pick : Pick} {first next : NativeStep} {waited : CallRequest} {carry : Carry} {child : CallNode}
         {carries more_carries : List Carry} {children more_children : List CallNode} {before mid answered after : Moment H B} →
         Steps o w f level plan pick first carries children (Ask waited carry) before mid →
-        Runs o w (entered w f level pick) (level + 1) waited child mid answered false →
+        Runs o w (entered w.environs f level pick) (level + 1) waited child mid answered false →
         Resumes o w.engine.natives (context f level plan pick) pick.func carry (done_of child) answered next after →
         more_carries ≡ carries ++ carry ∷ [] →
         more_children ≡ children ++ child ∷ [] →

@@ -14,6 +14,7 @@ use Rattle.rhd_call.specs.declared.node.CallNode.{CallNode}
 use Rattle.rhd_engine.specs.declared.engine.Engine.{Engine}
 use Rattle.rhd_engine.specs.Engine.{Frame}
 use Rattle.rhd_engine.specs.Of.{lists_of}
+use Rattle.rhd_resolve.specs.declared.environs.EncapsulatedEnviron.{EncapsulatedEnviron}
 use Rattle.rhd_machine.specs.Objects.{objects_of}
 use Rattle.rhd_machine.specs.Runs.{Runs}
 use Rattle.rhd_machine.specs.World.{World, Objects, Moment}
@@ -23,7 +24,7 @@ pub record Setting (H B : Type 0) : Type 1 where
   pub world : World
   pub frame : Frame
 
--- by the relations of the traits and what natives say of themselves: the natives of an engine, its lists with the modules by number, and a frame
+-- by the relations of the traits and what natives say of themselves: the natives of an engine, its lists with the modules and the environments by number, and a frame
 abbrev pub setting_of : {X : Type 0} {F : X → Type 0} {H B : Type 0} →
     ((x : X) × F x → Option NativeCallContext → Option Tree → List Tree → NativeStep → Type 0) →
     ((x : X) × F x → Option NativeCallContext → Carry → CallDone → NativeStep → Type 0) →
@@ -31,10 +32,10 @@ abbrev pub setting_of : {X : Type 0} {F : X → Type 0} {H B : Type 0} →
     (B → ScriptFuncDef → NativeCallContext → Carry → CallDone → NativeStep → B → Type 0) →
     (H → Bytes → List Tree → Bool → HostAnswer → H → Type 0) →
     ((x : X) × F x → NativeInfo) →
-    Engine X F → List ModuleTree → Frame → Setting H B
-setting_of allows_call allows_resume allows_start allows_next allows_missing info engine modules f = record {
+    Engine X F → List ModuleTree → List EncapsulatedEnviron → Frame → Setting H B
+setting_of allows_call allows_resume allows_start allows_next allows_missing info engine modules environs f = record {
   objects = objects_of allows_call allows_resume allows_start allows_next allows_missing engine.natives;
-  world = record { engine = lists_of info engine; modules = modules };
+  world = record { engine = lists_of info engine; modules = modules; environs = environs };
   frame = f;
 }
 

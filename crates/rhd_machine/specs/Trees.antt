@@ -12,7 +12,7 @@ use Rattle.rhd_machine.specs.Runs.{Runs}
 -- the frame that the function of a node enters, if it has one
 abbrev pub entered_by : World → Frame → Seen → Option Pick → Frame
 entered_by w f s None = f
-entered_by w f s (Some pick) = entered w f s.level pick
+entered_by w f s (Some pick) = entered w.environs f s.level pick
 
 -- the frame in which a call of a tree is asked for, where the root is asked for in this one
 abbrev pub frame_at : {node root : CallNode} → World → Frame → InTree node root → Frame

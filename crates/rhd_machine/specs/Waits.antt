@@ -1,11 +1,12 @@
 -- THE MACHINE'S OWN WORDS, not to be believed: calls that wait for the answer to a request, and the stack of them.
-use Rattle.std.specs.Prelude.{◌≡◌, ℕ, ◌+◌, ◌<◌, true, false, List, [], ◌∷◌, ◌++◌, length, Option, None, Some}
+use Rattle.std.specs.Prelude.{◌≡◌, ℕ, ◌+◌, ◌<◌, true, false, List, [], ◌∷◌, ◌++◌, length, take, Option, None, Some}
 use Rattle.std.specs.Global.{Box}
 use Rattle.rhd_func.specs.declared.request.CallRequest.{CallRequest}
 use Rattle.rhd_func.specs.declared.request.Carry.{Carry}
 use Rattle.rhd_func.specs.declared.request.NativeStep.{NativeStep}
 use Rattle.rhd_func.specs.declared.request.NativeStep.TheVariants.{Ask}
 use Rattle.rhd_engine.specs.Engine.{EngineLists, Frame}
+use Rattle.rhd_resolve.specs.declared.environs.EncapsulatedEnviron.{EncapsulatedEnviron}
 use Rattle.rhd_machine.specs.World.{World, Objects, Moment, one_begun}
 use Rattle.rhd_call.specs.declared.pick.Pick.{Pick}
 use Rattle.rhd_call.specs.declared.node.CallNode.{CallNode}
@@ -56,7 +57,7 @@ pub data Open {H B : Type 0} (o : Objects H B) (w : World) : Frame → ℕ → C
       decision w.engine f level call ≡ runs plan pick →
       Starts o w.engine.natives (context f level plan pick) pick.func (received_by w.engine plan pick) (one_begun before) first started →
       Steps o w f level plan pick first carries children (Ask waited frame.carry) started mid →
-      Open o w f level call frame (entered w f level pick) waited before mid
+      Open o w f level call frame (entered w.environs f level pick) waited before mid
 
 -- what a step of its function makes of a call under way
 pub data Settled (e : EngineLists) (k : InProgress) : NativeStep → Outcome → Type 0 where
@@ -83,15 +84,17 @@ ComesIn s level call outcome before after = Comes_to s.objects s.world s.frame l
 
 -- what entering a function changes of its caller's frame, as it was
 abbrev pub outer_of : Frame → Outer
-outer_of f = record { level = f.level }
+outer_of f = record { level = f.level; libs = length f.lib; imports = length f.imports; source = f.source }
 
 -- the frame with it given back
 abbrev pub given_back : Outer → Frame → Frame
-given_back outer f = record f { level = outer.level }
+given_back outer f = record f { lib = take outer.libs f.lib; imports = take outer.imports f.imports; source = outer.source; level = outer.level }
 
--- with what the base has given back the frame is the base
-abbrev pub IsAbove : Frame → Frame → Type 0
-IsAbove base f = given_back (outer_of base) f ≡ base
+-- the lists of a frame begin with those of the base, and it has the base's tag
+pub record IsAbove (base f : Frame) : Type 0 where
+  pub lib : take (length base.lib) f.lib ≡ base.lib
+  pub imports : take (length base.imports) f.imports ≡ base.imports
+  pub tag : f.tag ≡ base.tag
 
 -- the suspended calls, from the lowest to the top: each waits for the request that the next one answers, and keeps what its function changed of its caller's frame
 pub data Waits {H B : Type 0} (o : Objects H B) (w : World) : List StackFrame → Frame → CallRequest → Moment H B → Frame → ℕ → CallRequest → Moment H B → Type 0 where
@@ -130,18 +133,23 @@ pub record Cutting {H B : Type 0} (o : Objects H B) (w : World) (stack : List St
 abbrev pub CuttingIn : {H B : Type 0} → Setting H B → List StackFrame → CallRequest → Moment H B → CallNode → Moment H B → Type 0
 CuttingIn s stack call before node after = Cutting s.objects s.world stack s.frame call before node after
 
+-- how the stack takes a call that waits, and the frame that the state then is
+pub record IsPut (environs : List EncapsulatedEnviron) (old : List StackFrame) (f : Frame) (suspended : Suspended) (new : List StackFrame) (inner : Frame) : Type 0 where
+  pub frame : StackFrame
+  pub waits : frame.suspended ≡ suspended
+  pub outer : frame.outer ≡ outer_of f
+  pub stack : new ≡ old ++ frame ∷ []
+  pub enters : inner ≡ entered environs f (seen suspended.node).level suspended.pick
+
 -- how the stack takes an outcome, what the machine then has in hand, and the frame that the state then is
-pub data Put (w : World) (old : List StackFrame) (f : Frame) : Outcome → Hand → List StackFrame → Frame → Type 0 where
-  put_frame : {suspended : Suspended} {frame : StackFrame} {asked : CallRequest} {new : List StackFrame} {inner : Frame} →
-      frame.suspended ≡ suspended →
-      frame.outer ≡ outer_of f →
-      new ≡ old ++ frame ∷ [] →
-      inner ≡ entered w f (seen suspended.node).level suspended.pick →
-      Put w old f (Waiting suspended asked) (Asked asked) new inner
+pub data Put (environs : List EncapsulatedEnviron) (old : List StackFrame) (f : Frame) : Outcome → Hand → List StackFrame → Frame → Type 0 where
+  put_frame : {suspended : Suspended} {asked : CallRequest} {new : List StackFrame} {inner : Frame} →
+      IsPut environs old f suspended new inner →
+      Put environs old f (Waiting suspended asked) (Asked asked) new inner
   put_node : {node : CallNode} {new : List StackFrame} {inner : Frame} →
       new ≡ old →
       inner ≡ f →
-      Put w old f (Finished node) (Answered node) new inner
+      Put environs old f (Finished node) (Answered node) new inner
 
 -- an answer in hand counts for one
 abbrev pub weight : Hand → ℕ

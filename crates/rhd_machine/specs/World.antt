@@ -1,4 +1,4 @@
--- An engine and modules as plain data, and what the natives, the bodies and the host that are handed in may do.
+-- An engine, modules and environments as plain data, and what the natives, the bodies and the host that are handed in may do.
 use Rattle.std.specs.Prelude.{ℕ, ◌+◌, Bool, List, Option}
 use Rattle.rhd_value.specs.Tree.{Bytes, Tree}
 use Rattle.rhd_value.specs.declared.tag.FnId.{FnId}
@@ -10,10 +10,12 @@ use Rattle.rhd_func.specs.declared.request.NativeStep.{NativeStep}
 use Rattle.rhd_func.specs.declared.request.NativeCallContext.{NativeCallContext}
 use Rattle.rhd_module.specs.Tree.{ModuleTree}
 use Rattle.rhd_engine.specs.Engine.{EngineLists}
+use Rattle.rhd_resolve.specs.declared.environs.EncapsulatedEnviron.{EncapsulatedEnviron}
 
 pub record World : Type 0 where
   pub engine : EngineLists
   pub modules : List ModuleTree  -- by number
+  pub environs : List EncapsulatedEnviron  -- by number
 
 -- Which steps and answers are allowed. H and B are the states of the host and of the bodies; each is given before and after.
 pub record Objects (H B : Type 0) : Type 1 where

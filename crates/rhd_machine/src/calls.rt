@@ -12,6 +12,7 @@ ghost use Rattle.rhd_module.specs.Tree.{ModuleTree};
 ghost use Rattle.rhd_call.specs.Seen.{seen, done_of};
 ghost use Rattle.rhd_engine.specs.Engine.{Frame};
 ghost use Rattle.rhd_engine.specs.Held.{func_held};
+ghost use Rattle.rhd_resolve.specs.declared.environs.EncapsulatedEnviron.{EncapsulatedEnviron};
 ghost use Rattle.rhd_machine.specs.Held.{frame_held};
 ghost use Rattle.rhd_engine.specs.Of.{lists_of};
 ghost use Rattle.rhd_machine.specs.World.{Moment, moment};
@@ -56,8 +57,8 @@ pub fn begin<H: Host, B: Bodies>(
     bodies: &mut B,
 ) -> Result<Option<Box<Asking>>, OutOfMemory>
     requires { frame_held (length engine.now.natives.items.items) state.now ≡ true }
-    ensures { (modules : List ModuleTree) (begun : ℕ) → is_begun (seen node.old) → begun < engine.now.limits.budget → IfOk result (λ asking. ComesIn
-        (setting_of allows_call allows_resume B.allows_start B.allows_next H.allows_missing info engine.now modules state.now) (seen node.old).level (seen node.old).call (outcome_of node.new asking)
+    ensures { (modules : List ModuleTree) (environs : List EncapsulatedEnviron) (begun : ℕ) → is_begun (seen node.old) → begun < engine.now.limits.budget → IfOk result (λ asking. ComesIn
+        (setting_of allows_call allows_resume B.allows_start B.allows_next H.allows_missing info engine.now modules environs state.now) (seen node.old).level (seen node.old).call (outcome_of node.new asking)
         (moment begun host.old bodies.old) (moment (begun + 1) host.new bodies.new)) }
 {
     match refusal(alloc, engine, state, node.level, &node.call)? {
@@ -80,9 +81,9 @@ fn begin_unrefused<H: Host, B: Bodies>(
     bodies: &mut B,
 ) -> Result<Option<Box<Asking>>, OutOfMemory>
     requires { frame_held (length engine.now.natives.items.items) state.now ≡ true }
-    ensures { (modules : List ModuleTree) (begun : ℕ) → is_begun (seen node.old) → begun < engine.now.limits.budget
+    ensures { (modules : List ModuleTree) (environs : List EncapsulatedEnviron) (begun : ℕ) → is_begun (seen node.old) → begun < engine.now.limits.budget
         → refusal (lists_of info engine.now) state.now (seen node.old).level (seen node.old).call ≡ None → IfOk result (λ asking. ComesIn
-        (setting_of allows_call allows_resume B.allows_start B.allows_next H.allows_missing info engine.now modules state.now) (seen node.old).level (seen node.old).call (outcome_of node.new asking)
+        (setting_of allows_call allows_resume B.allows_start B.allows_next H.allows_missing info engine.now modules environs state.now) (seen node.old).level (seen node.old).call (outcome_of node.new asking)
         (moment begun host.old bodies.old) (moment (begun + 1) host.new bodies.new)) }
 {
     match pick(alloc, engine, state, &node.call)? {
@@ -225,9 +226,9 @@ fn begin_picked<H: Host, B: Bodies>(
     bodies: &mut B,
 ) -> Result<Option<Box<Asking>>, OutOfMemory>
     requires { func_held (length engine.now.natives.items.items) pick.func ≡ true }
-    ensures { (modules : List ModuleTree) (begun : ℕ) (host : H) → is_begun (seen node.old) → begun < engine.now.limits.budget
+    ensures { (modules : List ModuleTree) (environs : List EncapsulatedEnviron) (begun : ℕ) (host : H) → is_begun (seen node.old) → begun < engine.now.limits.budget
         → decision (lists_of info engine.now) state.now (seen node.old).level (seen node.old).call ≡ runs (plan_of (seen node.old).call) pick → IfOk result (λ asking. ComesIn
-        (setting_of allows_call allows_resume B.allows_start B.allows_next H.allows_missing info engine.now modules state.now) (seen node.old).level (seen node.old).call (outcome_of node.new asking)
+        (setting_of allows_call allows_resume B.allows_start B.allows_next H.allows_missing info engine.now modules environs state.now) (seen node.old).level (seen node.old).call (outcome_of node.new asking)
         (moment begun host bodies.old) (moment (begun + 1) host bodies.new)) }
 {
     match first_step::<H, B>(alloc, engine, state, node, &pick, bodies) {
@@ -246,12 +247,12 @@ pub fn resume<H: Host, B: Bodies>(
     bodies: &mut B,
 ) -> Result<Outcome, OutOfMemory>
     requires { func_held (length engine.now.natives.items.items) suspended.pick.func ≡ true }
-    ensures { (modules : List ModuleTree) (level begun : ℕ) (host : H) (inner : Frame) (call waited : CallRequest) (before mid : Moment H B) → Open
+    ensures { (modules : List ModuleTree) (environs : List EncapsulatedEnviron) (level begun : ℕ) (host : H) (inner : Frame) (call waited : CallRequest) (before mid : Moment H B) → Open
         (objects_of allows_call allows_resume B.allows_start B.allows_next H.allows_missing engine.now.natives)
-        (record { engine = lists_of info engine.now; modules = modules }) state.now level call suspended inner waited before mid → Runs
-        (objects_of allows_call allows_resume B.allows_start B.allows_next H.allows_missing engine.now.natives) (record { engine = lists_of info engine.now; modules = modules }) inner
+        (record { engine = lists_of info engine.now; modules = modules; environs = environs }) state.now level call suspended inner waited before mid → Runs
+        (objects_of allows_call allows_resume B.allows_start B.allows_next H.allows_missing engine.now.natives) (record { engine = lists_of info engine.now; modules = modules; environs = environs }) inner
         (level + 1) waited child mid (moment begun host bodies.old) false → IfOk result (λ outcome. ComesIn
-        (setting_of allows_call allows_resume B.allows_start B.allows_next H.allows_missing info engine.now modules state.now) level call outcome before (moment begun host bodies.new)) }
+        (setting_of allows_call allows_resume B.allows_start B.allows_next H.allows_missing info engine.now modules environs state.now) level call outcome before (moment begun host bodies.new)) }
 {
     let step = answered_step::<H, B>(alloc, engine, state, &suspended, &child, bodies)?;
     settle_waiting(alloc, engine, suspended, child, step)
@@ -448,7 +449,7 @@ fn context(
         None => None,
     };
     let call_source = match &state.source {
-        Some(source) => Some(source.dup(alloc)?),
+        Some(source) => Some(source.text().dup(alloc)?),
         None => None,
     };
     Ok(NativeCallContext {

@@ -1,18 +1,18 @@
 //! Calls that are under way, and the stack of those that wait.
 
-ghost use Rattle.std.specs.Prelude.{◌≡◌, ◌+◌, IfOk, OnErr, length};
+ghost use Rattle.std.specs.Prelude.{◌≡◌, ◌+◌, IfOk, OnOk, length, slice_get};
 ghost use Rattle.rhd_call.specs.Seen.{seen};
-ghost use Rattle.rhd_engine.specs.Engine.{Frame};
 ghost use Rattle.rhd_engine.specs.Of.{lists_of};
+ghost use Rattle.rhd_machine.specs.Entered.{with_environ, in_environ, entered_by, entered};
 ghost use Rattle.rhd_machine.specs.Filling.{joined, closed};
-ghost use Rattle.rhd_machine.specs.Waits.{InProgress, under_way, outcome_of, outer_of, given_back, IsAbove, Settled, Put, weight};
-ghost use Rattle.rhd_machine.specs.World.{World};
+ghost use Rattle.rhd_machine.specs.Waits.{InProgress, under_way, outcome_of, outer_of, given_back, IsAbove, Settled, IsPut, Put, weight};
 
 use crate::ends::{finish, hand_on};
 use crate::filling::{join, picks};
 use rhd_call::{CallNode, Pick};
 use rhd_engine::{Engine, GlobalRuntimeState};
-use rhd_func::{CallRequest, Carry, NativeStep};
+use rhd_func::{CallRequest, Carry, EnvId, NativeStep, RhaiFunc, SharedText};
+use rhd_resolve::Environs;
 use rhd_value::OutOfMemory;
 use std::alloc::Global;
 
@@ -33,10 +33,14 @@ pub struct Asking {
     pub carry: Carry,
 }
 
-/// What entering a function changes of the state, as it was before.
-#[derive(Clone, Copy)]
+/// What entering a function changes of the state, as it was before: the level, the numbers of libraries
+/// and of imports, and the source.
+#[derive(Drop)]
 pub struct Outer {
     pub level: u32,
+    pub libs: usize,
+    pub imports: usize,
+    pub source: Option<SharedText>,
 }
 
 /// A call on the stack: its function is entered, and waits.
@@ -131,40 +135,156 @@ pub fn settle_waiting(
     Ok(outcome_of(node, asking))
 }
 
-/// What entering a function changes of a state, as it is.
-pub fn outer_of(state: &GlobalRuntimeState) -> Outer
-    ensures { result ≡ outer_of state.now }
+/// One more owner of a source, if there is one.
+fn share(alloc: Global, source: &Option<SharedText>) -> Result<Option<SharedText>, OutOfMemory>
+    ensures { IfOk result (λ shared. shared ≡ source.now) }
 {
-    Outer { level: state.level }
+    match source {
+        Some(source) => Ok(Some(source.dup(alloc)?)),
+        None => Ok(None),
+    }
+}
+
+/// What entering a function changes of a state, as it is.
+pub fn outer_of(alloc: Global, state: &GlobalRuntimeState) -> Result<Outer, OutOfMemory>
+    ensures { IfOk result (λ outer. outer ≡ outer_of state.now) }
+{
+    Ok(Outer {
+        level: state.level,
+        libs: state.lib.len(),
+        imports: state.imports.len(),
+        source: share(alloc, &state.source)?,
+    })
 }
 
 /// Gives back what entering a function changed of a state.
 pub fn give_back(state: &mut GlobalRuntimeState, outer: Outer)
     ensures { state.new ≡ given_back outer state.old }
 {
+    state.lib.truncate(outer.libs);
+    state.imports.truncate(outer.imports);
+    state.source = outer.source;
     state.level = outer.level;
 }
 
+/// Puts the library and the imports of the environment of a number at the ends of the state's lists, if
+/// there is one. Where memory runs out, some of them may stand there.
+fn push_environ(
+    alloc: Global,
+    envs: &Environs,
+    state: &mut GlobalRuntimeState,
+    id: EnvId,
+) -> Result<(), OutOfMemory>
+    ensures ok { OnOk result (state.new ≡ with_environ (slice_get envs.now.items id.0) state.old) }
+    ensures above { IsAbove state.old state.new }
+{
+    let Some(env) = envs.get(id) else {
+        return Ok(());
+    };
+    state.lib.push(env.lib.dup(alloc)?)?;
+    state.imports.extend(alloc, &env.imports)
+}
+
+/// Enters a script: its environment, if it has one, and its source.
+fn enter_script(
+    alloc: Global,
+    envs: &Environs,
+    state: &mut GlobalRuntimeState,
+    env: Option<EnvId>,
+    source: &Option<SharedText>,
+) -> Result<(), OutOfMemory>
+    ensures ok { OnOk result (state.new ≡ record (in_environ envs.now.items env state.old) { source = source.now }) }
+    ensures above { IsAbove state.old state.new }
+{
+    let source = share(alloc, source)?;
+    if let Some(id) = env {
+        push_environ(alloc, envs, state, id)?;
+    }
+    state.source = source;
+    Ok(())
+}
+
+/// Enters a function but for its level: a script, or else nothing.
+fn enter_function(
+    alloc: Global,
+    envs: &Environs,
+    state: &mut GlobalRuntimeState,
+    pick: &Pick,
+) -> Result<(), OutOfMemory>
+    ensures ok { OnOk result (state.new ≡ entered_by envs.now.items state.old pick.now.source pick.now.func) }
+    ensures above { IsAbove state.old state.new }
+{
+    match &pick.func {
+        RhaiFunc::Script { env, .. } => enter_script(alloc, envs, state, *env, &pick.source),
+        RhaiFunc::Pure { .. } => Ok(()),
+        RhaiFunc::Method { .. } => Ok(()),
+        RhaiFunc::Iterator { .. } => Ok(()),
+        RhaiFunc::Plugin { .. } => Ok(()),
+        RhaiFunc::StaticPlugin { .. } => Ok(()),
+    }
+}
+
+/// Enters a function that is called at this level, and answers what that changed of the state. Where memory
+/// runs out, the lists of the state may be longer than before.
+fn enter(
+    alloc: Global,
+    envs: &Environs,
+    state: &mut GlobalRuntimeState,
+    level: u32,
+    pick: &Pick,
+) -> Result<Outer, OutOfMemory>
+    ensures outer { IfOk result (λ outer. outer ≡ outer_of state.old) }
+    ensures ok { OnOk result (state.new ≡ entered envs.now.items state.old level pick.now) }
+    ensures above { IsAbove state.old state.new }
+{
+    let outer = outer_of(alloc, state)?;
+    enter_function(alloc, envs, state, pick)?;
+    state.level = level;
+    Ok(outer)
+}
+
 /// Puts a call that waits onto the stack, and enters its function.
+fn wait(
+    alloc: Global,
+    envs: &Environs,
+    stack: &mut Vec<StackFrame>,
+    state: &mut GlobalRuntimeState,
+    suspended: Suspended,
+) -> Result<(), OutOfMemory>
+    ensures ok { OnOk result (IsPut envs.now.items stack.old.items state.old suspended stack.new.items state.new) }
+    ensures above { IsAbove state.old state.new }
+{
+    let outer = enter(alloc, envs, state, suspended.node.level, &suspended.pick)?;
+    stack.push(StackFrame { suspended, outer })?;
+    Ok(())
+}
+
+/// Takes what a step made of a call: one that waits goes onto the stack.
 pub fn put(
+    alloc: Global,
+    envs: &Environs,
     stack: &mut Vec<StackFrame>,
     state: &mut GlobalRuntimeState,
     outcome: Outcome,
 ) -> Result<Hand, OutOfMemory>
-    ensures put { IfOk result (λ hand. (w : World) → Put w stack.old.items state.old outcome hand stack.new.items state.new) }
+    ensures put { IfOk result (λ hand. Put envs.now.items stack.old.items state.old outcome hand stack.new.items state.new) }
     ensures grows { IfOk result (λ hand. length stack.new.items + weight hand ≡ length stack.old.items + 1) }
-    ensures above { (base : Frame) → IsAbove base state.old → IsAbove base state.new }
+    ensures above { IsAbove state.old state.new }
 {
     match outcome {
         Outcome::Waiting(suspended, asked) => {
-            let level = suspended.node.level;
-            let outer = outer_of(state);
-            stack.push(StackFrame { suspended, outer })?;
-            state.level = level;
+            wait(alloc, envs, stack, state, suspended)?;
             Ok(Hand::Asked(asked))
         }
         Outcome::Finished(node) => Ok(Hand::Answered(node)),
     }
+}
+
+/// The call that waits, without what entering its function changed.
+pub fn waiting(frame: StackFrame) -> Suspended
+    ensures { result ≡ frame.suspended }
+{
+    frame.suspended
 }
 
 /// Closes a call that waits, where the budget was spent within the child that it waits for.

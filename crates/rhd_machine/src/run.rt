@@ -6,7 +6,7 @@ ghost use Rattle.rhd_module.specs.Tree.{ModuleTree};
 ghost use Rattle.rhd_call.specs.declared.reply.Reply.TheVariants.{Called};
 ghost use Rattle.rhd_engine.specs.Engine.{Frame};
 ghost use Rattle.rhd_engine.specs.Held.{func_held};
-ghost use Rattle.rhd_machine.specs.Held.{frame_held};
+ghost use Rattle.rhd_machine.specs.Held.{frame_held, environs_held};
 ghost use Rattle.rhd_machine.specs.declared.machine.Hand.TheVariants.{Asked, Answered};
 ghost use Rattle.rhd_machine.specs.World.{Moment, moment};
 ghost use Rattle.rhd_machine.specs.Filling.{IsBegunFor};
@@ -17,11 +17,12 @@ ghost use Rattle.rhd_machine.specs.Waits.{outcome_of, ComesIn, GoingIn, CuttingI
 use crate::calls::{begin, resume};
 use crate::filling::{begun as begun_node, spend, unbegun};
 use crate::machine::{
-    Asking, Hand, Outcome, StackFrame, cut, give_back, outcome_of, outer_of, put,
+    Asking, Hand, Outcome, StackFrame, cut, give_back, outcome_of, outer_of, put, waiting,
 };
 use rhd_call::{CallNode, Reply};
 use rhd_engine::{Engine, GlobalRuntimeState};
 use rhd_func::{Bodies, CallRequest, Host};
+use rhd_resolve::Environs;
 use rhd_value::OutOfMemory;
 use std::alloc::Global;
 use std::mem;
@@ -32,6 +33,7 @@ use std::mem;
 pub fn fill<H: Host, B: Bodies>(
     alloc: Global,
     engine: &Engine,
+    envs: &Environs,
     state: &mut GlobalRuntimeState,
     reply: &mut Reply,
     begun: &mut u64,
@@ -39,10 +41,11 @@ pub fn fill<H: Host, B: Bodies>(
     bodies: &mut B,
 ) -> Result<(), OutOfMemory>
     requires held { frame_held (length engine.now.natives.items.items) state.old ≡ true }
+    requires environs { environs_held (length engine.now.natives.items.items) envs.now.items ≡ true }
     requires within { begun.old ≤ engine.now.limits.budget }
     requires begun { (call : CallRequest) × IsBegunFor call reply.old }
     ensures replied { (modules : List ModuleTree) (call : CallRequest) → IsBegunFor call reply.old → OnOk result (CallRepliedIn
-        (setting_of allows_call allows_resume B.allows_start B.allows_next H.allows_missing info engine.now modules state.old) (moment begun.old host.old bodies.old) call reply.new
+        (setting_of allows_call allows_resume B.allows_start B.allows_next H.allows_missing info engine.now modules envs.now.items state.old) (moment begun.old host.old bodies.old) call reply.new
         (moment begun.new host.new bodies.new)) }
     ensures state { state.new ≡ state.old }
     ensures within { begun.new ≤ engine.now.limits.budget }
@@ -58,7 +61,9 @@ pub fn fill<H: Host, B: Bodies>(
     match begin(alloc, engine, state, node, host, bodies) {
         Ok(None) => Ok(()),
         Ok(Some(asking)) => {
-            fill_on::<H, B>(alloc, engine, state, reply, asking, begun, host, bodies)
+            fill_on::<H, B>(
+                alloc, engine, envs, state, reply, asking, begun, host, bodies,
+            )
         }
         Err(error) => Err(error),
     }
@@ -68,6 +73,7 @@ pub fn fill<H: Host, B: Bodies>(
 fn fill_on<H: Host, B: Bodies>(
     alloc: Global,
     engine: &Engine,
+    envs: &Environs,
     state: &mut GlobalRuntimeState,
     reply: &mut Reply,
     asking: Box<Asking>,
@@ -76,14 +82,15 @@ fn fill_on<H: Host, B: Bodies>(
     bodies: &mut B,
 ) -> Result<(), OutOfMemory>
     requires held { frame_held (length engine.now.natives.items.items) state.old ≡ true }
+    requires environs { environs_held (length engine.now.natives.items.items) envs.now.items ≡ true }
     requires within { begun.old ≤ engine.now.limits.budget }
     requires comes { (modules : List ModuleTree) × (node : CallNode) × (call : CallRequest) × (before : Moment H B) × (reply.old ≡ Called node) × ComesIn
-        (setting_of allows_call allows_resume B.allows_start B.allows_next H.allows_missing info engine.now modules state.old) 1 call (outcome_of node (Some asking)) before
+        (setting_of allows_call allows_resume B.allows_start B.allows_next H.allows_missing info engine.now modules envs.now.items state.old) 1 call (outcome_of node (Some asking)) before
         (moment begun.old host.old bodies.old) }
     ensures replied { (modules : List ModuleTree) (node : CallNode) (call : CallRequest) (before : Moment H B) → reply.old ≡ Called node → ComesIn
-        (setting_of allows_call allows_resume B.allows_start B.allows_next H.allows_missing info engine.now modules state.old) 1 call (outcome_of node (Some asking)) before
+        (setting_of allows_call allows_resume B.allows_start B.allows_next H.allows_missing info engine.now modules envs.now.items state.old) 1 call (outcome_of node (Some asking)) before
         (moment begun.old host.old bodies.old) → OnOk result (CallRepliedIn
-        (setting_of allows_call allows_resume B.allows_start B.allows_next H.allows_missing info engine.now modules state.old) before call reply.new (moment begun.new host.new bodies.new)) }
+        (setting_of allows_call allows_resume B.allows_start B.allows_next H.allows_missing info engine.now modules envs.now.items state.old) before call reply.new (moment begun.new host.new bodies.new)) }
     ensures state { state.new ≡ state.old }
     ensures within { begun.new ≤ engine.now.limits.budget }
     ensures rises { begun.old ≤ begun.new }
@@ -92,7 +99,7 @@ fn fill_on<H: Host, B: Bodies>(
         return Ok(());
     };
     let outcome = outcome_of(node, Some(asking));
-    let node = run_on::<H, B>(alloc, engine, state, outcome, begun, host, bodies)?;
+    let node = run_on::<H, B>(alloc, engine, envs, state, outcome, begun, host, bodies)?;
     *reply = Reply::Called(node);
     Ok(())
 }
@@ -102,6 +109,7 @@ fn fill_on<H: Host, B: Bodies>(
 fn run_on<H: Host, B: Bodies>(
     alloc: Global,
     engine: &Engine,
+    envs: &Environs,
     state: &mut GlobalRuntimeState,
     outcome: Outcome,
     begun: &mut u64,
@@ -109,19 +117,20 @@ fn run_on<H: Host, B: Bodies>(
     bodies: &mut B,
 ) -> Result<CallNode, OutOfMemory>
     requires held { frame_held (length engine.now.natives.items.items) state.old ≡ true }
+    requires environs { environs_held (length engine.now.natives.items.items) envs.now.items ≡ true }
     requires within { begun.old ≤ engine.now.limits.budget }
     requires comes { (modules : List ModuleTree) × (call : CallRequest) × (before : Moment H B)
-        × ComesIn (setting_of allows_call allows_resume B.allows_start B.allows_next H.allows_missing info engine.now modules state.old) 1 call outcome before (moment begun.old host.old bodies.old) }
+        × ComesIn (setting_of allows_call allows_resume B.allows_start B.allows_next H.allows_missing info engine.now modules envs.now.items state.old) 1 call outcome before (moment begun.old host.old bodies.old) }
     ensures runs { (modules : List ModuleTree) (call : CallRequest) (before : Moment H B)
-        → ComesIn (setting_of allows_call allows_resume B.allows_start B.allows_next H.allows_missing info engine.now modules state.old) 1 call outcome before (moment begun.old host.old bodies.old)
+        → ComesIn (setting_of allows_call allows_resume B.allows_start B.allows_next H.allows_missing info engine.now modules envs.now.items state.old) 1 call outcome before (moment begun.old host.old bodies.old)
         → IfOk result (λ node. (cut : Bool)
-        × RunsIn (setting_of allows_call allows_resume B.allows_start B.allows_next H.allows_missing info engine.now modules state.old) 1 call node before (moment begun.new host.new bodies.new) cut) }
+        × RunsIn (setting_of allows_call allows_resume B.allows_start B.allows_next H.allows_missing info engine.now modules envs.now.items state.old) 1 call node before (moment begun.new host.new bodies.new) cut) }
     ensures state { state.new ≡ state.old }
     ensures within { begun.new ≤ engine.now.limits.budget }
     ensures rises { begun.old ≤ begun.new }
 {
-    let base = outer_of(state);
-    let made = run_stack::<H, B>(alloc, engine, state, outcome, begun, host, bodies);
+    let base = outer_of(alloc, state)?;
+    let made = run_stack::<H, B>(alloc, engine, envs, state, outcome, begun, host, bodies);
     give_back(state, base);
     made
 }
@@ -131,6 +140,7 @@ fn run_on<H: Host, B: Bodies>(
 fn run_stack<H: Host, B: Bodies>(
     alloc: Global,
     engine: &Engine,
+    envs: &Environs,
     state: &mut GlobalRuntimeState,
     outcome: Outcome,
     begun: &mut u64,
@@ -138,35 +148,38 @@ fn run_stack<H: Host, B: Bodies>(
     bodies: &mut B,
 ) -> Result<CallNode, OutOfMemory>
     requires held { frame_held (length engine.now.natives.items.items) state.old ≡ true }
+    requires environs { environs_held (length engine.now.natives.items.items) envs.now.items ≡ true }
     requires within { begun.old ≤ engine.now.limits.budget }
     requires comes { (modules : List ModuleTree) × (call : CallRequest) × (before : Moment H B)
-        × ComesIn (setting_of allows_call allows_resume B.allows_start B.allows_next H.allows_missing info engine.now modules state.old) 1 call outcome before (moment begun.old host.old bodies.old) }
+        × ComesIn (setting_of allows_call allows_resume B.allows_start B.allows_next H.allows_missing info engine.now modules envs.now.items state.old) 1 call outcome before (moment begun.old host.old bodies.old) }
     ensures runs { (modules : List ModuleTree) (call : CallRequest) (before : Moment H B)
-        → ComesIn (setting_of allows_call allows_resume B.allows_start B.allows_next H.allows_missing info engine.now modules state.old) 1 call outcome before (moment begun.old host.old bodies.old)
+        → ComesIn (setting_of allows_call allows_resume B.allows_start B.allows_next H.allows_missing info engine.now modules envs.now.items state.old) 1 call outcome before (moment begun.old host.old bodies.old)
         → IfOk result (λ node. (cut : Bool)
-        × RunsIn (setting_of allows_call allows_resume B.allows_start B.allows_next H.allows_missing info engine.now modules state.old) 1 call node before (moment begun.new host.new bodies.new) cut) }
+        × RunsIn (setting_of allows_call allows_resume B.allows_start B.allows_next H.allows_missing info engine.now modules envs.now.items state.old) 1 call node before (moment begun.new host.new bodies.new) cut) }
     ensures above { IsAbove state.old state.new }
     ensures within { begun.new ≤ engine.now.limits.budget }
     ensures rises { begun.old ≤ begun.new }
 {
     let mut stack = Vec::new(alloc);
-    let mut hand = put(&mut stack, state, outcome)?;
+    let mut hand = put(alloc, envs, &mut stack, state, outcome)?;
     loop {
         match hand {
             Hand::Asked(request) => {
                 if *begun >= engine.limits().budget {
                     let level = stack.len() as u32 + 1;
                     let node = unbegun(alloc, request, level)?;
-                    return cut_all::<H, B>(engine, stack, node);
+                    return cut_all::<H, B>(engine, envs, stack, node);
                 }
                 *begun += 1;
-                hand = ask(alloc, engine, state, &mut stack, request, host, bodies)?;
+                hand = ask(
+                    alloc, engine, envs, state, &mut stack, request, host, bodies,
+                )?;
             }
             Hand::Answered(node) => {
                 let Some(frame) = stack.pop() else {
                     return Ok(node);
                 };
-                hand = answer::<H, B>(alloc, engine, state, &mut stack, frame, node, bodies)?;
+                hand = answer::<H, B>(alloc, engine, envs, state, &mut stack, frame, node, bodies)?;
             }
         }
     }
@@ -176,6 +189,7 @@ fn run_stack<H: Host, B: Bodies>(
 fn ask<H: Host, B: Bodies>(
     alloc: Global,
     engine: &Engine,
+    envs: &Environs,
     state: &mut GlobalRuntimeState,
     stack: &mut Vec<StackFrame>,
     request: CallRequest,
@@ -185,23 +199,24 @@ fn ask<H: Host, B: Bodies>(
     requires held { frame_held (length engine.now.natives.items.items) state.old ≡ true }
     requires few { length stack.old.items ≤ 1000 }
     ensures going { (modules : List ModuleTree) (base : Frame) (call : CallRequest) (before : Moment H B) (begun : ℕ) → begun < engine.now.limits.budget → GoingIn
-        (setting_of allows_call allows_resume B.allows_start B.allows_next H.allows_missing info engine.now modules base) stack.old.items call before (Asked request) state.old
+        (setting_of allows_call allows_resume B.allows_start B.allows_next H.allows_missing info engine.now modules envs.now.items base) stack.old.items call before (Asked request) state.old
         (moment begun host.old bodies.old) → IfOk result (λ hand. GoingIn
-        (setting_of allows_call allows_resume B.allows_start B.allows_next H.allows_missing info engine.now modules base) stack.new.items call before hand state.new
+        (setting_of allows_call allows_resume B.allows_start B.allows_next H.allows_missing info engine.now modules envs.now.items base) stack.new.items call before hand state.new
         (moment (begun + 1) host.new bodies.new)) }
     ensures grows { IfOk result (λ hand. length stack.new.items + weight hand ≡ length stack.old.items + 1) }
-    ensures above { (base : Frame) → IsAbove base state.old → IsAbove base state.new }
+    ensures above { IsAbove state.old state.new }
 {
     let level = stack.len() as u32 + 1;
     let mut node = begun_node(alloc, request, level);
     let asking = begin(alloc, engine, state, &mut node, host, bodies)?;
-    put(stack, state, outcome_of(node, asking))
+    put(alloc, envs, stack, state, outcome_of(node, asking))
 }
 
 /// Hands a node to the call that waits for it, whose function is left first.
 fn answer<H: Host, B: Bodies>(
     alloc: Global,
     engine: &Engine,
+    envs: &Environs,
     state: &mut GlobalRuntimeState,
     stack: &mut Vec<StackFrame>,
     frame: StackFrame,
@@ -210,30 +225,33 @@ fn answer<H: Host, B: Bodies>(
 ) -> Result<Hand, OutOfMemory>
     requires { func_held (length engine.now.natives.items.items) frame.suspended.pick.func ≡ true }
     ensures going { (modules : List ModuleTree) (base : Frame) (call : CallRequest) (before : Moment H B) (begun : ℕ) (host : H) → GoingIn
-        (setting_of allows_call allows_resume B.allows_start B.allows_next H.allows_missing info engine.now modules base) (stack.old.items ++ frame ∷ []) call before (Answered node) state.old
+        (setting_of allows_call allows_resume B.allows_start B.allows_next H.allows_missing info engine.now modules envs.now.items base) (stack.old.items ++ frame ∷ []) call before (Answered node) state.old
         (moment begun host bodies.old) → IfOk result (λ hand. GoingIn
-        (setting_of allows_call allows_resume B.allows_start B.allows_next H.allows_missing info engine.now modules base) stack.new.items call before hand state.new (moment begun host bodies.new)) }
+        (setting_of allows_call allows_resume B.allows_start B.allows_next H.allows_missing info engine.now modules envs.now.items base) stack.new.items call before hand state.new (moment begun host bodies.new)) }
     ensures grows { IfOk result (λ hand. length stack.new.items + weight hand ≡ length stack.old.items + 1) }
-    ensures above { (base : Frame) → IsAbove base state.old → IsAbove base state.new }
+    ensures above { (modules : List ModuleTree) (base : Frame) (call : CallRequest) (before : Moment H B) (begun : ℕ) (host : H) → GoingIn
+        (setting_of allows_call allows_resume B.allows_start B.allows_next H.allows_missing info engine.now modules envs.now.items base) (stack.old.items ++ frame ∷ []) call before (Answered node) state.old
+        (moment begun host bodies.old) → IsAbove base state.new }
 {
     let StackFrame { suspended, outer } = frame;
     give_back(state, outer);
     let outcome = resume::<H, B>(alloc, engine, state, suspended, node, bodies)?;
-    put(stack, state, outcome)
+    put(alloc, envs, stack, state, outcome)
 }
 
 /// Closes each call that waits, where the budget is spent.
 fn cut_all<H: Host, B: Bodies>(
     _engine: &Engine,
+    _envs: &Environs,
     mut stack: Vec<StackFrame>,
     mut node: CallNode,
 ) -> Result<CallNode, OutOfMemory>
     ensures { (modules : List ModuleTree) (base : Frame) (call : CallRequest) (before after : Moment H B)
-        → CuttingIn (setting_of allows_call allows_resume B.allows_start B.allows_next H.allows_missing info _engine.now modules base) stack.items call before node after
-        → IfOk result (λ root. RunsIn (setting_of allows_call allows_resume B.allows_start B.allows_next H.allows_missing info _engine.now modules base) 1 call root before after true) }
+        → CuttingIn (setting_of allows_call allows_resume B.allows_start B.allows_next H.allows_missing info _engine.now modules _envs.now.items base) stack.items call before node after
+        → IfOk result (λ root. RunsIn (setting_of allows_call allows_resume B.allows_start B.allows_next H.allows_missing info _engine.now modules _envs.now.items base) 1 call root before after true) }
 {
     while let Some(frame) = stack.pop() {
-        node = cut(frame.suspended, node)?;
+        node = cut(waiting(frame), node)?;
     }
     Ok(node)
 }

@@ -6,7 +6,7 @@ use Rattle.rhd_machine.proofs.run.cut_all.Goals as goal
 pub loop-frame-preserved : goal.loop-frame-preserved
 loop-frame-preserved g c = λ modules base call before after h.
     let p = rw c.in-Some.ensures.items at (c.loop-frame.invariant modules base call before after h) in
-    cut_goes _ _ c.pop.new.self.items c.in-Some.frame base call before after c.loop-frame.node c.in_ok-node.node c.in_ok-node.ensures p
+    cut_goes _ _ c.pop.new.self.items c.in-Some.frame base call before after c.loop-frame.node c.in_ok-node.node (rw c.waiting.ensures at c.in_ok-node.ensures) p
 
 pub returns : goal.returns
 returns g c = λ modules base call before after h.

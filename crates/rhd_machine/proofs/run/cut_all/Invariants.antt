@@ -10,8 +10,8 @@ use Rattle.rhd_machine.proofs.run.cut_all.Given as goal
 
 abbrev pub invariant-loop-frame : goal.invariant-loop-frame
 invariant-loop-frame g l = (modules : List ModuleTree) (base : Frame) (call : CallRequest) (before after : Moment g.row.H.Denot g.row.B.Denot) →
-    CuttingIn (setting_of (λ z. (goal.PluginFunc-dyn g z).allows_call z.1) (λ z. (goal.PluginFunc-dyn g z).allows_resume z.1) g.B.Bodies.allows_start g.B.Bodies.allows_next g.H.Host.allows_missing (λ z. (goal.PluginFunc-dyn g z).info z.1) l._engine modules base) l.fn.stack.items call before l.fn.node after →
-    CuttingIn (setting_of (λ z. (goal.PluginFunc-dyn g z).allows_call z.1) (λ z. (goal.PluginFunc-dyn g z).allows_resume z.1) g.B.Bodies.allows_start g.B.Bodies.allows_next g.H.Host.allows_missing (λ z. (goal.PluginFunc-dyn g z).info z.1) l._engine modules base) l.stack.items call before l.node after
+    CuttingIn (setting_of (λ z. (goal.PluginFunc-dyn g z).allows_call z.1) (λ z. (goal.PluginFunc-dyn g z).allows_resume z.1) g.B.Bodies.allows_start g.B.Bodies.allows_next g.H.Host.allows_missing (λ z. (goal.PluginFunc-dyn g z).info z.1) l._engine modules l._envs.items base) l.fn.stack.items call before l.fn.node after →
+    CuttingIn (setting_of (λ z. (goal.PluginFunc-dyn g z).allows_call z.1) (λ z. (goal.PluginFunc-dyn g z).allows_resume z.1) g.B.Bodies.allows_start g.B.Bodies.allows_next g.H.Host.allows_missing (λ z. (goal.PluginFunc-dyn g z).info z.1) l._engine modules l._envs.items base) l.stack.items call before l.node after
 
 abbrev pub decreases-loop-frame : goal.decreases-loop-frame
 decreases-loop-frame g l = vec_len l.stack

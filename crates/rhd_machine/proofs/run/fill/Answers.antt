@@ -24,7 +24,7 @@ fill_on-requires-clause-comes g c =
       c.requires.begun.0,
       moment c.args.begun.now c.args.host.now c.args.bodies.now,
       refl,
-      begins_as _ _ c.args.state.now _ _ c.in-Called.node _ _ _ _ (begun_at c.args.reply.now c.in-Called.node _ c.in-Called.is c.requires.begun.1) (ap (outcome_of c.begin.new.node) c.in-Ok-Some.field-0-is) (λ begins. c.in-Ok-Some.ensures [] c.args.begun.now begins under),
+      begins_as _ _ c.args.state.now _ _ c.in-Called.node _ _ _ _ (begun_at c.args.reply.now c.in-Called.node _ c.in-Called.is c.requires.begun.1) (ap (outcome_of c.begin.new.node) c.in-Ok-Some.field-0-is) (λ begins. c.in-Ok-Some.ensures [] c.args.envs.now.items c.args.begun.now begins under),
     )
 
 pub returns-in-Ok-None-clause-replied : goal.returns-in-Ok-None-clause-replied
@@ -33,7 +33,7 @@ returns-in-Ok-None-clause-replied g c = λ modules call is.
     let under : c.args.begun.now < c.args.engine.now.limits.budget = omega (arith, same, c.if-begun-limits.false) in (
       false,
       root_ends _ _ c.args.state.now call (moment c.args.begun.now c.args.host.now c.args.bodies.now) (moment (c.args.begun.now + 1) c.begin.new.host c.begin.new.bodies) (outcome_of c.begin.new.node c.in-Ok-None.field-0) c.begin.new.node
-          (begins_as _ _ c.args.state.now _ _ c.in-Called.node _ _ _ _ (begun_at c.args.reply.now c.in-Called.node call c.in-Called.is is) refl (λ begins. c.in-Ok-None.ensures modules c.args.begun.now begins under))
+          (begins_as _ _ c.args.state.now _ _ c.in-Called.node _ _ _ _ (begun_at c.args.reply.now c.in-Called.node call c.in-Called.is is) refl (λ begins. c.in-Ok-None.ensures modules c.args.envs.now.items c.args.begun.now begins under))
           (ap (outcome_of c.begin.new.node) c.in-Ok-None.field-0-is),
     )
 
@@ -42,4 +42,4 @@ returns-in-Ok-Some-clause-replied g c = λ modules call is.
     let same : c.limits.result.budget ≡ c.args.engine.now.limits.budget = ap (λ (l : Limits). l.budget) c.limits.ensures in
     let under : c.args.begun.now < c.args.engine.now.limits.budget = omega (arith, same, c.if-begun-limits.false) in
     c.fill_on.ensures.replied modules c.begin.new.node call (moment c.args.begun.now c.args.host.now c.args.bodies.now) refl
-    (begins_as _ _ c.args.state.now _ _ c.in-Called.node _ _ _ _ (begun_at c.args.reply.now c.in-Called.node call c.in-Called.is is) (ap (outcome_of c.begin.new.node) c.in-Ok-Some.field-0-is) (λ begins. c.in-Ok-Some.ensures modules c.args.begun.now begins under))
+    (begins_as _ _ c.args.state.now _ _ c.in-Called.node _ _ _ _ (begun_at c.args.reply.now c.in-Called.node call c.in-Called.is is) (ap (outcome_of c.begin.new.node) c.in-Ok-Some.field-0-is) (λ begins. c.in-Ok-Some.ensures modules c.args.envs.now.items c.args.begun.now begins under))
