@@ -144,6 +144,10 @@ pub enum Command {
     },
     /// Takes the last import off.
     PopImport,
+    /// Sets the source of the calls that are made, or takes it away.
+    SetSource(Option<Text>),
+    /// Sets the tag of the run.
+    SetTag(Dynamic),
     /// Makes a call.
     Call(CallRequest),
     /// How many variables and functions a module has.
@@ -268,6 +272,9 @@ impl Command {
                 module: *module,
             }),
             Command::PopImport => Ok(Command::PopImport),
+            Command::SetSource(Some(source)) => Ok(Command::SetSource(Some(source.dup(alloc)?))),
+            Command::SetSource(None) => Ok(Command::SetSource(None)),
+            Command::SetTag(tag) => Ok(Command::SetTag(tag.dup(alloc)?)),
             Command::Call(request) => Ok(Command::Call(request.dup(alloc)?)),
             Command::Count { module } => Ok(Command::Count { module: *module }),
             Command::Contains { module, key } => Ok(Command::Contains {

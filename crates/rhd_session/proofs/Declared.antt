@@ -6,7 +6,7 @@ use Rattle.std.specs.Map.{keys_of}
 use Rattle.std.specs.Option.{option_or}
 use Rattle.std.proofs.lemmas.Bool.{lt-ltb, le-ltb}
 use Rattle.std.proofs.lemmas.Option.{slice_get_within}
-use Rattle.rhd_value.specs.Tree.{Bytes}
+use Rattle.rhd_value.specs.Tree.{Bytes, Tree}
 use Rattle.rhd_value.specs.Firsts.{first_of, first_some, where_holds}
 use Rattle.rhd_value.specs.declared.memory.OutOfMemory.{OutOfMemory}
 use Rattle.rhd_decl.specs.declared.fault.DeclFault.{DeclFault}
@@ -23,7 +23,7 @@ use Rattle.rhd_call.specs.declared.command.Command.TheVariants as commands
 use Rattle.rhd_call.specs.declared.reply.Reply.{Reply}
 use Rattle.rhd_call.specs.declared.reply.Reply.TheVariants.{Done, Made, Refused}
 use Rattle.rhd_machine.specs.World.{World}
-use Rattle.rhd_session.specs.Commands.{cause, change, Change, tree_keys, with_imports, with_globals, with_statics, operands, pop_operand, unknown_of, not_callable, indexer_not_allowed, with_globals, with_libs, but_last}
+use Rattle.rhd_session.specs.Commands.{cause, change, Change, tree_keys, with_imports, with_globals, with_statics, operands, pop_operand, unknown_of, not_callable, indexer_not_allowed, with_globals, with_libs, with_frame, but_last}
 use Rattle.rhd_session.specs.Answered.{Declares, refused, collided, done, NoClash}
 use Rattle.rhd_session.specs.Changing.{Goes, IsReply}
 
@@ -130,6 +130,12 @@ pub push_goes : (w : World) (f f2 : Frame) (id : ModuleId) (added : ModuleTree) 
 push_goes w f f2 id added is made =
     let none = none_refuses w f (commands.PushLib id) (one_held id.0 (length w.modules) (slice_get_within w.modules id.0 added is)) refl refl in
     done_in w w f f2 (commands.PushLib id) (with_libs w f (f.lib ++ added ∷ [])) none (ap (option_map (λ m. with_libs w f (f.lib ++ m ∷ []))) is) tt refl made
+
+pub source_goes : (w : World) (f f2 : Frame) (source : Option Bytes) → f2 ≡ record f { source = source } → Declares w f (commands.SetSource source) Done w f2
+source_goes w f f2 source made = done_in w w f f2 (commands.SetSource source) (with_frame w (record f { source = source })) refl refl tt refl made
+
+pub tag_goes : (w : World) (f f2 : Frame) (tag : Tree) → f2 ≡ record f { tag = tag } → Declares w f (commands.SetTag tag) Done w f2
+tag_goes w f f2 tag made = done_in w w f f2 (commands.SetTag tag) (with_frame w (record f { tag = tag })) refl refl tt refl made
 
 pub made_goes : (w w2 : World) (f : Frame) (id : ModuleId) → id.0 ≡ length w.modules → w2 ≡ record w { modules = w.modules ++ empty_module w.engine.seeds ∷ [] } → Declares w f commands.NewModule (Made id) w2 f
 made_goes w w2 f id n made =

@@ -86,6 +86,8 @@ is_told (commands.PushLib m) = true
 is_told commands.PopLib = true
 is_told (commands.PushImport name m) = true
 is_told commands.PopImport = true
+is_told (commands.SetSource source) = true
+is_told (commands.SetTag tag) = true
 is_told command = false
 
 -- the command that joins one module with another so

@@ -100,6 +100,8 @@ operands w f (commands.PushLib m) = module_operand w m ∷ []
 operands w f commands.PopLib = pop_operand f.lib
 operands w f (commands.PushImport name m) = module_operand w m ∷ []
 operands w f commands.PopImport = pop_operand f.imports
+operands w f (commands.SetSource source) = []
+operands w f (commands.SetTag tag) = []
 operands w f (commands.Call request) = []
 operands w f (commands.Count m) = module_operand w m ∷ []
 operands w f (commands.Contains m key) = module_operand w m ∷ []
@@ -251,6 +253,10 @@ with_imports w f imports tables = record { reply = Done; world = w; frame = reco
 abbrev pub with_libs : World → Frame → List ModuleTree → Change
 with_libs w f libs = record { reply = Done; world = w; frame = record f { lib = libs }; tables = [] }
 
+-- only the source or the tag changes
+abbrev pub with_frame : World → Frame → Change
+with_frame w f = record { reply = Done; world = w; frame = f; tables = [] }
+
 -- nothing changes
 abbrev pub answering : World → Frame → Reply → Change
 answering w f reply = record { reply = reply; world = w; frame = f; tables = [] }
@@ -291,6 +297,8 @@ change w f (commands.PushLib m) = option_map (λ added. with_libs w f (f.lib ++ 
 change w f commands.PopLib = Some (with_libs w f (but_last f.lib))
 change w f (commands.PushImport name m) = option_map (λ added. with_imports w f (f.imports ++ (name, indexed added) ∷ []) (tree_keys added ∷ [])) (slice_get w.modules m.0)
 change w f commands.PopImport = Some (with_imports w f (but_last f.imports) [])
+change w f (commands.SetSource source) = Some (with_frame w (record f { source = source }))
+change w f (commands.SetTag tag) = Some (with_frame w (record f { tag = tag }))
 change w f (commands.Count m) = option_map (λ asked. answering w f (counted asked)) (slice_get w.modules m.0)
 change w f (commands.Contains m key) = option_map (λ asked. answering w f (Truth (is_some (own_decl asked key)))) (slice_get w.modules m.0)
 change w f command = changed_by w f command (target command)

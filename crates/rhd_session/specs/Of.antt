@@ -21,7 +21,7 @@ abbrev pub natives_of : {X : Type 0} {F : X → Type 0} → Session X F → Nati
 natives_of session = session.engine.natives
 
 abbrev pub world_of : {X : Type 0} {F : X → Type 0} → ((x : X) × F x → NativeInfo) → Session X F → World
-world_of info session = record { engine = lists_of info session.engine; modules = session.modules.items }
+world_of info session = record { engine = lists_of info session.engine; modules = session.modules.items; environs = session.environs.items }
 
 -- the frame in which its commands are done
 abbrev pub frame_of : {X : Type 0} {F : X → Type 0} → Session X F → Frame
@@ -48,4 +48,4 @@ abbrev pub session_setting : {X : Type 0} {F : X → Type 0} {H B : Type 0} →
     (H → Bytes → List Tree → Bool → HostAnswer → H → Type 0) →
     ((x : X) × F x → NativeInfo) →
     Session X F → Setting H B
-session_setting allows_call allows_resume allows_start allows_next allows_missing info session = setting_of allows_call allows_resume allows_start allows_next allows_missing info session.engine session.modules.items session.state
+session_setting allows_call allows_resume allows_start allows_next allows_missing info session = setting_of allows_call allows_resume allows_start allows_next allows_missing info session.engine session.modules.items session.environs.items session.state

@@ -10,9 +10,9 @@ use Rattle.rhd_engine.specs.declared.limits.Limits.{Limits}
 use Rattle.rhd_engine.specs.declared.limits.Printers.{Printers}
 use Rattle.rhd_machine.specs.World.{World, Moment, moment}
 
--- a new engine, and no modules; its frame is that of a new state
+-- a new engine, no modules and no environments; its frame is that of a new state
 abbrev pub start_world : List NativeInfo → List ManifestLists → Seeds → Limits → List (Operator × FnId) → Printers → World
-start_world natives table seeds limits builtins printers = record { engine = start_lists natives table seeds limits builtins printers; modules = [] }
+start_world natives table seeds limits builtins printers = record { engine = start_lists natives table seeds limits builtins printers; modules = []; environs = [] }
 
 -- no call is begun
 abbrev pub start_moment : {H B : Type 0} → H → B → Moment H B

@@ -15,11 +15,11 @@ ghost use Rattle.rhd_session.specs.Commands.{target, raw_registration};
 use crate::session::Session;
 use rhd_call::{Command, ModuleId, Reply};
 use rhd_engine::{fn_registration, raw_func};
-use rhd_func::{FnNamespace, IterId, ManifestId, Natives, RhaiFunc};
+use rhd_func::{FnNamespace, IterId, ManifestId, Natives, RhaiFunc, SharedText};
 use rhd_hash::Key;
 use rhd_manifest::Manifests;
 use rhd_module::{DeclFault, FuncRegistration, Module, SharedModule};
-use rhd_value::{FnId, OutOfMemory, Text, TypeTag, Types};
+use rhd_value::{Dynamic, FnId, OutOfMemory, Text, TypeTag, Types};
 use std::alloc::Global;
 
 /// The refusal of a number that isn't held.
@@ -83,6 +83,8 @@ pub(crate) fn is_told(command: &Command) -> bool
             | Command::PopLib
             | Command::PushImport { .. }
             | Command::PopImport
+            | Command::SetSource(_)
+            | Command::SetTag(_)
     )
 }
 
@@ -503,6 +505,36 @@ impl Session {
             Some((_name, _import)) => Ok(()),
             None => Err(unknown(0, 0)),
         }
+    }
+
+    /// Sets the source of the calls that are made, or takes it away.
+    pub(crate) fn set_source(
+        &mut self,
+        alloc: Global,
+        source: Option<Text>,
+    ) -> Result<(), DeclFault>
+        ensures goes { Goes (world_of info self.old) (frame_of self.old) (commands.SetSource source) result (world_of info self.new) (frame_of self.new) }
+        ensures natives { natives_of self.new ≡ natives_of self.old }
+        ensures begun { calls_begun_of self.new ≡ calls_begun_of self.old }
+        ensures count { modules_of self.new ≡ modules_of self.old }
+    {
+        let Some(source) = source else {
+            self.state.source = None;
+            return Ok(());
+        };
+        self.state.source = Some(SharedText::new(alloc, source)?);
+        Ok(())
+    }
+
+    /// Sets the tag of the run.
+    pub(crate) fn set_tag(&mut self, tag: Dynamic) -> Result<(), DeclFault>
+        ensures goes { Goes (world_of info self.old) (frame_of self.old) (commands.SetTag tag) result (world_of info self.new) (frame_of self.new) }
+        ensures natives { natives_of self.new ≡ natives_of self.old }
+        ensures begun { calls_begun_of self.new ≡ calls_begun_of self.old }
+        ensures count { modules_of self.new ≡ modules_of self.old }
+    {
+        self.state.tag = tag;
+        Ok(())
     }
 
     /// The module of a number; none where it isn't held.

@@ -1,4 +1,4 @@
-//! A session: an engine, the state of a run, and modules by number.
+//! A session: an engine, the state of a run, and modules and environments by number.
 
 ghost use Rattle.std.specs.Prelude.{◌≡◌, ◌≤◌, ◌<◌, ◌+◌, ◌^◌, ◌++◌, ◌∷◌, [], true, false, None, IfOk, OnOk, OnErr, length, vec_len, vec_capacity};
 ghost use Rattle.rhd_func.specs.Infos.{infos_of};
@@ -6,7 +6,7 @@ ghost use Rattle.rhd_call.specs.declared.reply.Reply.{Reply};
 ghost use Rattle.rhd_manifest.specs.Fits.{fits};
 ghost use Rattle.rhd_engine.specs.Held.{all_held, builtins_held};
 ghost use Rattle.rhd_engine.specs.Start.{start_frame};
-ghost use Rattle.rhd_machine.specs.Held.{frame_held};
+ghost use Rattle.rhd_machine.specs.Held.{frame_held, environs_held};
 ghost use Rattle.rhd_machine.specs.World.{Moment};
 ghost use Rattle.rhd_machine.specs.Objects.{objects_of};
 ghost use Rattle.rhd_session.specs.Start.{start_world};
@@ -24,6 +24,7 @@ use rhd_hash::Seeds;
 use rhd_machine::{begun, fill};
 use rhd_manifest::Manifests;
 use rhd_module::{DeclFault, SharedModule};
+use rhd_resolve::Environs;
 use rhd_value::OutOfMemory;
 use std::alloc::Global;
 
@@ -33,8 +34,10 @@ pub struct Session {
     pub(crate) engine: Engine,
     pub(crate) state: GlobalRuntimeState,
     pub(crate) modules: Vec<SharedModule>,
+    environs: Environs,
     begun: u64,
     ghost modules_held: { all_held (length engine.natives.items.items) modules.items ≡ true },
+    ghost environs_held: { environs_held (length engine.natives.items.items) environs.items ≡ true },
     ghost state_held: { frame_held (length engine.natives.items.items) state ≡ true },
     ghost within: { begun ≤ engine.limits.budget },
 }
@@ -62,10 +65,12 @@ impl Session {
         ensures modules { IfOk result (λ session. modules_of session ≡ []) }
         ensures begun { IfOk result (λ session. calls_begun_of session ≡ 0) }
     {
+        let environs = Environs::new(alloc, seeds, natives.len() as u64, 0)?;
         Ok(Session {
             engine: Engine::new(alloc, natives, manifests, builtins, seeds, limits, printers)?,
             state: GlobalRuntimeState::new(alloc),
             modules: Vec::new(alloc),
+            environs,
             begun: 0,
         })
     }
@@ -140,6 +145,8 @@ impl Session {
             Command::PopLib => self.pop_lib(),
             Command::PushImport { name, module: id } => self.push_import(alloc, name, id),
             Command::PopImport => self.pop_import(),
+            Command::SetSource(source) => self.set_source(alloc, source),
+            Command::SetTag(tag) => self.set_tag(tag),
             _ => unreachable!(),
         }
     }
@@ -170,6 +177,7 @@ impl Session {
         let filled = fill(
             alloc,
             &self.engine,
+            &self.environs,
             &mut self.state,
             &mut replies[last],
             &mut self.begun,

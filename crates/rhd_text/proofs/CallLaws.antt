@@ -1,6 +1,7 @@
 -- One call line by itself: what is read is what is written.
-use Rattle.std.proofs.Common.{◌≡◌, ℕ, List, Option, Some, None, sym, ◌∙◌}
+use Rattle.std.proofs.Common.{◌≡◌, ℕ, List, Option, Some, None, refl, sym, ◌∙◌}
 use Rattle.rhd_func.specs.declared.request.CallRequest.{CallRequest}
+use Rattle.rhd_call.specs.declared.command.Command.{Command}
 use Rattle.rhd_call.specs.declared.command.Command.TheVariants as commands
 use Rattle.rhd_text.specs.declared.part.Part.{Part}
 use Rattle.rhd_text.specs.declared.part.Part.TheVariants as parts
@@ -53,6 +54,8 @@ line_read n (Some (parts.Command (commands.GlobalModule m))) bytes e = other_rea
 line_read n (Some (parts.Command (commands.StaticModule g m))) bytes e = other_read n (Some (Some (parts.Command (commands.StaticModule g m)))) bytes e (λ r f. cc)
 line_read n (Some (parts.Command (commands.PushImport g m))) bytes e = other_read n (Some (Some (parts.Command (commands.PushImport g m)))) bytes e (λ r f. cc)
 line_read n (Some (parts.Command commands.PopImport)) bytes e = other_read n (Some (Some (parts.Command commands.PopImport))) bytes e (λ r f. cc)
+line_read n (Some (parts.Command (commands.SetSource source))) bytes e = other_read n (Some (Some (parts.Command (commands.SetSource source)))) bytes e (λ r f. cc)
+line_read n (Some (parts.Command (commands.SetTag tag))) bytes e = other_read n (Some (Some (parts.Command (commands.SetTag tag)))) bytes e (λ r f. cc)
 line_read n (Some (parts.Command (commands.FromManifest l))) bytes e = other_read n (Some (Some (parts.Command (commands.FromManifest l)))) bytes e (λ r f. cc)
 line_read n (Some (parts.Command (commands.CombineManifest m l))) bytes e = other_read n (Some (Some (parts.Command (commands.CombineManifest m l)))) bytes e (λ r f. cc)
 line_read n (Some (parts.Command (commands.RegisterLazy m))) bytes e = other_read n (Some (Some (parts.Command (commands.RegisterLazy m)))) bytes e (λ r f. cc)
@@ -60,3 +63,38 @@ line_read n (Some (parts.Command (commands.Combine m other))) bytes e = other_re
 line_read n (Some (parts.Command (commands.CombineFlatten m other))) bytes e = other_read n (Some (Some (parts.Command (commands.CombineFlatten m other)))) bytes e (λ r f. cc)
 line_read n (Some (parts.Command (commands.Fill m other))) bytes e = other_read n (Some (Some (parts.Command (commands.Fill m other)))) bytes e (λ r f. cc)
 line_read n (Some (parts.Command (commands.Merge m other))) bytes e = other_read n (Some (Some (parts.Command (commands.Merge m other)))) bytes e (λ r f. cc)
+
+-- a command that is no call makes no request
+pub not_requested : (command : Command) → ((r : CallRequest) → command ≡ commands.Call r → ⊥) → None ≡ request_in (Some (parts.Command command))
+not_requested (commands.Call r) no_call = absurd (no_call r refl)
+not_requested commands.NewModule no_call = refl
+not_requested (commands.Script m def) no_call = refl
+not_requested (commands.RegisterFn f id) no_call = refl
+not_requested (commands.PushLib m) no_call = refl
+not_requested commands.PopLib no_call = refl
+not_requested (commands.SetId m text) no_call = refl
+not_requested (commands.SetDoc m text) no_call = refl
+not_requested (commands.SetVar m g t) no_call = refl
+not_requested (commands.SetType m shown text) no_call = refl
+not_requested (commands.Native m reg id) no_call = refl
+not_requested (commands.RawNative m g space types func) no_call = refl
+not_requested (commands.SubModule m g sub) no_call = refl
+not_requested (commands.Clear m) no_call = refl
+not_requested (commands.RegisterRaw g types id) no_call = refl
+not_requested (commands.RegisterType kind text) no_call = refl
+not_requested (commands.Count m) no_call = refl
+not_requested (commands.Contains m key) no_call = refl
+not_requested (commands.Index m) no_call = refl
+not_requested (commands.GlobalModule m) no_call = refl
+not_requested (commands.StaticModule g m) no_call = refl
+not_requested (commands.PushImport g m) no_call = refl
+not_requested commands.PopImport no_call = refl
+not_requested (commands.SetSource source) no_call = refl
+not_requested (commands.SetTag tag) no_call = refl
+not_requested (commands.FromManifest l) no_call = refl
+not_requested (commands.CombineManifest m l) no_call = refl
+not_requested (commands.RegisterLazy m) no_call = refl
+not_requested (commands.Combine m other) no_call = refl
+not_requested (commands.CombineFlatten m other) no_call = refl
+not_requested (commands.Fill m other) no_call = refl
+not_requested (commands.Merge m other) no_call = refl

@@ -11,9 +11,9 @@ use Rattle.rhd_text.specs.declared.keyword.CallWord.TheVariants as words
 use Rattle.rhd_text.specs.declared.requests.Handing.TheVariants as handings
 use Rattle.rhd_text.specs.declared.part.Part.TheVariants as parts
 use Rattle.rhd_text.specs.declared.place.Place.{Place}
-use Rattle.rhd_text.specs.Rows.{Operand, From, from_then, position, nowhere, definition, defined, call_form, planned, called, step, form}
-use Rattle.rhd_syntax.specs.Reading.{◌>>=◌, is_end}
-use Rattle.rhd_text.specs.ReadRows.{operand_at, operands_at, row_at, definition_at, plan_at, named_at, qualified_at}
+use Rattle.rhd_text.specs.Rows.{Operand, From, from_then, position, nowhere, script_operands, as_script, definition, defined, call_form, planned, called, step, form}
+use Rattle.rhd_syntax.specs.Reading.{◌>>=◌, is_end, num_at}
+use Rattle.rhd_text.specs.ReadRows.{operand_at, operands_at, row_at, scripted_at, definition_at, plan_at, named_at, qualified_at}
 
 ended : {A B : Type 0} (f : A → B) (b : Bool) (o : Option A) → cond b (option_map f o) None ≡ option_map f (cond b o None)
 ended f true o = refl
@@ -23,8 +23,12 @@ bound : {A B C : Type 0} (f : A → B) (o : Option C) (g : C → Option A) (h : 
 bound f None g h e = refl
 bound f (Some c) g h e = e c
 
+bound_same : {B C : Type 0} (o : Option C) (g h : C → Option B) → ((c : C) → g c ≡ h c) → (o >>= g) ≡ (o >>= h)
+bound_same None g h e = refl
+bound_same (Some c) g h e = e c
+
 -- what is made of what a row says is made of what is read
-mapped : {A B : Type 0} (f : A → B) (os : List Operand) (says : From os (Option A)) (bytes : List ℕ) → operands_at os (from_then os says (option_map f)) bytes ≡ option_map f (operands_at os says bytes)
+pub mapped : {A B : Type 0} (f : A → B) (os : List Operand) (says : From os (Option A)) (bytes : List ℕ) → operands_at os (from_then os says (option_map f)) bytes ≡ option_map f (operands_at os says bytes)
 mapped f [] says bytes = ended f (is_end bytes) says
 mapped f (o ∷ os) says bytes = bound f (operand_at o bytes) (λ x. operands_at os (says x.0) x.1) (λ x. operands_at os (from_then os (says x.0) (option_map f)) x.1) (λ x. mapped f os (says x.0) x.1)
 
@@ -37,6 +41,11 @@ unfolding row_at plan_at
 step_row place w bytes = mapped (λ plan. parts.Do plan) ((call_form w).operands true) (planned (call_form w) true nowhere) bytes
 
 -- ---- definitions of scripts
+
+pub defined_row : (bytes : List ℕ) → definition_at bytes ≡ (num_at 32 bytes >>= λ m. option_map (λ def. (m.0, def)) (scripted_at m.1))
+unfolding definition_at scripted_at
+defined_row bytes =
+    bound_same (num_at 32 bytes) (λ m. operands_at script_operands (defined m.0) m.1) (λ m. option_map (λ def. (m.0, def)) (operands_at script_operands as_script m.1)) (λ m. mapped (λ def. (m.0, def)) script_operands as_script m.1)
 
 pub script_row : (place : Place) (bytes : List ℕ) → row_at place (form keywords.Script) bytes ≡ option_map (λ d. parts.Command (commands.Script (record { 0 = d.0 }) d.1)) (definition_at bytes)
 unfolding row_at definition_at

@@ -7,7 +7,7 @@ use Rattle.rhd_text.specs.declared.part.Part.{Part}
 use Rattle.rhd_text.specs.declared.place.Place.{Place}
 use Rattle.rhd_text.specs.declared.keyword.Keyword.{Keyword}
 use Rattle.rhd_text.specs.declared.keyword.Keyword.TheVariants.{Seeds, Limits, Printer, Builtin, Host, Body, Ret, Fail, Register, RegisterRaw, RegisterType, Module}
-use Rattle.rhd_text.specs.declared.keyword.Keyword.TheVariants.{SetId, SetDoc, SetVar, SetType, Native, Raw, RawIter, RawScript, Script, Submodule, Clear, Count, HasNative, HasScript, Lib, PopLib, Index, Global, Static, Import, PopImport}
+use Rattle.rhd_text.specs.declared.keyword.Keyword.TheVariants.{SetId, SetDoc, SetVar, SetType, Native, Raw, RawIter, RawScript, Script, Submodule, Clear, Count, HasNative, HasScript, Lib, PopLib, Index, Global, Static, Import, PopImport, Source, NoSource, Tag}
 use Rattle.rhd_text.specs.declared.keyword.Keyword.TheVariants.{Manifest, Join, Call}
 use Rattle.rhd_text.specs.declared.keyword.CallWord.{CallWord}
 use Rattle.rhd_text.specs.declared.keyword.CallWord.TheVariants as words
@@ -129,6 +129,9 @@ line_placed Global = refl
 line_placed Static = refl
 line_placed Import = refl
 line_placed PopImport = refl
+line_placed Source = refl
+line_placed NoSource = refl
+line_placed Tag = refl
 line_placed (Manifest w) = manifest_placed w
 line_placed (Join w) = join_placed w
 line_placed (Call w) = call_placed false w
@@ -168,6 +171,9 @@ line_found Global = refl
 line_found Static = refl
 line_found Import = refl
 line_found PopImport = refl
+line_found Source = refl
+line_found NoSource = refl
+line_found Tag = refl
 line_found (Manifest lists.Manifest) = refl
 line_found (Manifest lists.Entry) = refl
 line_found (Manifest lists.Sub) = refl
@@ -223,6 +229,9 @@ line_shows Global rest = refl
 line_shows Static rest = refl
 line_shows Import rest = refl
 line_shows PopImport rest = refl
+line_shows Source rest = refl
+line_shows NoSource rest = refl
+line_shows Tag rest = refl
 line_shows (Manifest w) rest = manifest_shows w rest
 line_shows (Join w) rest = join_shows w rest
 line_shows (Call w) rest = call_shows w rest

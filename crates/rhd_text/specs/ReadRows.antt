@@ -12,7 +12,7 @@ use Rattle.rhd_text.specs.declared.part.Part.TheVariants as parts
 use Rattle.rhd_text.specs.declared.place.Place.{Place}
 use Rattle.rhd_text.specs.declared.keyword.CallWord.{CallWord}
 use Rattle.rhd_text.specs.Rows.{Operand, NAME, WORD, WORDS, NUM, LONG, ARG, ARGS, OPTIONAL, WANT, THIS, PURITY, VALUE, KIND, KINDS, PRINTER}
-use Rattle.rhd_text.specs.Rows.{Meaning, From, Form, Table, CallForm, definition, defined, by_name, by_path, call_form, planned, line_forms, step_forms}
+use Rattle.rhd_text.specs.Rows.{Meaning, From, Form, Table, CallForm, script_operands, as_script, definition, defined, by_name, by_path, call_form, planned, line_forms, step_forms}
 use Rattle.rhd_syntax.specs.Reading.{◌>>=◌, skip_blanks, is_end, word_at, name_at, wording_at, texts_at, flag_at, num_at, want_at, this_at, purity_at, value_at, value_kind_at, kinds_at, printer_at, argument_at, arguments_at}
 
 -- how each kind of operand is read
@@ -99,6 +99,10 @@ line_by read line = if not (is_utf8 line) then None else (if is_skipped line the
 -- what line n of a session text is
 abbrev pub line_of : ℕ → List ℕ → Option (Option Part)
 line_of n line = line_by (part_at (record { line = n })) line
+
+-- the definition of a script
+unfoldable pub scripted_at : List ℕ → Option ScriptFuncDef
+scripted_at bytes = operands_at script_operands as_script bytes
 
 -- the definition of a script in a module
 unfoldable pub definition_at : List ℕ → Option (ℕ × ScriptFuncDef)

@@ -240,12 +240,19 @@ abbrev pub raw_func : Bool → ℕ → Bool → Bool → Bool → RhaiFunc
 raw_func true n impure context volatile = funcs.Method (record { 0 = n }) context (not impure) volatile
 raw_func false n impure context volatile = funcs.Pure (record { 0 = n }) context (not impure) volatile
 
--- the operands of the definition of a script in a module, and what they are
+-- the operands of the definition of a script, and what they are
+abbrev pub script_operands : List Operand
+script_operands = WORD ∷ WORDS ∷ NUM ∷ THIS ∷ OPTIONAL (codes "private") ∷ []
+
+abbrev pub as_script : From script_operands (Option ScriptFuncDef)
+as_script f params n type private = Some (scripted f params n type private)
+
+-- the same of a script in a module
 abbrev pub definition : List Operand
-definition = NUM ∷ WORD ∷ WORDS ∷ NUM ∷ THIS ∷ OPTIONAL (codes "private") ∷ []
+definition = NUM ∷ script_operands
 
 abbrev pub defined : From definition (Option (ℕ × ScriptFuncDef))
-defined m f params n type private = Some (m, scripted f params n type private)
+defined m = from_then script_operands as_script (option_map (λ def. (m, def)))
 
 -- a line of such a definition
 abbrev pub defining : List ℕ → (ℕ → ScriptFuncDef → Command) → Form Part
@@ -325,6 +332,9 @@ form keywords.Global = record { spelling = codes "global"; operands = NUM ∷ []
 form keywords.Static = record { spelling = codes "static"; operands = WORD ∷ NUM ∷ []; part = λ place f m. Some (parts.Command (commands.StaticModule f (record { 0 = m }))) }
 form keywords.Import = record { spelling = codes "import"; operands = WORD ∷ NUM ∷ []; part = λ place f m. Some (parts.Command (commands.PushImport f (record { 0 = m }))) }
 form keywords.PopImport = record { spelling = codes "pop-import"; operands = []; part = λ place. Some (parts.Command commands.PopImport) }
+form keywords.Source = record { spelling = codes "source"; operands = WORD ∷ []; part = λ place text. Some (parts.Command (commands.SetSource (Some text))) }
+form keywords.NoSource = record { spelling = codes "no-source"; operands = []; part = λ place. Some (parts.Command (commands.SetSource None)) }
+form keywords.Tag = record { spelling = codes "tag"; operands = VALUE ∷ []; part = λ place t. Some (parts.Command (commands.SetTag t)) }
 form (keywords.Manifest w) = manifest_form w
 form (keywords.Join w) = join_form w
 form (keywords.Call w) = called w
@@ -336,7 +346,7 @@ all_keywords =
     ∷ keywords.Call words.CallNative ∷ keywords.Call words.RefNative ∷ keywords.Call words.MethodNative
     ∷ keywords.Call words.Qual ∷ keywords.Call words.QualRef
     ∷ keywords.Register ∷ keywords.RegisterRaw ∷ keywords.RegisterType ∷ keywords.Script ∷ keywords.Native ∷ keywords.Raw ∷ keywords.Module ∷ keywords.Lib ∷ keywords.PopLib
-    ∷ keywords.Import ∷ keywords.PopImport ∷ keywords.Global ∷ keywords.Static ∷ keywords.Index
+    ∷ keywords.Import ∷ keywords.PopImport ∷ keywords.Source ∷ keywords.NoSource ∷ keywords.Tag ∷ keywords.Global ∷ keywords.Static ∷ keywords.Index
     ∷ keywords.SetId ∷ keywords.SetDoc ∷ keywords.SetVar ∷ keywords.SetType ∷ keywords.Submodule ∷ keywords.Clear ∷ keywords.RawIter ∷ keywords.RawScript
     ∷ keywords.Count ∷ keywords.HasNative ∷ keywords.HasScript
     ∷ keywords.Manifest lists.FromManifest ∷ keywords.Manifest lists.CombineManifest ∷ keywords.Manifest lists.RegisterLazy

@@ -258,6 +258,38 @@ fn pop_import_at(bytes: &[u8], place: Place) -> Result<Part, Stop>
     Ok(Part::Command(Command::PopImport))
 }
 
+#[tactic(auto, unfolding(crate::specs::ReadRows::row_at))]
+fn source_at(alloc: Global, bytes: &[u8], place: Place) -> Result<Part, Stop>
+    ensures { Gives (λ x. x) result (row_at place (form keywords.Source) bytes.now) }
+{
+    let (source, rest) = wording_at(alloc, bytes)?;
+    if !is_end(rest) {
+        return Err(Stop::Bad);
+    }
+    Ok(Part::Command(Command::SetSource(Some(source))))
+}
+
+#[tactic(auto, unfolding(crate::specs::ReadRows::row_at))]
+fn no_source_at(bytes: &[u8], place: Place) -> Result<Part, Stop>
+    ensures { Gives (λ x. x) result (row_at place (form keywords.NoSource) bytes.now) }
+{
+    if !is_end(bytes) {
+        return Err(Stop::Bad);
+    }
+    Ok(Part::Command(Command::SetSource(None)))
+}
+
+#[tactic(auto, unfolding(crate::specs::ReadRows::row_at))]
+fn tag_at(alloc: Global, bytes: &[u8], place: Place) -> Result<Part, Stop>
+    ensures { Gives (λ x. x) result (row_at place (form keywords.Tag) bytes.now) }
+{
+    let (tag, rest) = value_at(alloc, bytes)?;
+    if !is_end(rest) {
+        return Err(Stop::Bad);
+    }
+    Ok(Part::Command(Command::SetTag(tag)))
+}
+
 /// The part of a line form, by what stands after its keyword.
 fn row_at(alloc: Global, keyword: Keyword, bytes: &[u8], place: Place) -> Result<Part, Stop>
     ensures { Gives (λ x. x) result (row_at place (form keyword) bytes.now) }
@@ -296,6 +328,9 @@ fn row_at(alloc: Global, keyword: Keyword, bytes: &[u8], place: Place) -> Result
         Keyword::Static => static_at(alloc, bytes, place),
         Keyword::Import => import_at(alloc, bytes, place),
         Keyword::PopImport => pop_import_at(bytes, place),
+        Keyword::Source => source_at(alloc, bytes, place),
+        Keyword::NoSource => no_source_at(bytes, place),
+        Keyword::Tag => tag_at(alloc, bytes, place),
         Keyword::Manifest(word) => manifest_row_at(alloc, bytes, place, word),
         Keyword::Join(word) => join_at(bytes, place, word),
         Keyword::Call(call) => call_at(alloc, bytes, place, call),

@@ -122,6 +122,9 @@ pub enum Keyword {
     Static,
     Import,
     PopImport,
+    Source,
+    NoSource,
+    Tag,
     Manifest(ManifestWord),
     Join(JoinWord),
     Call(CallWord),
@@ -165,6 +168,9 @@ impl Keyword {
             Keyword::Static => b"static",
             Keyword::Import => b"import",
             Keyword::PopImport => b"pop-import",
+            Keyword::Source => b"source",
+            Keyword::NoSource => b"no-source",
+            Keyword::Tag => b"tag",
             Keyword::Manifest(word) => word.spelling(),
             Keyword::Join(word) => word.spelling(),
             Keyword::Call(call) => call.spelling(),
@@ -216,7 +222,7 @@ fn keyword_in(keywords: &[Keyword], word: &[u8]) -> Option<Keyword>
 }
 
 /// All keywords, the more frequent ones first.
-const ALL: [Keyword; 53] = [
+const ALL: [Keyword; 56] = [
     Keyword::Call(CallWord::Call),
     Keyword::Call(CallWord::Ref),
     Keyword::Call(CallWord::Method),
@@ -236,6 +242,9 @@ const ALL: [Keyword; 53] = [
     Keyword::PopLib,
     Keyword::Import,
     Keyword::PopImport,
+    Keyword::Source,
+    Keyword::NoSource,
+    Keyword::Tag,
     Keyword::Global,
     Keyword::Static,
     Keyword::Index,

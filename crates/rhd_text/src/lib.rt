@@ -26,6 +26,10 @@ pub use laws::{
     paths_are_printed_as_they_are_written, printed_values_are_read_again, texts_say_one_thing,
     values_are_what_can_be_written,
 };
+pub use line::is_skipped;
+pub use lines::first_line;
+pub use module_forms::scripted_at;
+pub use place::Place;
 pub use reading::read_text;
 pub use rhd_print::{print_replies, print_reply, print_value, printed_trees_tell_every_call};
 pub use rhd_syntax::{

@@ -3,7 +3,7 @@
 ghost use Rattle.std.specs.Prelude.{◌≡◌};
 ghost use Rattle.rhd_text.specs.declared.keyword.Keyword.TheVariants as keywords;
 ghost use Rattle.rhd_text.specs.Rows.{form, access, found_in, registration, raw_func};
-ghost use Rattle.rhd_text.specs.ReadRows.{row_at, definition_at};
+ghost use Rattle.rhd_text.specs.ReadRows.{row_at, scripted_at, definition_at};
 ghost use Rattle.rhd_syntax.specs.Answers.{Gives};
 
 use crate::part::Part;
@@ -253,13 +253,13 @@ fn access(private: bool) -> FnAccess
     }
 }
 
-/// The number of a module, and the definition of a script in it, to the end of the line.
-#[tactic(auto, unfolding(crate::specs::ReadRows::definition_at))]
-fn definition_at(alloc: Global, bytes: &[u8]) -> Result<(ModuleId, ScriptFuncDef), Stop>
-    ensures { Gives (λ x. (x.0.0, x.1)) result (definition_at bytes.now) }
+/// The definition of a script, to the end of the line: its name, its parameters, the number of its body,
+/// the type of its object, and whether it is private.
+#[tactic(auto, unfolding(crate::specs::ReadRows::scripted_at))]
+pub fn scripted_at(alloc: Global, bytes: &[u8]) -> Result<ScriptFuncDef, Stop>
+    ensures { Gives (λ x. x) result (scripted_at bytes.now) }
 {
-    let (module, rest) = num_at(bytes)?;
-    let (name, rest) = wording_at(alloc, rest)?;
+    let (name, rest) = wording_at(alloc, bytes)?;
     let (params, rest) = texts_at(alloc, rest)?;
     let (body, rest) = num_at(rest)?;
     let (this_type, rest) = this_at(alloc, rest)?;
@@ -267,14 +267,22 @@ fn definition_at(alloc: Global, bytes: &[u8]) -> Result<(ModuleId, ScriptFuncDef
     if !is_end(rest) {
         return Err(Stop::Bad);
     }
-    let def = ScriptFuncDef {
+    Ok(ScriptFuncDef {
         name,
         params,
         this_type,
         access: access(private),
         body: BodyId(body),
-    };
-    Ok((ModuleId(module), def))
+    })
+}
+
+/// The number of a module, and the definition of a script in it, to the end of the line.
+#[tactic(auto, using(crate::proofs::PlanLaws::defined_row))]
+fn definition_at(alloc: Global, bytes: &[u8]) -> Result<(ModuleId, ScriptFuncDef), Stop>
+    ensures { Gives (λ x. (x.0.0, x.1)) result (definition_at bytes.now) }
+{
+    let (module, rest) = num_at(bytes)?;
+    Ok((ModuleId(module), scripted_at(alloc, rest)?))
 }
 
 #[tactic(auto, using(crate::proofs::PlanLaws::script_row))]
