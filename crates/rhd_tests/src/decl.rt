@@ -30,6 +30,9 @@ fn types_are_copied(rt: HostRuntime) {
     holds(&rt, dup.display_name == info.display_name, "dup");
     let clone = must(&rt, info.clone(), "memory");
     holds(&rt, clone.comments == info.comments, "clone");
+    drop(clone);
+    drop(dup);
+    drop(info);
 }
 
 /// Whether a type of this type name is shown as `N`.
@@ -79,6 +82,8 @@ fn types_are_collected(rt: HostRuntime) {
     holds(&rt, count == 5, "five types");
     types.clear();
     holds(&rt, types.get(&text(alloc, "a")).is_none(), "cleared");
+    drop(copy);
+    drop(types);
 }
 
 #[test]
@@ -98,6 +103,8 @@ fn flags_are_set(rt: HostRuntime) {
     holds(&rt, dup.is_indexed(), "indexed");
     made.set_internal(false);
     holds(&rt, !made.is_internal() && dup.is_internal(), "taken back");
+    drop(dup);
+    drop(made);
 }
 
 #[test]
@@ -144,6 +151,9 @@ fn declarations_are_copied(rt: HostRuntime) {
     );
     let dup = must(&rt, made.dup(alloc), "a declaration is copied");
     holds(&rt, dup.func.is_plugin_fn(), "a plugin");
+    drop(dup);
+    drop(metadata);
+    drop(made);
 }
 
 /// Whether a fault tells that keys of `f` and `g` clash.
@@ -156,6 +166,11 @@ fn is_collision(fault: &DeclFault) -> bool {
     }
 }
 
+/// Whether a fault is want of memory.
+fn is_memory(fault: &DeclFault) -> bool {
+    matches!(fault, DeclFault::OutOfMemory)
+}
+
 #[test]
 fn faults_are_made(rt: HostRuntime) {
     let alloc = rt.alloc();
@@ -164,25 +179,22 @@ fn faults_are_made(rt: HostRuntime) {
         new: script_key(alloc, "g"),
     };
     let fault = DeclFault::from(clash);
-    holds(&rt, is_collision(&fault), "a clash");
     let dup = must(&rt, fault.dup(alloc), "a fault is copied");
+    holds(&rt, is_collision(&fault), "a clash");
+    drop(fault);
     holds(&rt, is_collision(&dup), "the same clash");
-    let memory = DeclFault::from(OutOfMemory);
-    holds(
-        &rt,
-        matches!(memory, DeclFault::OutOfMemory),
-        "want of memory",
-    );
-    let memory = DeclFault::from(AllocError);
-    holds(
-        &rt,
-        matches!(memory, DeclFault::OutOfMemory),
-        "of the allocator",
-    );
-    let memory = DeclFault::from(AllocFailed { value: 1u8 });
-    holds(
-        &rt,
-        matches!(memory, DeclFault::OutOfMemory),
-        "with a value",
-    );
+    drop(dup);
+}
+
+#[test]
+fn memory_is_wanting(rt: HostRuntime) {
+    let fault = DeclFault::from(OutOfMemory);
+    holds(&rt, is_memory(&fault), "want of memory");
+    drop(fault);
+    let fault = DeclFault::from(AllocError);
+    holds(&rt, is_memory(&fault), "of the allocator");
+    drop(fault);
+    let fault = DeclFault::from(AllocFailed { value: 1u8 });
+    holds(&rt, is_memory(&fault), "with a value");
+    drop(fault);
 }

@@ -15,7 +15,7 @@ use std::process::Abort;
 fn sums(rt: &impl Abort, alloc: Global) -> Builtins {
     let mut builtins = Builtins::new(alloc);
     let set = builtins.set(alloc, OpToken::Plus, TypeTag::Int, TypeTag::Int, FnId(7));
-    holds(rt, set.is_ok(), "a built-in function");
+    must(rt, set, "a built-in function");
     builtins
 }
 
@@ -62,6 +62,8 @@ fn builtins_are_set(rt: HostRuntime) {
     let none = dup.get(OpToken::Minus, TypeTag::Int, TypeTag::Int);
     holds(&rt, none.is_none(), "no other");
     holds(&rt, !dup.fits(&Natives::new(alloc)), "without its native");
+    drop(dup);
+    drop(builtins);
 }
 
 /// How many functions the first module has.
@@ -75,7 +77,7 @@ fn count(modules: &[SharedModule]) -> u64 {
 /// A module of this id.
 fn with_id(rt: &impl Abort, alloc: Global, id: &str) -> SharedModule {
     let mut made = shared(rt, alloc, SEEDS);
-    holds(rt, made.set_id(alloc, text(alloc, id)).is_ok(), "an id");
+    must(rt, made.set_id(alloc, text(alloc, id)), "an id");
     made
 }
 
@@ -93,61 +95,109 @@ fn has_ids(list: &ModuleList, ids: &[&str]) -> bool {
     ids.next().is_none()
 }
 
+/// A list of three modules.
+fn three(rt: &impl Abort, alloc: Global) -> ModuleList {
+    let mut list = ModuleList::new(alloc);
+    must(rt, list.push(with_id(rt, alloc, "b")), "push");
+    must(rt, list.insert_second(with_id(rt, alloc, "c")), "second");
+    must(rt, list.insert(0, with_id(rt, alloc, "a")), "insert");
+    list
+}
+
+/// Whether there is a module with this id.
+fn is_named(shared: Option<SharedModule>, id: &str) -> bool {
+    match shared {
+        Some(shared) => has_id(shared.module(), id),
+        None => false,
+    }
+}
+
 #[test]
 fn lists_are_filled(rt: HostRuntime) {
     let alloc = rt.alloc();
-    let mut list = ModuleList::new(alloc);
-    holds(&rt, list.push(with_id(&rt, alloc, "b")).is_ok(), "push");
-    let put = list.insert_second(with_id(&rt, alloc, "c"));
-    holds(&rt, put.is_ok(), "insert_second");
-    let put = list.insert(0, with_id(&rt, alloc, "a"));
-    holds(&rt, put.is_ok() && list.len() == 3, "insert");
+    let list = three(&rt, alloc);
+    holds(&rt, has_ids(&list, &["a", "b", "c"]), "in order");
+    drop(list);
+}
+
+#[test]
+fn lists_are_copied(rt: HostRuntime) {
+    let alloc = rt.alloc();
+    let list = three(&rt, alloc);
     let mut dup = must(&rt, list.dup(alloc), "a list is copied");
-    holds(&rt, has_ids(&dup, &["a", "b", "c"]), "in order");
-    let last = match dup.pop() {
-        Some(last) => has_id(last.module(), "c"),
-        None => false,
-    };
-    holds(&rt, last && list.len() == 3, "pop");
+    holds(&rt, is_named(dup.pop(), "c"), "pop");
+    holds(&rt, has_ids(&dup, &["a", "b"]), "the others");
+    holds(&rt, list.len() == 3, "the list itself stays");
+    drop(dup);
+    drop(list);
+}
+
+/// A list of an import `a`.
+fn imports(rt: &impl Abort, alloc: Global) -> ImportList {
+    let mut list = ImportList::new(alloc);
+    let put = list.push(text(alloc, "a"), shared(rt, alloc, SEEDS));
+    must(rt, put, "push");
+    list
 }
 
 #[test]
 fn imports_are_listed(rt: HostRuntime) {
     let alloc = rt.alloc();
-    let mut list = ImportList::new(alloc);
-    let put = list.push(text(alloc, "a"), shared(&rt, alloc, SEEDS));
-    holds(&rt, put.is_ok() && list.len() == 1, "push");
-    let mut dup = must(&rt, list.dup(alloc), "a list is copied");
-    holds(&rt, dup.find(&text(alloc, "a")).is_some(), "find");
-    holds(&rt, dup.find(&text(alloc, "b")).is_none(), "no other");
-    for (name, _shared) in dup.as_slice() {
+    let list = imports(&rt, alloc);
+    holds(&rt, list.len() == 1, "one");
+    holds(&rt, list.find(&text(alloc, "a")).is_some(), "find");
+    holds(&rt, list.find(&text(alloc, "b")).is_none(), "no other");
+    for (name, _shared) in list.as_slice() {
         holds(&rt, name.as_str() == "a", "as_slice");
     }
-    holds(&rt, dup.pop().is_some() && dup.len() == 0, "pop");
+    drop(list);
+}
+
+#[test]
+fn imports_are_copied(rt: HostRuntime) {
+    let alloc = rt.alloc();
+    let list = imports(&rt, alloc);
+    let mut dup = must(&rt, list.dup(alloc), "a list is copied");
+    drop(dup.pop());
+    holds(&rt, dup.len() == 0, "pop");
+    holds(&rt, list.len() == 1, "the list itself stays");
+    drop(dup);
+    drop(list);
+}
+
+/// A state with a library and an import `a`.
+fn state(rt: &impl Abort, alloc: Global) -> GlobalRuntimeState {
+    let mut state = GlobalRuntimeState::new(alloc);
+    must(rt, state.push_lib(shared(rt, alloc, SEEDS)), "push_lib");
+    let put = state.push_import(text(alloc, "a"), shared(rt, alloc, SEEDS));
+    must(rt, put, "push_import");
+    state
 }
 
 #[test]
 fn states_have_modules(rt: HostRuntime) {
     let alloc = rt.alloc();
-    let mut state = GlobalRuntimeState::new(alloc);
-    holds(&rt, state.level == 0 && state.source.is_none(), "new");
-    let put = state.push_lib(shared(&rt, alloc, SEEDS));
-    holds(&rt, put.is_ok(), "push_lib");
-    let put = state.push_import(text(alloc, "a"), shared(&rt, alloc, SEEDS));
-    holds(&rt, put.is_ok(), "push_import");
+    let state = state(&rt, alloc);
+    holds(&rt, state.level == 0, "new");
+    holds(&rt, state.source.is_none(), "of no source");
+    let found = state.find_import(&text(alloc, "a")).is_some();
+    holds(&rt, found, "find_import");
+    drop(state);
+}
+
+#[test]
+fn states_are_copied(rt: HostRuntime) {
+    let alloc = rt.alloc();
+    let state = state(&rt, alloc);
     let mut dup = must(&rt, state.dup(alloc), "a state is copied");
-    holds(
-        &rt,
-        dup.find_import(&text(alloc, "a")).is_some(),
-        "find_import",
-    );
-    holds(&rt, dup.pop_import().is_some(), "pop_import");
-    holds(
-        &rt,
-        dup.pop_lib().is_some() && dup.lib.len() == 0,
-        "pop_lib",
-    );
+    drop(dup.pop_import());
+    drop(dup.pop_lib());
+    holds(&rt, dup.lib.len() == 0, "pop_lib");
+    let found = dup.find_import(&text(alloc, "a")).is_some();
+    holds(&rt, !found, "pop_import");
     holds(&rt, state.lib.len() == 1, "the other stays");
+    drop(dup);
+    drop(state);
 }
 
 /// Whether a module has this id; an empty one stands for none.
@@ -180,7 +230,7 @@ fn has(statics: &ModuleMap, outer: &Text, inner: &Text) -> bool {
 fn place(rt: &impl Abort, alloc: Global, statics: &mut ModuleMap, name: &str) {
     let added = shared(rt, alloc, SEEDS);
     let put = statics.register_static(alloc, SEEDS, text(alloc, name), added);
-    holds(rt, put.is_ok(), "register_static");
+    must(rt, put, "register_static");
 }
 
 #[test]
@@ -189,16 +239,22 @@ fn statics_are_placed(rt: HostRuntime) {
     let mut statics = ModuleMap::new(alloc);
     place(&rt, alloc, &mut statics, "a :: b");
     place(&rt, alloc, &mut statics, "a::");
-    place(&rt, alloc, &mut statics, " c ");
     let outer = text(alloc, "a");
     holds(&rt, has(&statics, &outer, &text(alloc, "b")), "below");
-    holds(
-        &rt,
-        has(&statics, &outer, &text(alloc, "")),
-        "an empty part",
-    );
-    let plain = statics.get(&text(alloc, " c ")).is_some();
-    holds(&rt, plain && statics.len() == 2, "a name as it is");
+    let empty = text(alloc, "");
+    holds(&rt, has(&statics, &outer, &empty), "an empty part");
+    holds(&rt, statics.len() == 1, "one module above both");
+    drop(statics);
+}
+
+#[test]
+fn statics_keep_their_names(rt: HostRuntime) {
+    let alloc = rt.alloc();
+    let mut statics = ModuleMap::new(alloc);
+    place(&rt, alloc, &mut statics, " c ");
+    let name = text(alloc, " c ");
+    holds(&rt, statics.get(&name).is_some(), "a name as it is");
+    drop(statics);
 }
 
 #[test]
@@ -206,10 +262,12 @@ fn statics_are_put(rt: HostRuntime) {
     let alloc = rt.alloc();
     let mut statics = ModuleMap::new(alloc);
     let put = statics.insert(text(alloc, "a"), shared(&rt, alloc, SEEDS));
-    holds(&rt, put.is_ok(), "insert");
+    must(&rt, put, "insert");
     let dup = must(&rt, statics.dup(alloc), "a map is copied");
+    holds(&rt, dup.len() == 1, "one module");
     for (name, _shared) in dup.iter() {
         holds(&rt, name.as_str() == "a", "iter");
     }
-    holds(&rt, dup.len() == 1, "one module");
+    drop(dup);
+    drop(statics);
 }

@@ -107,6 +107,22 @@ pub fn native_key(alloc: Global, word: &str, tag: TypeTag) -> Key {
     }
 }
 
+/// Whether two keys are equal. Both are dropped.
+pub fn are_equal(key: Key, other: Key) -> bool {
+    let equal = key == other;
+    drop(key);
+    drop(other);
+    equal
+}
+
+/// The hash of the key of a script without parameters.
+pub fn script_hash(alloc: Global, word: &str) -> u64 {
+    let key = script_key(alloc, word);
+    let hash = key.mixed(SEEDS);
+    drop(key);
+    hash
+}
+
 /// A script that takes nothing.
 pub fn script(alloc: Global, word: &str) -> ScriptFuncDef
     ensures object { result.this_type ≡ None }

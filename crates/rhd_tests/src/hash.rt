@@ -133,18 +133,24 @@ fn keys_are_read(rt: HostRuntime) {
         "of f",
     );
     let name = is_text(key.native_name(), "f");
-    holds(&rt, name && !key.is_script() && !key.is_typed(), "a native");
+    holds(&rt, name && !key.has_dynamic(), "a native of no other type");
+    holds(&rt, !key.is_script() && !key.is_typed(), "and no script");
     let f = text(alloc, "f");
     holds(&rt, key.matches(0, &f, &[TypeTag::Int]), "matches");
     holds(&rt, !key.matches(0, &f, &[TypeTag::Bool]), "no other kind");
+    drop(key);
+}
+
+#[test]
+fn keys_are_told_apart(rt: HostRuntime) {
+    let alloc = rt.alloc();
     let any = native_key(alloc, "f", TypeTag::Dynamic);
-    holds(&rt, any.has_dynamic() && !key.has_dynamic(), "of any type");
+    holds(&rt, any.has_dynamic(), "of any type");
+    drop(any);
     let script = script_key(alloc, "f");
-    holds(
-        &rt,
-        script.is_script() && script.native_name().is_none(),
-        "a script",
-    );
+    holds(&rt, script.is_script(), "a script");
+    holds(&rt, script.native_name().is_none(), "and no native");
+    drop(script);
 }
 
 #[test]
@@ -152,11 +158,16 @@ fn keys_are_copied(rt: HostRuntime) {
     let alloc = rt.alloc();
     let key = script_key(alloc, "f");
     let dup = must(&rt, key.dup(alloc), "a key is copied");
-    holds(&rt, dup == key && hash_of(&dup) == hash_of(&key), "equal");
+    holds(&rt, dup == key, "equal");
+    holds(&rt, hash_of(&dup) == hash_of(&key), "of one hash");
+    drop(dup);
     let pathed = must(&rt, key.dup_at(alloc, &path(alloc)), "with a path");
     holds(&rt, pathed != key, "another");
+    drop(pathed);
     let other = script_key(alloc, "g");
     holds(&rt, hash_of(&other) != hash_of(&key), "of another hash");
+    drop(other);
+    drop(key);
 }
 
 /// What a pair that goes in takes the place of, if it goes in at all.
@@ -179,6 +190,7 @@ fn tables_are_filled(rt: HostRuntime) {
         again == Some(Some(1)) && table.len() == 2,
         "an equal key",
     );
+    drop(table);
 }
 
 /// Whether a pair is 3 under this key.
@@ -205,6 +217,8 @@ fn tables_are_read(rt: HostRuntime) {
     }
     table.truncate(0);
     holds(&rt, table.get(&key).is_none(), "cut off");
+    drop(key);
+    drop(table);
 }
 
 /// Whether a fault tells of a key without parameters, and of another of one.
@@ -215,20 +229,41 @@ fn is_clash(fault: &TableFault) -> bool {
     }
 }
 
+/// Why a pair isn't put in. Stops the test where it is.
+fn refused(rt: &impl Abort, put: Result<Option<u32>, TableFault>) -> TableFault {
+    match put {
+        Ok(_) => panic!(rt; "a key that clashes"),
+        Err(fault) => fault,
+    }
+}
+
 #[test]
 fn clashing_keys_are_refused(rt: HostRuntime) {
     let alloc = rt.alloc();
     let mut clashing = KeyTable::<u32>::new(alloc, CLASHING);
     let first = put(&mut clashing, script_key(alloc, "f"), 1);
     holds(&rt, first == Some(None), "a first pair");
-    let Err(fault) = clashing.insert(native(alloc), 0) else {
-        panic!(&rt; "a key that clashes");
+    let fault = refused(&rt, clashing.insert(native(alloc), 0));
+    holds(&rt, is_clash(&fault), "a clash");
+    drop(fault);
+    holds(&rt, clashing.len() == 1, "refused");
+    drop(clashing);
+}
+
+#[test]
+fn faults_are_copied(rt: HostRuntime) {
+    let alloc = rt.alloc();
+    let fault = TableFault::Clash {
+        held: script_key(alloc, "f"),
+        new: native(alloc),
     };
-    holds(&rt, is_clash(&fault) && clashing.len() == 1, "refused");
     let dup = must(&rt, fault.dup(alloc), "a fault is copied");
     holds(&rt, is_clash(&dup), "the same fault");
+    drop(dup);
+    drop(fault);
     let memory = TableFault::from(OutOfMemory);
     holds(&rt, !is_clash(&memory), "want of memory");
+    drop(memory);
 }
 
 #[test]
@@ -254,6 +289,8 @@ fn hashes_are_at_hand(rt: HostRuntime) {
         name.params() == 0 && hash == key.untyped(SEEDS),
         "a name",
     );
+    drop(key);
+    drop(table);
 }
 
 #[test]

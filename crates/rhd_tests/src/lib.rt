@@ -3,11 +3,15 @@
 #![tactic(auto)]
 
 #[cfg(test)]
+mod algebra;
+#[cfg(test)]
 mod decl;
 #[cfg(test)]
 mod dispatch;
 #[cfg(test)]
 mod engine;
+#[cfg(test)]
+mod file_resolver;
 #[cfg(test)]
 mod files;
 #[cfg(test)]

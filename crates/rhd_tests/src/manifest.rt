@@ -80,11 +80,11 @@ fn push_native(rt: &impl Abort, alloc: Global, natives: &mut Natives, types: Typ
     assert!(rt; natives.len() < 10, "a few natives");
     let made = must(rt, Box::new(alloc, Nought { types }), "a native");
     let native: Box<dyn PluginFunc> = made;
-    holds(rt, natives.push(alloc, native).is_ok(), "a native more");
+    must(rt, natives.push(alloc, native), "a native more");
 }
 
 /// Two natives of an integer, and one of two.
-fn natives(rt: &impl Abort, alloc: Global) -> Natives {
+pub fn natives(rt: &impl Abort, alloc: Global) -> Natives {
     let mut natives = Natives::new(alloc);
     push_native(rt, alloc, &mut natives, types(alloc, TypeTag::Int));
     push_native(rt, alloc, &mut natives, types(alloc, TypeTag::Int));
@@ -118,9 +118,10 @@ fn list(
         );
         let (name, namespace) = (text(alloc, word), FnNamespace::Internal);
         let put = manifests.push_entry(alloc, &natives, id, name, namespace, FnId(*func));
-        holds(rt, put.is_ok(), "listed");
+        must(rt, put, "listed");
     }
     holds(rt, manifests.fits(&natives), "each fits its native");
+    drop(natives);
 }
 
 /// A manifest gets the sub-manifest `s`.
@@ -130,17 +131,17 @@ fn nest(rt: &impl Abort, alloc: Global, manifests: &mut Manifests, id: ManifestI
         "of a lower number"
     );
     let put = manifests.push_sub(alloc, id, text(alloc, "s"), s);
-    holds(rt, put.is_ok(), "below it");
+    must(rt, put, "below it");
 }
 
 /// A manifest gets the variable `x`, and shows integers as `int`.
 fn describe(rt: &impl Abort, alloc: Global, manifests: &mut Manifests, id: ManifestId) {
     assert!(rt; (id.0 as usize) < manifests.len(), "it is held");
     let var = manifests.push_var(alloc, id, text(alloc, "x"), int(1));
-    holds(rt, var.is_ok(), "a variable");
+    must(rt, var, "a variable");
     assert!(rt; (id.0 as usize) < manifests.len(), "it is held still");
     let shown = manifests.push_type(alloc, id, text(alloc, "i64"), text(alloc, "int"));
-    holds(rt, shown.is_ok(), "a custom type");
+    must(rt, shown, "a custom type");
 }
 
 /// Two manifests: the second lists `f` once, and has below it the first, which lists it twice.
@@ -192,23 +193,37 @@ fn finds(alloc: Global, module: &Module, number: u32) -> bool {
     let key = f(alloc);
     let mut steps = Steps::new();
     let found = is_native(module.get_fn(&key, &mut steps), number);
-    found && steps.count() == 1 && module.contains_fn(&key)
+    let contains = module.contains_fn(&key);
+    drop(key);
+    found && contains && steps.count() == 1
 }
 
 /// A module that lists the second manifest, flattened or not.
 fn listing(rt: &impl Abort, alloc: Global, flatten: bool) -> Module {
     let mut module = empty(rt, alloc, SEEDS);
-    let added = module.add_manifest(alloc, &two(rt, alloc), HIGH, flatten);
-    holds(rt, added.is_ok(), "a manifest is added");
+    let manifests = two(rt, alloc);
+    let added = module.add_manifest(alloc, &manifests, HIGH, flatten);
+    must(rt, added, "a manifest is added");
+    drop(manifests);
     module
 }
 
 #[test]
 fn manifests_are_read(rt: HostRuntime) {
     let alloc = rt.alloc();
-    let manifests = must(&rt, two(&rt, alloc).dup(alloc), "a copy");
+    let two = two(&rt, alloc);
+    let manifests = must(&rt, two.dup(alloc), "a copy");
+    drop(two);
     let manifest = held(&rt, &manifests, HIGH);
     holds(&rt, manifest.sub_modules().len() == 1, "one below");
+    holds(&rt, manifests.get(ManifestId(2)).is_none(), "no third");
+    drop(manifests);
+}
+
+#[test]
+fn contents_are_read(rt: HostRuntime) {
+    let manifests = two(&rt, rt.alloc());
+    let manifest = held(&rt, &manifests, HIGH);
     for (name, value) in manifest.vars() {
         let same = name.as_str() == "x" && is_int(Some(value), 1);
         holds(&rt, same, "its variable");
@@ -217,7 +232,17 @@ fn manifests_are_read(rt: HostRuntime) {
         let same = name.as_str() == "i64" && display.as_str() == "int";
         holds(&rt, same, "its type");
     }
-    holds(&rt, manifests.get(ManifestId(2)).is_none(), "no third");
+    drop(manifests);
+}
+
+/// An entry is `f`, and takes a parameter by value.
+fn check_entry(rt: &impl Abort, entry: &FnManifestEntry) {
+    holds(rt, entry.name().as_str() == "f", "its name");
+    holds(rt, entry.func() == FnId(1), "its native");
+    holds(rt, entry.num_params() == 1, "its parameters");
+    holds(rt, !entry.is_method(), "by value");
+    let hash = entry.calc_dynamic_hash(SEEDS);
+    holds(rt, hash.is_none(), "no parameter is any");
 }
 
 #[test]
@@ -225,22 +250,13 @@ fn entries_are_read(rt: HostRuntime) {
     let alloc = rt.alloc();
     let manifests = two(&rt, alloc);
     let entry = first(&rt, held(&rt, &manifests, HIGH));
-    holds(&rt, entry.name().as_str() == "f", "its name");
-    holds(&rt, entry.func() == FnId(1), "its native");
-    holds(
-        &rt,
-        entry.num_params() == 1 && !entry.is_method(),
-        "its parameters",
-    );
-    holds(&rt, *entry.key() == f(alloc), "its key");
+    check_entry(&rt, entry);
     let key = f(alloc);
+    holds(&rt, *entry.key() == key, "its key");
     let hash = HashedKey::new(&key, SEEDS).hash_under(SEEDS);
+    drop(key);
     holds(&rt, entry.calc_hash(SEEDS, &[]) == hash, "its hash");
-    holds(
-        &rt,
-        entry.calc_dynamic_hash(SEEDS).is_none(),
-        "no parameter is any",
-    );
+    drop(manifests);
 }
 
 #[test]
@@ -251,80 +267,120 @@ fn a_flattened_manifest_goes_before(rt: HostRuntime) {
     holds(&rt, module.count().1 == 0, "none is declared");
     let dup = must(&rt, module.dup(alloc), "a copy");
     holds(&rt, finds(alloc, &dup, 0), "as it does");
+    drop(dup);
+    drop(module);
+}
+
+/// An indexed module that lists the second manifest.
+fn indexed(rt: &impl Abort, alloc: Global) -> Module {
+    let mut module = listing(rt, alloc, false);
+    must(rt, module.build_index(alloc), "indexed");
+    module
 }
 
 #[test]
 fn a_manifest_below_has_a_path(rt: HostRuntime) {
     let alloc = rt.alloc();
-    let mut module = listing(&rt, alloc, false);
+    let module = indexed(&rt, alloc);
     holds(&rt, finds(alloc, &module, 1), "its own");
-    holds(&rt, module.build_index(alloc).is_ok(), "indexed");
     assert!(&rt; module.is_indexed(), "indexed");
-    let pathed = must(&rt, f(alloc).dup_at(alloc, &Texts::new(alloc)), "a key");
+    let key = f(alloc);
+    let pathed = key.dup_at(alloc, &Texts::new(alloc));
+    drop(key);
+    let pathed = must(&rt, pathed, "a key");
     let mut steps = Steps::new();
     let func = module.get_qualified_fn(&pathed, &mut steps);
     holds(&rt, is_native(func, 1), "under its path");
+    drop(pathed);
+    drop(module);
+}
+
+/// A module that lists natives, and declares another one.
+fn declaring(rt: &impl Abort, alloc: Global) -> Module {
+    let mut module = listing(rt, alloc, false);
+    let natives = natives(rt, alloc);
+    let set = module.set_native_fn(alloc, &natives, text(alloc, "f"), FnId(0));
+    must(rt, set, "declared");
+    drop(natives);
+    module
 }
 
 #[test]
 fn a_declaration_goes_before_what_is_listed(rt: HostRuntime) {
     let alloc = rt.alloc();
-    let mut module = listing(&rt, alloc, false);
-    let set = module.set_native_fn(alloc, &natives(&rt, alloc), text(alloc, "f"), FnId(0));
-    holds(&rt, set.is_ok() && finds(alloc, &module, 0), "declared");
+    let mut module = declaring(&rt, alloc);
+    holds(&rt, finds(alloc, &module, 0), "what is declared");
     holds(&rt, module.iter_manifests().len() == 1, "listed besides");
-    holds(&rt, module.register_listed(alloc).is_ok(), "registered");
+    must(&rt, module.register_listed(alloc), "registered");
     holds(&rt, finds(alloc, &module, 0), "as before");
-    let none = module.iter_manifests().is_empty();
-    holds(&rt, none && module.count().1 == 1, "in one place");
+    holds(&rt, module.iter_manifests().is_empty(), "none is listed");
+    holds(&rt, module.count().1 == 1, "in one place");
+    drop(module);
+}
+
+/// The module of the second manifest.
+fn made(rt: &impl Abort, alloc: Global) -> Module {
+    let manifests = two(rt, alloc);
+    let made = Module::from_manifest(alloc, &manifests, SEEDS, HIGH);
+    drop(manifests);
+    must(rt, made, "a module")
 }
 
 #[test]
 fn a_module_is_made_of_a_manifest(rt: HostRuntime) {
     let alloc = rt.alloc();
-    let manifests = two(&rt, alloc);
-    let mut module = must(
-        &rt,
-        Module::from_manifest(alloc, &manifests, SEEDS, HIGH),
-        "made",
-    );
-    holds(
-        &rt,
-        finds(alloc, &module, 1) && module.count().0 == 1,
-        "its own",
-    );
+    let mut module = made(&rt, alloc);
+    holds(&rt, finds(alloc, &module, 1), "its own");
+    holds(&rt, module.count().0 == 1, "its variable");
     holds(&rt, module.has_lazy_functions(), "it lists something");
-    holds(
-        &rt,
-        module.register_lazy_functions(alloc).is_ok(),
-        "registered",
-    );
+    must(&rt, module.register_lazy_functions(alloc), "registered");
     holds(&rt, !module.has_lazy_functions(), "no more");
     holds(&rt, finds(alloc, &module, 1), "as before");
+    drop(module);
+}
+
+#[test]
+fn a_manifest_is_combined(rt: HostRuntime) {
+    let alloc = rt.alloc();
+    let mut module = empty(&rt, alloc, SEEDS);
+    let manifests = two(&rt, alloc);
     let combined = module.combine_manifest(alloc, &manifests, HIGH);
-    holds(
-        &rt,
-        combined.is_ok() && module.has_lazy_functions(),
-        "listed again",
-    );
+    must(&rt, combined, "combined");
+    holds(&rt, finds(alloc, &module, 0), "flattened");
+    drop(module);
+    drop(manifests);
+}
+
+/// Two manifests: the first lists a banned indexer, and is below the second.
+fn banned(rt: &impl Abort, alloc: Global) -> Manifests {
+    let mut manifests = Manifests::new(alloc);
+    let low = push(rt, alloc, &mut manifests);
+    list(rt, alloc, &mut manifests, low, "index$get$", &[2]);
+    let high = push(rt, alloc, &mut manifests);
+    nest(rt, alloc, &mut manifests, high, low);
+    manifests
+}
+
+/// Whether an indexer is banned, so that a call did nothing.
+fn is_banned<T: Drop>(done: Result<T, DeclFault>) -> bool {
+    let banned = matches!(&done, Err(DeclFault::IndexerNotAllowed { .. }));
+    drop(done);
+    banned
 }
 
 #[test]
 fn a_banned_indexer_is_refused(rt: HostRuntime) {
     let alloc = rt.alloc();
-    let mut manifests = Manifests::new(alloc);
-    let low = push(&rt, alloc, &mut manifests);
-    list(&rt, alloc, &mut manifests, low, "index$get$", &[2]);
-    let high = push(&rt, alloc, &mut manifests);
-    nest(&rt, alloc, &mut manifests, high, low);
+    let manifests = banned(&rt, alloc);
     let mut module = empty(&rt, alloc, SEEDS);
-    let added = module.add_manifest(alloc, &manifests, high, false);
-    let banned = matches!(added, Err(DeclFault::IndexerNotAllowed { .. }));
-    holds(&rt, banned && module.is_empty(), "it stays as it was");
-    let entry = first(&rt, held(&rt, &manifests, low));
+    let added = module.add_manifest(alloc, &manifests, HIGH, false);
+    holds(&rt, is_banned(added), "below");
+    let entry = first(&rt, held(&rt, &manifests, ManifestId(0)));
     let put = entry.register_into(alloc, &mut module);
-    let banned = matches!(put, Err(DeclFault::IndexerNotAllowed { .. }));
-    holds(&rt, banned, "not by itself either");
+    holds(&rt, is_banned(put), "not by itself either");
+    holds(&rt, module.is_empty(), "it stays as it was");
+    drop(module);
+    drop(manifests);
 }
 
 #[test]
@@ -333,16 +389,11 @@ fn a_manifest_is_put_in_by_itself(rt: HostRuntime) {
     let manifests = two(&rt, alloc);
     let manifest = held(&rt, &manifests, HIGH);
     let mut module = empty(&rt, alloc, SEEDS);
-    holds(
-        &rt,
-        manifest.init_eager(alloc, &mut module).is_ok(),
-        "its contents",
-    );
+    must(&rt, manifest.init_eager(alloc, &mut module), "its contents");
     holds(&rt, module.count() == (1, 0, 0), "one variable");
     let put = first(&rt, manifest).register_into(alloc, &mut module);
-    holds(
-        &rt,
-        put.is_ok() && finds(alloc, &module, 1),
-        "and a function",
-    );
+    must(&rt, put, "a function");
+    holds(&rt, finds(alloc, &module, 1), "and a function");
+    drop(module);
+    drop(manifests);
 }
