@@ -21,4 +21,4 @@ pub use natives::Natives;
 pub use request::{
     CallDone, CallRequest, CallShape, Carry, HostAnswer, NativeCallContext, NativeStep,
 };
-pub use shared_text::SharedText;
+pub use shared_text::{SharedText, share};

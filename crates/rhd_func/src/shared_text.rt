@@ -45,3 +45,13 @@ impl SharedText {
         })
     }
 }
+
+/// One more owner of a text, if there is one.
+pub fn share(alloc: Global, text: &Option<SharedText>) -> Result<Option<SharedText>, OutOfMemory>
+    ensures { IfOk result (λ shared. shared ≡ text.now) }
+{
+    match text {
+        Some(text) => Ok(Some(text.dup(alloc)?)),
+        None => Ok(None),
+    }
+}

@@ -1,4 +1,4 @@
--- Faults as plain data, one constructor for each number: what stands inside another fault.
+-- Faults as plain data, one constructor for each number.
 use Rattle.std.specs.Prelude.{ℕ, ◌+◌}
 use Rattle.std.specs.Coded.{Coded}
 use Rattle.std.proofs.Common.{◌≡◌, ap, arith}

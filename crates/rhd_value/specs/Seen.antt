@@ -3,6 +3,7 @@ use Rattle.rhd_value.specs.declared.fault.EvalAltResult.{EvalAltResult}
 use Rattle.rhd_value.specs.declared.fault.EvalAltResult.TheVariants as faults
 use Rattle.rhd_value.specs.Fault.{Fault, function_not_found, dot_expr, indexing_type, parsing, non_pure, data_race, mismatch_output, mismatch_data, too_many_operations, stack_overflow, data_too_large, module_not_found, in_module, runtime}
 
+-- a fault as contracts see it inside another one
 abbrev pub fault_seen : EvalAltResult → Fault
 fault_seen (faults.ErrorFunctionNotFound a b) = function_not_found a b
 fault_seen (faults.ErrorDotExpr a b) = dot_expr a b

@@ -96,49 +96,47 @@ impl EvalAltResult {
     pub fn dup(&self, alloc: Global) -> Result<EvalAltResult, OutOfMemory>
         ensures { IfOk result (λ fault. fault ≡ self.now) }
     {
-        match self {
-            EvalAltResult::ErrorFunctionNotFound(signature, pos) => Ok(
-                EvalAltResult::ErrorFunctionNotFound(signature.dup(alloc)?, *pos),
-            ),
+        Ok(match self {
+            EvalAltResult::ErrorFunctionNotFound(text, pos) => {
+                EvalAltResult::ErrorFunctionNotFound(text.dup(alloc)?, *pos)
+            }
             EvalAltResult::ErrorDotExpr(text, pos) => {
-                Ok(EvalAltResult::ErrorDotExpr(text.dup(alloc)?, *pos))
+                EvalAltResult::ErrorDotExpr(text.dup(alloc)?, *pos)
             }
             EvalAltResult::ErrorIndexingType(text, pos) => {
-                Ok(EvalAltResult::ErrorIndexingType(text.dup(alloc)?, *pos))
+                EvalAltResult::ErrorIndexingType(text.dup(alloc)?, *pos)
             }
             EvalAltResult::ErrorParsing(error, pos) => {
-                Ok(EvalAltResult::ErrorParsing(error.dup(alloc)?, *pos))
+                EvalAltResult::ErrorParsing(error.dup(alloc)?, *pos)
             }
-            EvalAltResult::ErrorNonPureMethodCallOnConstant(name, pos) => Ok(
-                EvalAltResult::ErrorNonPureMethodCallOnConstant(name.dup(alloc)?, *pos),
-            ),
+            EvalAltResult::ErrorNonPureMethodCallOnConstant(text, pos) => {
+                EvalAltResult::ErrorNonPureMethodCallOnConstant(text.dup(alloc)?, *pos)
+            }
             EvalAltResult::ErrorDataRace(text, pos) => {
-                Ok(EvalAltResult::ErrorDataRace(text.dup(alloc)?, *pos))
+                EvalAltResult::ErrorDataRace(text.dup(alloc)?, *pos)
             }
-            EvalAltResult::ErrorMismatchOutputType(wanted, got, pos) => Ok(
-                EvalAltResult::ErrorMismatchOutputType(wanted.dup(alloc)?, got.dup(alloc)?, *pos),
-            ),
-            EvalAltResult::ErrorMismatchDataType(wanted, got, pos) => Ok(
-                EvalAltResult::ErrorMismatchDataType(wanted.dup(alloc)?, got.dup(alloc)?, *pos),
-            ),
+            EvalAltResult::ErrorMismatchOutputType(wanted, got, pos) => {
+                EvalAltResult::ErrorMismatchOutputType(wanted.dup(alloc)?, got.dup(alloc)?, *pos)
+            }
+            EvalAltResult::ErrorMismatchDataType(wanted, got, pos) => {
+                EvalAltResult::ErrorMismatchDataType(wanted.dup(alloc)?, got.dup(alloc)?, *pos)
+            }
             EvalAltResult::ErrorTooManyOperations(pos) => {
-                Ok(EvalAltResult::ErrorTooManyOperations(*pos))
+                EvalAltResult::ErrorTooManyOperations(*pos)
             }
-            EvalAltResult::ErrorStackOverflow(pos) => Ok(EvalAltResult::ErrorStackOverflow(*pos)),
+            EvalAltResult::ErrorStackOverflow(pos) => EvalAltResult::ErrorStackOverflow(*pos),
             EvalAltResult::ErrorDataTooLarge(text, pos) => {
-                Ok(EvalAltResult::ErrorDataTooLarge(text.dup(alloc)?, *pos))
+                EvalAltResult::ErrorDataTooLarge(text.dup(alloc)?, *pos)
             }
-            EvalAltResult::ErrorModuleNotFound(path, pos) => {
-                Ok(EvalAltResult::ErrorModuleNotFound(path.dup(alloc)?, *pos))
+            EvalAltResult::ErrorModuleNotFound(text, pos) => {
+                EvalAltResult::ErrorModuleNotFound(text.dup(alloc)?, *pos)
             }
             EvalAltResult::ErrorInModule(path, fault, pos) => {
-                let path = path.dup(alloc)?;
-                let fault = fault.fault().dup(alloc)?;
-                Ok(EvalAltResult::ErrorInModule(path, BoxedFault::new(alloc, fault)?, *pos))
+                EvalAltResult::ErrorInModule(path.dup(alloc)?, fault.dup(alloc)?, *pos)
             }
             EvalAltResult::ErrorRuntime(text, pos) => {
-                Ok(EvalAltResult::ErrorRuntime(text.dup(alloc)?, *pos))
+                EvalAltResult::ErrorRuntime(text.dup(alloc)?, *pos)
             }
-        }
+        })
     }
 }

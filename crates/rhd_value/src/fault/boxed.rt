@@ -16,6 +16,14 @@ impl BoxedFault {
         })
     }
 
+    /// An equal one.
+    #[cycle(fault)]
+    pub fn dup(&self, alloc: Global) -> Result<BoxedFault, OutOfMemory>
+        ensures { IfOk result (λ held. held ≡ self.now) }
+    {
+        BoxedFault::new(alloc, self.fault.dup(alloc)?)
+    }
+
     /// The fault that stands inside.
     pub fn fault(&self) -> &EvalAltResult
         ensures { fault_seen result.now ≡ self.now }
