@@ -27,10 +27,10 @@ with_text path text texts = insert_entry (slice_cmp nat_cmp) texts path text
 abbrev pub Rose : ℕ → ℕ → Type 0
 Rose before after = (before < after) ⊎ (after ≡ 2 ^ 64 - 1)
 
--- the text of the path; no file exactly where there is none; a failure only where there is one and the count of faults rose
+-- the text of the path; no file exactly where there is none; a failure only where there is one; the count of faults rises there alone
 pub data Reads (texts : List (Bytes × Bytes)) (before after : ℕ) (path : Bytes) : FileAnswer → Type 0 where
-  found : {text : Bytes} → at_path path texts ≡ Some text → Reads texts before after path (Found text)
-  no_file : at_path path texts ≡ None → Reads texts before after path NoFile
+  found : {text : Bytes} → at_path path texts ≡ Some text → after ≡ before → Reads texts before after path (Found text)
+  no_file : at_path path texts ≡ None → after ≡ before → Reads texts before after path NoFile
   failed : IsSome (at_path path texts) → Rose before after → Reads texts before after path Failed
 
 -- one more, up to the greatest number of 64 bits

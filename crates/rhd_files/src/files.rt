@@ -30,8 +30,8 @@ pub trait Files: Drop {
     ghost faults: { Self → ℕ };
 
     /// Reads the file at a path. It is found where there is a text, and then that text is handed out; no
-    /// file is exactly where there is none. A read may fail where there is a text, and is then counted.
-    /// The texts stay, and the count never falls. Fails where memory runs out.
+    /// file is exactly where there is none. A read may fail where there is a text, and is then counted;
+    /// no other is. The texts stay, and the count never falls. Fails where memory runs out.
     fn read(&mut self, alloc: Global, path: &Text) -> Result<FileAnswer, OutOfMemory>
         ensures answer { IfOk result (Reads (texts self.old) (faults self.old) (faults self.new) path.now) }
         ensures texts { texts self.new ≡ texts self.old }

@@ -43,12 +43,12 @@ pub record OnlyRead (old new : FileState) : Type 0 where
   pub same : new ≡ record old { faults = new.faults }
   pub rises : old.faults ≤ new.faults
 
--- the script of the file, its source set to the path, or why there is none: no file and a failed read give fault 12, and a fault of the loader fault 13
+-- The script of the file, its source set to the path, or why there is none: no file and a failed read give fault 12, and a fault of the loader fault 13. No read fails but that one.
 pub data FileLoads (load : AllowsLoad) (old : FileState) (a : Asked) (r : Result LoadedScript ResolveFault) (new : FileState) : Type 0 where
-  no_file : at_path (file_of old a) old.texts ≡ None → r ≡ Err (not_found a.path a.pos) → FileLoads load old a r new
+  no_file : at_path (file_of old a) old.texts ≡ None → new.faults ≡ old.faults → r ≡ Err (not_found a.path a.pos) → FileLoads load old a r new
   failed : IsSome (at_path (file_of old a) old.texts) → Rose old.faults new.faults → r ≡ Err (not_found a.path a.pos) → FileLoads load old a r new
-  refused : (text : Bytes) (f : ResolveFault) → at_path (file_of old a) old.texts ≡ Some text → load a.manifests text a.envs (Err f) → r ≡ Err (in_module f a.path a.pos) → FileLoads load old a r new
-  loaded : (text : Bytes) (l : LoadedScript) → at_path (file_of old a) old.texts ≡ Some text → load a.manifests text a.envs (Ok l) → r ≡ Ok (record l { source = Some a.path }) → FileLoads load old a r new
+  refused : (text : Bytes) (f : ResolveFault) → at_path (file_of old a) old.texts ≡ Some text → new.faults ≡ old.faults → load a.manifests text a.envs (Err f) → r ≡ Err (in_module f a.path a.pos) → FileLoads load old a r new
+  loaded : (text : Bytes) (l : LoadedScript) → at_path (file_of old a) old.texts ≡ Some text → new.faults ≡ old.faults → load a.manifests text a.envs (Ok l) → r ≡ Ok (record l { source = Some a.path }) → FileLoads load old a r new
 
 -- what making the module of a script answers, and the environments that it leaves: what `eval_ast_as_new` does, or nothing for want of memory
 abbrev pub Makes : LoadedScript → Envs → Result ModuleTree ResolveFault → Envs → Type 0
@@ -57,7 +57,7 @@ Makes l old (Err (refusal.HashCollision held other)) new = Loads l old (Err (dec
 Makes l old (Err refusal.OutOfMemory) new = new ≡ old
 Makes l old (Err (refusal.Fault f)) new = ⊥
 
--- the file is read once, and its module is made
+-- the script of the file is taken, and its module made
 pub data FileResolves (load : AllowsLoad) (old : FileState) (a : Asked) (r : Result ModuleTree ResolveFault) (e : Envs) (new : FileState) : Type 0 where
   gives_none : (f : ResolveFault) → FileLoads load old a (Err f) new → OnlyRead old new → r ≡ Err f → e ≡ a.envs → FileResolves load old a r e new
   makes : (l : LoadedScript) → FileLoads load old a (Ok l) new → OnlyRead old new → Makes l a.envs r e → FileResolves load old a r e new

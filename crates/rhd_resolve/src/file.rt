@@ -5,7 +5,7 @@ ghost use Rattle.std.specs.Option.{option_copied, option_map};
 ghost use Rattle.rhd_files.specs.Paths.{file_path, parent};
 ghost use Rattle.rhd_resolve.specs.Asked.{asked, Fits, EitherScript, UnlessNoMemory, UnlessNoMemoryScript};
 ghost use Rattle.rhd_resolve.specs.Faults.{not_found, in_module, IsCollision};
-ghost use Rattle.rhd_resolve.specs.File.{script_extension, file_state, file_of, OnlyRead, FileLoads, Makes, FileResolves, FileAllows, FileScripts};
+ghost use Rattle.rhd_resolve.specs.File.{script_extension, file_state, OnlyRead, FileLoads, Makes, FileResolves, FileAllows, FileScripts};
 ghost use Rattle.rhd_resolve.specs.Sessions.{seen, IsGiven, IsLoaded, Adds};
 
 use crate::environs::Environs;

@@ -6,10 +6,10 @@ is_some_of : {X : Type 0} (o : Option X) (x : X) → Some x ≡ o → IsSome o
 is_some_of o x e = let P : Option _ → Type 0 = IsSome in subst P e refl
 
 pub returns-in_default-clause-answer : goal.returns-in_default-clause-answer
-returns-in_default-clause-answer c = rw (← c.self.view_is) (no_file (sym c.in_default.ensures))
+returns-in_default-clause-answer c = rw (← c.self.view_is) (no_file (sym c.in_default.ensures) refl)
 
 pub returns-then-contains-clause-answer : goal.returns-then-contains-clause-answer
 returns-then-contains-clause-answer c = let e = c.saturating_add-self-inside-then-contains.ensures in rw (← c.self.view_is) (failed (is_some_of _ _ c.in-Some.ensures) (grind arith))
 
 pub returns-clause-answer : goal.returns-clause-answer
-returns-clause-answer c = rw (← c.self.view_is) (found (sym c.in-Some.ensures ∙ ap Some (sym c.in_ok-dup.ensures)))
+returns-clause-answer c = rw (← c.self.view_is) (found (sym c.in-Some.ensures ∙ ap Some (sym c.in_ok-dup.ensures)) refl)
