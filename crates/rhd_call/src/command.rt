@@ -142,6 +142,11 @@ pub enum Command {
         name: Text,
         module: ModuleId,
     },
+    /// Puts the module that a path names, as the resolvers give it, under a name last among the imports.
+    ImportPath {
+        name: Text,
+        path: Text,
+    },
     /// Takes the last import off.
     PopImport,
     /// Sets the source of the calls that are made, or takes it away.
@@ -270,6 +275,10 @@ impl Command {
             Command::PushImport { name, module } => Ok(Command::PushImport {
                 name: name.dup(alloc)?,
                 module: *module,
+            }),
+            Command::ImportPath { name, path } => Ok(Command::ImportPath {
+                name: name.dup(alloc)?,
+                path: path.dup(alloc)?,
             }),
             Command::PopImport => Ok(Command::PopImport),
             Command::SetSource(Some(source)) => Ok(Command::SetSource(Some(source.dup(alloc)?))),

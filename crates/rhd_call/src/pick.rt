@@ -2,7 +2,7 @@
 
 ghost use Rattle.std.specs.Prelude.{◌≡◌, IfOk};
 
-use rhd_func::{RhaiFunc, SharedText};
+use rhd_func::{RhaiFunc, SharedText, share};
 use rhd_value::OutOfMemory;
 use std::alloc::Global;
 
@@ -35,14 +35,10 @@ impl Pick {
     pub fn dup(&self, alloc: Global) -> Result<Pick, OutOfMemory>
         ensures { IfOk result (λ pick. pick ≡ self.now) }
     {
-        let source = match &self.source {
-            Some(source) => Some(source.dup(alloc)?),
-            None => None,
-        };
         Ok(Pick {
             layer: self.layer,
             func: self.func.dup(alloc)?,
-            source,
+            source: share(alloc, &self.source)?,
         })
     }
 }

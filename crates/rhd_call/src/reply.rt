@@ -5,7 +5,7 @@ ghost use Rattle.std.specs.Prelude.{◌≡◌, ◌++◌, ◌∷◌, [], length, 
 use crate::command::ModuleId;
 use crate::node::CallNode;
 use rhd_module::DeclFault;
-use rhd_value::OutOfMemory;
+use rhd_value::{EvalAltResult, OutOfMemory};
 use std::alloc::Global;
 use std::marker::Model;
 
@@ -16,6 +16,8 @@ pub enum Reply {
     Done,
     /// A module was made, of this number.
     Made(ModuleId),
+    /// The fault of a resolver: no module was given.
+    Fault(EvalAltResult),
     /// A declaration was refused, and nothing has changed. Want of memory is no reply.
     Refused(DeclFault),
     /// How many variables, functions and functions that iterate a module has.

@@ -1,6 +1,6 @@
 -- Lists of modules that are indexed, and a search in them.
-use Rattle.std.proofs.Common.{◌≡◌, Bool, true, false, cond, ◌&&◌, List, [], ◌∷◌, ◌++◌, Some, refl, sym, ap, subst, ◌∙◌, append_assoc, ℕ, take}
-use Rattle.std.specs.Prelude.{zero, suc, reverse, length, ◌==◌}
+use Rattle.std.proofs.Common.{◌≡◌, Bool, true, false, cond, ◌&&◌, List, [], ◌∷◌, ◌++◌, Some, refl, sym, ap, subst, ◌∙◌, append_assoc, arith, ℕ, take}
+use Rattle.std.specs.Prelude.{zero, suc, ◌+◌, reverse, length, get_or, slice_set, ◌==◌}
 use Rattle.std.specs.List.{list_all, AllByRecursion, insert}
 use Rattle.std.specs.List.Sorted.{IsStrictlySortedBy}
 use Rattle.std.specs.Map.{lookup, keys_of}
@@ -15,7 +15,7 @@ use Rattle.std.proofs.lemmas.Map.Text.{is_eq-slice_cmp}
 use Rattle.rhd_value.specs.Tree.{Bytes}
 use Rattle.rhd_value.specs.Same.{text_eq}
 use Rattle.rhd_module.specs.Tree.{ModuleTree}
-use Rattle.rhd_engine.specs.Lists.{Imports, all_indexed, latest_of, module_of, put_module, second}
+use Rattle.rhd_engine.specs.Lists.{Imports, all_indexed, latest_of, module_of, put_module, second, with_last}
 use Rattle.rhd_engine.proofs.HeldLaws.{both, parts}
 
 -- What holds of the modules of a list holds of those of a longer or shorter one.
@@ -49,6 +49,20 @@ all_reversed test (e ∷ es) all =
     let p = parts (test e.1) (all_of test es) all in
     ap (all_of test) (reverse-append (e ∷ []) es) ∙ all_pushed test (reverse es) e.0 e.1 p.0 (all_reversed test es p.1)
 
+all_taken : (test : ModuleTree → Bool) (es : Imports) (n : ℕ) → all_of test es ≡ true → all_of test (take n es) ≡ true
+all_taken test es zero all = refl
+all_taken test [] (suc n) all = refl
+all_taken test (e ∷ es) (suc n) all =
+    let p = parts (test e.1) (all_of test es) all in
+    both (test e.1) (all_of test (take n es)) p.0 (all_taken test es n p.1)
+
+pub all_last : (test : ModuleTree → Bool) (es : Imports) (m : ModuleTree) → test m ≡ true → all_of test es ≡ true → all_of test (with_last m es) ≡ true
+all_last test [] m h all = refl
+all_last test (e ∷ []) m h all = both (test m) true h refl
+all_last test (e ∷ next ∷ es) m h all =
+    let p = parts (test e.1) (all_of test (next ∷ es)) all in
+    both (test e.1) (all_of test (with_last m (next ∷ es))) p.0 (all_last test (next ∷ es) m h p.1)
+
 -- The same of indexed modules.
 pub pushed : (es : Imports) (name : Bytes) (m : ModuleTree) → m.own.indexed ≡ true → all_indexed es ≡ true → all_indexed (es ++ (name, m) ∷ []) ≡ true
 pushed es name m h all = all_pushed (λ m. m.own.indexed) es name m h all
@@ -56,12 +70,19 @@ pushed es name m h all = all_pushed (λ m. m.own.indexed) es name m h all
 pub put_indexed : (es : Imports) (name : Bytes) (m : ModuleTree) → m.own.indexed ≡ true → all_indexed es ≡ true → all_indexed (put_module name m es) ≡ true
 put_indexed es name m h all = all_put (λ m. m.own.indexed) es name m h all
 
+pub last_indexed : (es : Imports) (m : ModuleTree) → m.own.indexed ≡ true → all_indexed es ≡ true → all_indexed (with_last m es) ≡ true
+last_indexed es m h all = all_last (λ m. m.own.indexed) es m h all
+
+-- a module in the last place
+pub last_set : (es : Imports) (n : ℕ) (e : Bytes × ModuleTree) (m : ModuleTree) → n + 1 ≡ length es → e ≡ get_or es n e → slice_set es n (e.0, m) ≡ with_last m es
+last_set [] n e m is at = absurd (omega (arith, is))
+last_set (d ∷ []) zero e m is at = ap (λ (x : Bytes × ModuleTree). (x.0, m) ∷ []) at
+last_set (d ∷ []) (suc n) e m is at = absurd (omega (arith, is))
+last_set (d ∷ next ∷ es) zero e m is at = absurd (omega (arith, is))
+last_set (d ∷ next ∷ es) (suc n) e m is at = ap (λ rest. d ∷ rest) (last_set (next ∷ es) n e m (omega (arith, is)) at)
+
 pub taken : (es : Imports) (n : ℕ) → all_indexed es ≡ true → all_indexed (take n es) ≡ true
-taken es zero all = refl
-taken [] (suc n) all = refl
-taken (e ∷ es) (suc n) all =
-    let p = parts e.1.own.indexed (all_indexed es) all in
-    both e.1.own.indexed (all_indexed (take n es)) p.0 (taken es n p.1)
+taken es n all = all_taken (λ m. m.own.indexed) es n all
 
 -- the latest of a name, from the last on
 pub latest_step : (name : Bytes) (es : Imports) (e : Bytes × ModuleTree) → latest_of name (es ++ e ∷ []) ≡ cond (text_eq name e.0) (Some e.1) (latest_of name es)

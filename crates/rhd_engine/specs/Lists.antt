@@ -34,6 +34,12 @@ abbrev pub second : ModuleTree → List ModuleTree → List ModuleTree
 second added [] = added ∷ []
 second added (first ∷ more) = first ∷ added ∷ more
 
+-- the last module replaced under its name, if there is one
+abbrev pub with_last : ModuleTree → Imports → Imports
+with_last m [] = []
+with_last m (e ∷ []) = (e.0, m) ∷ []
+with_last m (e ∷ next ∷ es) = e ∷ with_last m (next ∷ es)
+
 -- the last is taken off, and none is where there is none
 abbrev pub Popped : {A : Type 0} → List A → Option A → List A → Type 0
 Popped old None new = (old ≡ []) × (new ≡ [])

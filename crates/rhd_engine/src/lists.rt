@@ -6,7 +6,7 @@ ghost use Rattle.std.specs.Option.{option_copied};
 ghost use Rattle.rhd_func.specs.Infos.{infos_of};
 ghost use Rattle.rhd_module.specs.Contents.{with_type};
 ghost use Rattle.rhd_engine.specs.Registered.{in_first, RegistersFirst, RegistersBothFirst, RegistersRawFirst, FirstTells};
-ghost use Rattle.rhd_engine.specs.Lists.{Popped, all_indexed, latest_of, second};
+ghost use Rattle.rhd_engine.specs.Lists.{Popped, all_indexed, latest_of, second, with_last};
 
 use rhd_func::{Natives, RhaiFunc};
 use rhd_module::{DeclFault, FuncMetadata, FuncRegistration, SharedModule};
@@ -245,6 +245,19 @@ impl ImportList {
         ensures { Popped self.old result self.new }
     {
         self.items.pop()
+    }
+
+    /// Puts an indexed module in the place of the last one, if there is one, under its name.
+    #[tactic(auto, using(crate::proofs::Indexed::last_set, crate::proofs::Indexed::last_indexed))]
+    pub fn set_last(&mut self, added: SharedModule)
+        requires { added.own.indexed ≡ true }
+        ensures { self.new ≡ with_last added self.old }
+    {
+        let len = self.items.len();
+        if len == 0 {
+            return;
+        }
+        self.items[len - 1].1 = added;
     }
 
     /// Puts all modules of another list last, with their names. Where memory runs out, some of them may

@@ -6,7 +6,7 @@ ghost use Rattle.rhd_engine.specs.Lists.{Popped, latest_of};
 ghost use Rattle.rhd_engine.specs.Start.{start_frame};
 
 use crate::lists::{ImportList, ModuleList};
-use rhd_func::SharedText;
+use rhd_func::{SharedText, share};
 use rhd_module::SharedModule;
 use rhd_value::{Dynamic, OutOfMemory, Text, Value};
 use std::alloc::Global;
@@ -32,14 +32,10 @@ impl GlobalRuntimeState {
     pub fn dup(&self, alloc: Global) -> Result<GlobalRuntimeState, OutOfMemory>
         ensures { IfOk result (λ state. state ≡ self.now) }
     {
-        let source = match &self.source {
-            Some(source) => Some(source.dup(alloc)?),
-            None => None,
-        };
         Ok(GlobalRuntimeState {
             lib: self.lib.dup(alloc)?,
             imports: self.imports.dup(alloc)?,
-            source,
+            source: share(alloc, &self.source)?,
             level: self.level,
             tag: self.tag.dup(alloc)?,
         })

@@ -22,7 +22,7 @@ use Rattle.rhd_call.specs.declared.node.Whose.TheVariants as whose
 use Rattle.rhd_call.specs.declared.node.CallNode.{CallNode, CallNode'}
 use Rattle.rhd_call.specs.declared.node.Nodes.{Nodes, Nodes', Row_of-CallNode, end_of-CallNode, more_of-CallNode}
 use Rattle.rhd_call.specs.declared.reply.Reply.{Reply}
-use Rattle.rhd_call.specs.declared.reply.Reply.TheVariants.{Done, Made, Refused, Count, Truth, Called}
+use Rattle.rhd_call.specs.declared.reply.Reply.TheVariants.{Done, Made, Fault as failed, Refused, Count, Truth, Called}
 use Rattle.rhd_print.specs.PrintedTexts.{quoted}
 use Rattle.rhd_print.specs.PrintedValues.{spelled}
 use Rattle.rhd_print.specs.PrintedKeys.{path_name, key_text}
@@ -135,6 +135,7 @@ truth_text false = codes "false"
 unfoldable pub printed : Reply → List ℕ
 printed Done = codes "ok" ++ 10 ∷ []
 printed (Made id) = codes "module " ++ decimal id.0 ++ 10 ∷ []
+printed (failed fault) = codes "! " ++ spelled_fault (fault_seen fault) ++ 10 ∷ []
 printed (Refused fault) = codes "refused " ++ spelled_refusal fault ++ 10 ∷ []
 printed (Count vars functions iterators) = codes "count " ++ decimal vars ++ codes " " ++ decimal functions ++ codes " " ++ decimal iterators ++ 10 ∷ []
 printed (Truth b) = truth_text b ++ 10 ∷ []

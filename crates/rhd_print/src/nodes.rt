@@ -64,7 +64,7 @@ fn push_fault_of_types(
 /// A fault by its number, without its position.
 #[cycle(faults)]
 #[tactic(auto, unfolding(crate::specs::PrintedReplies::spelled_fault))]
-fn push_fault(fault: &EvalAltResult, out: &mut Vec<u8>) -> Result<(), OutOfMemory>
+pub(crate) fn push_fault(fault: &EvalAltResult, out: &mut Vec<u8>) -> Result<(), OutOfMemory>
     ensures { OnOk result (out.new.items ≡ out.old.items ++ spelled_fault (fault_seen fault.now)) }
 {
     match fault {

@@ -2,16 +2,17 @@
 
 ghost use Rattle.std.specs.Prelude.{◌≡◌, ◌++◌, ◌∷◌, ◌≤◌, [], ℕ, length, take, OnOk, OnErr, codes};
 ghost use Rattle.std.specs.Fmt.{decimal};
+ghost use Rattle.rhd_value.specs.Seen.{fault_seen};
 ghost use Rattle.rhd_print.specs.PrintedKeys.{key_text};
-ghost use Rattle.rhd_print.specs.PrintedReplies.{spelled_refusal, truth_text, printed, all_printed};
+ghost use Rattle.rhd_print.specs.PrintedReplies.{spelled_fault, spelled_refusal, truth_text, printed, all_printed};
 
 use crate::keys::push_key;
-use crate::nodes::push_tree;
+use crate::nodes::{push_fault, push_tree};
 use crate::quotes::push_number;
 use rhd_call::Reply;
 use rhd_hash::Key;
 use rhd_module::DeclFault;
-use rhd_value::OutOfMemory;
+use rhd_value::{EvalAltResult, OutOfMemory};
 use std::alloc::Global;
 
 /// Room for the bytes of the lines of most replies.
@@ -49,6 +50,15 @@ fn push_refusal(alloc: Global, fault: &DeclFault, out: &mut Vec<u8>) -> Result<(
         }
         DeclFault::OutOfMemory => Ok(out.extend_from_slice(b"5")?),
     }
+}
+
+/// Puts the fault of a resolver at the end, and the end of the line.
+fn push_fault_line(fault: &EvalAltResult, out: &mut Vec<u8>) -> Result<(), OutOfMemory>
+    ensures { OnOk result (out.new.items ≡ out.old.items ++ (codes "! " ++ spelled_fault (fault_seen fault.now) ++ 10 ∷ [])) }
+{
+    out.extend_from_slice(b"! ")?;
+    push_fault(fault, out)?;
+    Ok(out.push(b'\n')?)
 }
 
 /// Puts three counts at the end, and the end of the line.
@@ -91,6 +101,7 @@ fn push_lines(alloc: Global, reply: &Reply, lines: &mut Vec<u8>) -> Result<(), O
             push_number(u64::from(module.0), lines)?;
             lines.push(b'\n')?;
         }
+        Reply::Fault(fault) => push_fault_line(fault, lines)?,
         Reply::Refused(fault) => {
             lines.extend_from_slice(b"refused ")?;
             push_refusal(alloc, fault, lines)?;
