@@ -1,6 +1,6 @@
 -- Replies whose calls go on where their nodes are taken out.
 use Rattle.std.proofs.Common.{◌≡◌, sym, subst, ap, ◌∙◌}
-use Rattle.std.specs.Prelude.{Option}
+use Rattle.std.specs.Prelude.{Option, Some}
 use Rattle.std.specs.Global.{Box}
 use Rattle.rhd_func.specs.declared.request.CallRequest.{CallRequest}
 use Rattle.rhd_engine.specs.Engine.{Frame}
@@ -14,8 +14,8 @@ use Rattle.rhd_call.specs.Seen.{seen}
 use Rattle.rhd_machine.specs.Filling.{begun_call, IsBegunFor}
 use Rattle.rhd_machine.specs.Waits.{outcome_of, Comes_to}
 
--- a reply has one node
-pub one_node : (node other : CallNode) → Called node ≡ Called other → node ≡ other
+-- one node is taken
+one_node : (node other : CallNode) → ◌≡◌ {A = Option CallNode} (Some node) (Some other) → node ≡ other
 one_node node other e = cc
 
 -- the node of a reply that is begun
@@ -24,10 +24,10 @@ begun_at reply node call is begun = subst (λ (r : Reply). IsBegunFor call r) is
 
 module _ {H B : Type 0} (o : Objects H B) (w : World) where
   -- the call of a reply goes on where its node is taken out
-  pub taken_comes : (base : Frame) (reply taken : Reply) (node own : CallNode) (asking : Option (Box Asking)) (outcome : Outcome) (call : CallRequest) (before after : Moment H B) →
-      reply ≡ Called node → taken ≡ reply → taken ≡ Called own → outcome ≡ outcome_of own asking →
+  pub taken_comes : (base : Frame) (taken : Option CallNode) (node own : CallNode) (asking : Option (Box Asking)) (outcome : Outcome) (call : CallRequest) (before after : Moment H B) →
+      taken ≡ Some node → taken ≡ Some own → outcome ≡ outcome_of own asking →
       Comes_to o w base 1 call (outcome_of node asking) before after →
       Comes_to o w base 1 call outcome before after
-  taken_comes base reply taken node own asking outcome call before after is same out e step =
-      let nodes : node ≡ own = one_node node own (sym is ∙ sym same ∙ out) in
+  taken_comes base taken node own asking outcome call before after is out e step =
+      let nodes : node ≡ own = one_node node own (sym is ∙ out) in
       subst (λ (x : Outcome). Comes_to o w base 1 call x before after) (ap (λ (x : CallNode). outcome_of x asking) nodes ∙ sym e) step

@@ -10,14 +10,14 @@ use Rattle.rhd_machine.specs.Entered.{entered}
 use Rattle.rhd_machine.specs.Runs.{Runs}
 
 -- the frame that the function of a node enters, if it has one
-abbrev pub entered_by : World → Frame → Seen → Option Pick → Frame
-entered_by w f s None = f
-entered_by w f s (Some pick) = entered w.environs f s.level pick
+abbrev pub frame_inside : World → Frame → Seen → Option Pick → Frame
+frame_inside w f s None = f
+frame_inside w f s (Some pick) = entered w.environs f s.level pick
 
 -- the frame in which a call of a tree is asked for, where the root is asked for in this one
 abbrev pub frame_at : {node root : CallNode} → World → Frame → InTree node root → Frame
 frame_at w f is_root = f
-frame_at w f (is_below {root = root} among inner) = frame_at w (entered_by w f (seen root) (seen root).pick) inner
+frame_at w f (is_below {root = root} among inner) = frame_at w (frame_inside w f (seen root) (seen root).pick) inner
 
 -- the node's call runs in this frame at its level, between some moments
 abbrev pub RunsAt : {H B : Type 0} → Objects H B → World → Frame → CallNode → Type 0

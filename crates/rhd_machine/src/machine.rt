@@ -11,7 +11,7 @@ use crate::ends::{finish, hand_on};
 use crate::filling::{join, picks};
 use rhd_call::{CallNode, Pick};
 use rhd_engine::{Engine, GlobalRuntimeState};
-use rhd_func::{CallRequest, Carry, EnvId, NativeStep, RhaiFunc, SharedText};
+use rhd_func::{CallRequest, Carry, EnvId, NativeStep, RhaiFunc, SharedText, share};
 use rhd_resolve::Environs;
 use rhd_value::OutOfMemory;
 use std::alloc::Global;
@@ -133,16 +133,6 @@ pub fn settle_waiting(
     join(&mut node, carry, child)?;
     let asking = settle(alloc, engine, &mut node, pick, step)?;
     Ok(outcome_of(node, asking))
-}
-
-/// One more owner of a source, if there is one.
-fn share(alloc: Global, source: &Option<SharedText>) -> Result<Option<SharedText>, OutOfMemory>
-    ensures { IfOk result (λ shared. shared ≡ source.now) }
-{
-    match source {
-        Some(source) => Ok(Some(source.dup(alloc)?)),
-        None => Ok(None),
-    }
 }
 
 /// What entering a function changes of a state, as it is.

@@ -95,13 +95,33 @@ fn fill_on<H: Host, B: Bodies>(
     ensures within { begun.new ≤ engine.now.limits.budget }
     ensures rises { begun.old ≤ begun.new }
 {
-    let Reply::Called(node) = mem::replace(reply, Reply::Done) else {
+    let Some(node) = take_node(reply) else {
         return Ok(());
     };
     let outcome = outcome_of(node, Some(asking));
     let node = run_on::<H, B>(alloc, engine, envs, state, outcome, begun, host, bodies)?;
-    *reply = Reply::Called(node);
+    show_node(reply, node);
     Ok(())
+}
+
+/// Takes the node out of a reply that shows a call.
+fn take_node(reply: &mut Reply) -> Option<CallNode>
+    ensures { (node : CallNode) → reply.old ≡ Called node → result ≡ Some node }
+{
+    match mem::replace(reply, Reply::Done) {
+        Reply::Called(node) => Some(node),
+        other => {
+            drop(other);
+            None
+        }
+    }
+}
+
+/// The reply shows the call of this node.
+fn show_node(reply: &mut Reply, node: CallNode)
+    ensures { reply.new ≡ Called node }
+{
+    drop(mem::replace(reply, Reply::Called(node)));
 }
 
 /// Goes on with a call that is begun, with all the calls that it leads to, and gives the state back as it
