@@ -6,8 +6,8 @@ use Rattle.std.proofs.lemmas.Slice.Eq.{bytes_eq-Decides}
 use Rattle.rhd_text.specs.declared.part.Part.{Part}
 use Rattle.rhd_text.specs.declared.place.Place.{Place}
 use Rattle.rhd_text.specs.declared.keyword.Keyword.{Keyword}
-use Rattle.rhd_text.specs.declared.keyword.Keyword.TheVariants.{Seeds, Limits, Printer, Builtin, Host, Body, Ret, Fail, Register, RegisterRaw, RegisterType, Module}
-use Rattle.rhd_text.specs.declared.keyword.Keyword.TheVariants.{SetId, SetDoc, SetVar, SetType, Native, Raw, RawIter, RawScript, Script, Submodule, Clear, Count, HasNative, HasScript, Lib, PopLib, Index, Global, Static, Import, PopImport, Source, NoSource, Tag}
+use Rattle.rhd_text.specs.declared.keyword.Keyword.TheVariants.{Seeds, Limits, Printer, Builtin, Host, File, Body, Ret, Fail, Register, RegisterRaw, RegisterType, Module}
+use Rattle.rhd_text.specs.declared.keyword.Keyword.TheVariants.{SetId, SetDoc, SetVar, SetType, Native, Raw, RawIter, RawScript, Script, Submodule, Clear, Count, HasNative, HasScript, Lib, PopLib, Index, Global, Static, Import, ImportPath, PopImport, Source, NoSource, Tag}
 use Rattle.rhd_text.specs.declared.keyword.Keyword.TheVariants.{Manifest, Join, Call}
 use Rattle.rhd_text.specs.declared.keyword.CallWord.{CallWord}
 use Rattle.rhd_text.specs.declared.keyword.CallWord.TheVariants as words
@@ -101,6 +101,7 @@ line_placed Limits = refl
 line_placed Printer = refl
 line_placed Builtin = refl
 line_placed Host = refl
+line_placed File = refl
 line_placed Body = refl
 line_placed Ret = refl
 line_placed Fail = refl
@@ -128,6 +129,7 @@ line_placed Index = refl
 line_placed Global = refl
 line_placed Static = refl
 line_placed Import = refl
+line_placed ImportPath = refl
 line_placed PopImport = refl
 line_placed Source = refl
 line_placed NoSource = refl
@@ -143,6 +145,7 @@ line_found Limits = refl
 line_found Printer = refl
 line_found Builtin = refl
 line_found Host = refl
+line_found File = refl
 line_found Body = refl
 line_found Ret = refl
 line_found Fail = refl
@@ -170,6 +173,7 @@ line_found Index = refl
 line_found Global = refl
 line_found Static = refl
 line_found Import = refl
+line_found ImportPath = refl
 line_found PopImport = refl
 line_found Source = refl
 line_found NoSource = refl
@@ -201,6 +205,7 @@ line_shows Limits rest = refl
 line_shows Printer rest = refl
 line_shows Builtin rest = refl
 line_shows Host rest = refl
+line_shows File rest = refl
 line_shows Body rest = refl
 line_shows Ret rest = refl
 line_shows Fail rest = refl
@@ -228,6 +233,7 @@ line_shows Index rest = refl
 line_shows Global rest = refl
 line_shows Static rest = refl
 line_shows Import rest = refl
+line_shows ImportPath rest = refl
 line_shows PopImport rest = refl
 line_shows Source rest = refl
 line_shows NoSource rest = refl

@@ -25,7 +25,7 @@ use Rattle.rhd_text.specs.declared.session.SessionText.{SessionText}
 use Rattle.rhd_text.specs.declared.part.Part.{Part}
 use Rattle.rhd_text.specs.declared.part.Part.TheVariants as parts
 use Rattle.rhd_text.specs.declared.fault.TextFault.{TextFault}
-use Rattle.rhd_text.specs.Session.{empty_text, takes_headers, is_held, stepped, ended, in_latest, with_seeds, with_limits, with_printer, with_builtin, with_host, with_body, with_call, with_end, with_command, added, is_header, with_part, with_line, IsText, ReadsText}
+use Rattle.rhd_text.specs.Session.{empty_text, takes_headers, is_held, stepped, ended, in_latest, with_seeds, with_limits, with_printer, with_builtin, with_host, with_file, with_body, with_call, with_end, with_command, added, is_header, with_part, with_line, IsText, ReadsText}
 use Rattle.rhd_text.specs.Session.{latest_manifest, in_manifest, with_new_manifest, with_manifest_entry, with_manifest_sub, with_manifest_var, with_manifest_type}
 use Rattle.rhd_text.specs.ReadRows.{line_of}
 use Rattle.rhd_text.specs.ReadSession.{after_line}
@@ -131,12 +131,13 @@ sub_holds natives count t v name sub e h =
 -- ---- parts
 
 part_holds : (natives : List NativeInfo) (count : ℕ) (t v : SessionText) (p : Part) → added natives t p ≡ Some v → Holds natives count t → Holds natives (count + 1) v
-unfolding with_printer with_host with_new_manifest with_manifest_var with_manifest_type with_body with_call with_end with_command
+unfolding with_printer with_host with_file with_new_manifest with_manifest_var with_manifest_type with_body with_call with_end with_command
 part_holds natives count t v (parts.Seeds s) e h = seeds_hold natives count t v s e h
 part_holds natives count t v (parts.Limits m) e h = limits_hold natives count t v m e h
 part_holds natives count t v (parts.Printer p) e h = subst (Holds natives (count + 1)) (same_some (with_printer t p) v e) (same_holds natives count t (with_printer t p) refl refl refl refl h)
 part_holds natives count t v (parts.Builtin op left right id) e h = builtin_holds natives count t v (record { token = op; left = left; right = right }) id e h
 part_holds natives count t v (parts.Host name answer) e h = subst (Holds natives (count + 1)) (same_some (with_host t name answer) v e) (same_holds natives count t (with_host t name answer) refl refl refl refl h)
+part_holds natives count t v (parts.File path text) e h = subst (Holds natives (count + 1)) (same_some (with_file t path text) v e) (same_holds natives count t (with_file t path text) refl refl refl refl h)
 part_holds natives count t v parts.Manifest e h =
     listed_holds natives count t v (t.manifests ++ no_lists ∷ []) (same_some (with_new_manifest t) v e)
     (fits_more natives t.manifests h.manifests) (omega (arith, length_push t.manifests no_lists)) h

@@ -296,6 +296,7 @@ form keywords.Limits = record { spelling = codes "limits"; operands = NUM ∷ NU
 form keywords.Printer = record { spelling = codes "printer"; operands = PRINTER ∷ []; part = λ place p. Some (parts.Printer p) }
 form keywords.Builtin = record { spelling = codes "builtin"; operands = WORD ∷ KIND ∷ KIND ∷ NUM ∷ []; part = λ place w left right n. built_in w left right n }
 form keywords.Host = record { spelling = codes "host"; operands = WORD ∷ VALUE ∷ []; part = λ place f t. Some (parts.Host f t) }
+form keywords.File = record { spelling = codes "file"; operands = WORD ∷ WORD ∷ []; part = λ place path text. Some (parts.File path text) }
 form keywords.Body = record { spelling = codes "body"; operands = []; part = λ place. Some parts.Body }
 form keywords.Ret = record { spelling = codes "ret"; operands = ARG true ∷ []; part = λ place x. Some (parts.End (answered x)) }
 form keywords.Fail = record { spelling = codes "fail"; operands = WORD ∷ []; part = λ place text. Some (parts.End (Fail text)) }
@@ -331,6 +332,7 @@ form keywords.Index = record { spelling = codes "index"; operands = NUM ∷ []; 
 form keywords.Global = record { spelling = codes "global"; operands = NUM ∷ []; part = λ place m. Some (parts.Command (commands.GlobalModule (record { 0 = m }))) }
 form keywords.Static = record { spelling = codes "static"; operands = WORD ∷ NUM ∷ []; part = λ place f m. Some (parts.Command (commands.StaticModule f (record { 0 = m }))) }
 form keywords.Import = record { spelling = codes "import"; operands = WORD ∷ NUM ∷ []; part = λ place f m. Some (parts.Command (commands.PushImport f (record { 0 = m }))) }
+form keywords.ImportPath = record { spelling = codes "import-path"; operands = WORD ∷ WORD ∷ []; part = λ place f path. Some (parts.Command (commands.ImportPath f path)) }
 form keywords.PopImport = record { spelling = codes "pop-import"; operands = []; part = λ place. Some (parts.Command commands.PopImport) }
 form keywords.Source = record { spelling = codes "source"; operands = WORD ∷ []; part = λ place text. Some (parts.Command (commands.SetSource (Some text))) }
 form keywords.NoSource = record { spelling = codes "no-source"; operands = []; part = λ place. Some (parts.Command (commands.SetSource None)) }
@@ -346,13 +348,13 @@ all_keywords =
     ∷ keywords.Call words.CallNative ∷ keywords.Call words.RefNative ∷ keywords.Call words.MethodNative
     ∷ keywords.Call words.Qual ∷ keywords.Call words.QualRef
     ∷ keywords.Register ∷ keywords.RegisterRaw ∷ keywords.RegisterType ∷ keywords.Script ∷ keywords.Native ∷ keywords.Raw ∷ keywords.Module ∷ keywords.Lib ∷ keywords.PopLib
-    ∷ keywords.Import ∷ keywords.PopImport ∷ keywords.Source ∷ keywords.NoSource ∷ keywords.Tag ∷ keywords.Global ∷ keywords.Static ∷ keywords.Index
+    ∷ keywords.Import ∷ keywords.ImportPath ∷ keywords.PopImport ∷ keywords.Source ∷ keywords.NoSource ∷ keywords.Tag ∷ keywords.Global ∷ keywords.Static ∷ keywords.Index
     ∷ keywords.SetId ∷ keywords.SetDoc ∷ keywords.SetVar ∷ keywords.SetType ∷ keywords.Submodule ∷ keywords.Clear ∷ keywords.RawIter ∷ keywords.RawScript
     ∷ keywords.Count ∷ keywords.HasNative ∷ keywords.HasScript
     ∷ keywords.Manifest lists.FromManifest ∷ keywords.Manifest lists.CombineManifest ∷ keywords.Manifest lists.RegisterLazy
     ∷ keywords.Manifest lists.Entry ∷ keywords.Manifest lists.Sub ∷ keywords.Manifest lists.Var ∷ keywords.Manifest lists.Type ∷ keywords.Manifest lists.Manifest
     ∷ keywords.Join joins.Combine ∷ keywords.Join joins.CombineFlatten ∷ keywords.Join joins.Fill ∷ keywords.Join joins.Merge
-    ∷ keywords.Body ∷ keywords.Ret ∷ keywords.Fail ∷ keywords.Host ∷ keywords.Builtin ∷ keywords.Seeds ∷ keywords.Limits ∷ keywords.Printer ∷ []
+    ∷ keywords.Body ∷ keywords.Ret ∷ keywords.Fail ∷ keywords.Host ∷ keywords.File ∷ keywords.Builtin ∷ keywords.Seeds ∷ keywords.Limits ∷ keywords.Printer ∷ []
 
 -- THE LINES OF A SESSION TEXT, and those that stand after `do`
 abbrev pub line_forms : Table Keyword Part

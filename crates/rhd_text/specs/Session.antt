@@ -5,6 +5,7 @@ use Rattle.std.specs.List.{slice_get}
 use Rattle.rhd_value.specs.Tree.{Bytes, Tree}
 use Rattle.rhd_value.specs.Entries.{put}
 use Rattle.rhd_value.specs.declared.tag.FnId.{FnId}
+use Rattle.rhd_files.specs.Files.{with_text}
 use Rattle.rhd_hash.specs.declared.mixer.Seeds.{Seeds}
 use Rattle.rhd_func.specs.Natives.{NativeInfo}
 use Rattle.rhd_func.specs.declared.access.FnNamespace.{FnNamespace}
@@ -31,7 +32,7 @@ use Rattle.rhd_text.specs.Grammar.{IsLine}
 
 -- what a text without lines says
 abbrev pub empty_text : SessionText
-empty_text = record { seeds = None; limits = None; printers = record { print = false; debug = false }; builtins = []; hosts = []; manifests = []; bodies = []; commands = [] }
+empty_text = record { seeds = None; limits = None; printers = record { print = false; debug = false }; builtins = []; hosts = []; files = []; manifests = []; bodies = []; commands = [] }
 
 -- whether headers may still stand: no command has come
 abbrev pub takes_headers : SessionText → Bool
@@ -64,6 +65,10 @@ with_builtin natives t operator id = if is_held natives id then Some (record t {
 -- what the host answers for a name, in the place of an earlier answer
 unfoldable pub with_host : SessionText → Bytes → Tree → SessionText
 with_host t name value = record t { hosts = put name value t.hosts }
+
+-- the text of the file at a path, in the place of an earlier text
+unfoldable pub with_file : SessionText → Bytes → Bytes → SessionText
+with_file t path text = record t { files = with_text path text t.files }
 
 -- the number of the latest manifest, where there is one
 unfoldable pub latest_manifest : SessionText → Option ManifestId
@@ -141,6 +146,7 @@ added natives t (parts.Limits limits) = with_limits t limits
 added natives t (parts.Printer printer) = Some (with_printer t printer)
 added natives t (parts.Builtin op left right id) = with_builtin natives t (record { token = op; left = left; right = right }) id
 added natives t (parts.Host name value) = Some (with_host t name value)
+added natives t (parts.File path text) = Some (with_file t path text)
 added natives t parts.Manifest = Some (with_new_manifest t)
 added natives t (parts.Entry name id namespace) = with_manifest_entry natives t name id namespace
 added natives t (parts.Sub name sub) = with_manifest_sub t name sub

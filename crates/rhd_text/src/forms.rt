@@ -81,6 +81,18 @@ fn host_at(alloc: Global, bytes: &[u8], place: Place) -> Result<Part, Stop>
     Ok(Part::Host { name, answer })
 }
 
+#[tactic(auto, unfolding(crate::specs::ReadRows::row_at))]
+fn file_at(alloc: Global, bytes: &[u8], place: Place) -> Result<Part, Stop>
+    ensures { Gives (λ x. x) result (row_at place (form keywords.File) bytes.now) }
+{
+    let (path, rest) = wording_at(alloc, bytes)?;
+    let (text, rest) = wording_at(alloc, rest)?;
+    if !is_end(rest) {
+        return Err(Stop::Bad);
+    }
+    Ok(Part::File { path, text })
+}
+
 #[tactic(auto, using(crate::proofs::PlanLaws::call_row))]
 fn call_at(alloc: Global, bytes: &[u8], place: Place, call: CallWord) -> Result<Part, Stop>
     ensures { Gives (λ x. x) result (row_at place (called call) bytes.now) }
@@ -249,6 +261,18 @@ fn import_at(alloc: Global, bytes: &[u8], place: Place) -> Result<Part, Stop>
 }
 
 #[tactic(auto, unfolding(crate::specs::ReadRows::row_at))]
+fn import_path_at(alloc: Global, bytes: &[u8], place: Place) -> Result<Part, Stop>
+    ensures { Gives (λ x. x) result (row_at place (form keywords.ImportPath) bytes.now) }
+{
+    let (name, rest) = wording_at(alloc, bytes)?;
+    let (path, rest) = wording_at(alloc, rest)?;
+    if !is_end(rest) {
+        return Err(Stop::Bad);
+    }
+    Ok(Part::Command(Command::ImportPath { name, path }))
+}
+
+#[tactic(auto, unfolding(crate::specs::ReadRows::row_at))]
 fn pop_import_at(bytes: &[u8], place: Place) -> Result<Part, Stop>
     ensures { Gives (λ x. x) result (row_at place (form keywords.PopImport) bytes.now) }
 {
@@ -300,6 +324,7 @@ fn row_at(alloc: Global, keyword: Keyword, bytes: &[u8], place: Place) -> Result
         Keyword::Printer => printer_line_at(bytes, place),
         Keyword::Builtin => builtin_at(alloc, bytes, place),
         Keyword::Host => host_at(alloc, bytes, place),
+        Keyword::File => file_at(alloc, bytes, place),
         Keyword::Body => body_at(bytes, place),
         Keyword::Ret => ret_at(alloc, bytes, place),
         Keyword::Fail => fail_at(alloc, bytes, place),
@@ -327,6 +352,7 @@ fn row_at(alloc: Global, keyword: Keyword, bytes: &[u8], place: Place) -> Result
         Keyword::Global => global_at(bytes, place),
         Keyword::Static => static_at(alloc, bytes, place),
         Keyword::Import => import_at(alloc, bytes, place),
+        Keyword::ImportPath => import_path_at(alloc, bytes, place),
         Keyword::PopImport => pop_import_at(bytes, place),
         Keyword::Source => source_at(alloc, bytes, place),
         Keyword::NoSource => no_source_at(bytes, place),

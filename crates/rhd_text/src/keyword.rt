@@ -94,6 +94,7 @@ pub enum Keyword {
     Printer,
     Builtin,
     Host,
+    File,
     Body,
     Ret,
     Fail,
@@ -121,6 +122,7 @@ pub enum Keyword {
     Global,
     Static,
     Import,
+    ImportPath,
     PopImport,
     Source,
     NoSource,
@@ -140,6 +142,7 @@ impl Keyword {
             Keyword::Printer => b"printer",
             Keyword::Builtin => b"builtin",
             Keyword::Host => b"host",
+            Keyword::File => b"file",
             Keyword::Body => b"body",
             Keyword::Ret => b"ret",
             Keyword::Fail => b"fail",
@@ -167,6 +170,7 @@ impl Keyword {
             Keyword::Global => b"global",
             Keyword::Static => b"static",
             Keyword::Import => b"import",
+            Keyword::ImportPath => b"import-path",
             Keyword::PopImport => b"pop-import",
             Keyword::Source => b"source",
             Keyword::NoSource => b"no-source",
@@ -222,7 +226,7 @@ fn keyword_in(keywords: &[Keyword], word: &[u8]) -> Option<Keyword>
 }
 
 /// All keywords, the more frequent ones first.
-const ALL: [Keyword; 56] = [
+const ALL: [Keyword; 58] = [
     Keyword::Call(CallWord::Call),
     Keyword::Call(CallWord::Ref),
     Keyword::Call(CallWord::Method),
@@ -241,6 +245,7 @@ const ALL: [Keyword; 56] = [
     Keyword::Lib,
     Keyword::PopLib,
     Keyword::Import,
+    Keyword::ImportPath,
     Keyword::PopImport,
     Keyword::Source,
     Keyword::NoSource,
@@ -275,6 +280,7 @@ const ALL: [Keyword; 56] = [
     Keyword::Ret,
     Keyword::Fail,
     Keyword::Host,
+    Keyword::File,
     Keyword::Builtin,
     Keyword::Seeds,
     Keyword::Limits,

@@ -33,6 +33,11 @@ pub enum Part {
         name: Text,
         answer: Dynamic,
     },
+    /// The text of the file at a path.
+    File {
+        path: Text,
+        text: Text,
+    },
     /// The beginning of the next manifest.
     Manifest,
     /// A native that the latest manifest lists under a name.

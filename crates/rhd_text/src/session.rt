@@ -2,7 +2,7 @@
 
 ghost use Rattle.std.specs.Prelude.{◌≡◌, ◌+◌, ◌<◌, ◌^◌, length, IfOk, IfSome, Some};
 ghost use Rattle.rhd_func.specs.Infos.{infos_of};
-ghost use Rattle.rhd_text.specs.Session.{empty_text, takes_headers, is_held, with_seeds, with_limits, with_printer, with_builtin, with_host, with_body, with_call, with_end, with_command, added, with_part};
+ghost use Rattle.rhd_text.specs.Session.{empty_text, takes_headers, is_held, with_seeds, with_limits, with_printer, with_builtin, with_host, with_file, with_body, with_call, with_end, with_command, added, with_part};
 ghost use Rattle.rhd_text.specs.Session.{latest_manifest, with_new_manifest, with_manifest_entry, with_manifest_sub, with_manifest_var, with_manifest_type};
 ghost use Rattle.rhd_syntax.specs.Answers.{StepGives};
 
@@ -10,6 +10,7 @@ use crate::body::{BodyEnd, BodyPlans, CallPlan};
 use crate::part::Part;
 use rhd_call::{Command, Commands};
 use rhd_engine::{Builtins, Limits, Printers};
+use rhd_files::FileTable;
 use rhd_func::{FnNamespace, ManifestId, Natives};
 use rhd_hash::Seeds;
 use rhd_manifest::Manifests;
@@ -39,6 +40,8 @@ pub struct SessionText {
     pub builtins: Builtins,
     /// What the host answers, by the name of the call.
     pub hosts: Entries,
+    /// The texts of files, by their paths.
+    pub files: FileTable,
     /// The manifests, by their numbers.
     pub manifests: Manifests,
     /// The bodies, by their numbers.
@@ -58,6 +61,7 @@ impl SessionText {
             printers: Printers::NONE,
             builtins: Builtins::new(alloc),
             hosts: Entries::new(alloc),
+            files: FileTable::new(alloc),
             manifests: Manifests::new(alloc),
             bodies: BodyPlans::new(alloc),
             commands: Commands::new(alloc),
@@ -74,6 +78,7 @@ impl SessionText {
             printers: self.printers,
             builtins: self.builtins.dup(alloc)?,
             hosts: self.hosts.dup(alloc)?,
+            files: self.files.dup(alloc)?,
             manifests: self.manifests.dup(alloc)?,
             bodies: self.bodies.dup(alloc)?,
             commands: self.commands.dup(alloc)?,
@@ -142,6 +147,13 @@ impl SessionText {
         ensures { StepGives result self.old self.new (Some (with_host self.old name answer)) }
     {
         Ok(self.hosts.insert(name, answer)?)
+    }
+
+    #[tactic(auto, unfolding(crate::specs::Session::with_file))]
+    fn set_file(&mut self, path: Text, text: Text) -> Result<(), Stop>
+        ensures { StepGives result self.old self.new (Some (with_file self.old path text)) }
+    {
+        Ok(self.files.insert(path, text)?)
     }
 
     /// The number of the latest manifest; none where none was begun.
@@ -279,6 +291,7 @@ impl SessionText {
                 id,
             } => self.set_builtin(alloc, op, left, right, id, natives),
             Part::Host { name, answer } => self.set_host(name, answer),
+            Part::File { path, text } => self.set_file(path, text),
             Part::Manifest => self.begin_manifest(alloc),
             Part::Entry {
                 name,
@@ -304,6 +317,7 @@ impl SessionText {
         ensures { StepGives result self.old self.new (with_part (infos_of info natives.now) self.old part) }
     {
         if part.is_header() && !self.takes_headers() {
+            drop(part);
             return Err(Stop::Bad);
         }
         self.add(alloc, part, natives)
