@@ -1,0 +1,10 @@
+pub mod Rows
+pub mod Imports
+pub mod Said
+pub mod Says
+pub mod Reading
+pub mod Loads
+pub mod Making
+pub mod Alike
+pub mod Names
+pub mod Codes
