@@ -23,7 +23,7 @@ use Rattle.rhd_call.specs.Seen.{Seen, seen, begun_node, unbegun_node, cut_end}
 use Rattle.rhd_machine.specs.Steps.{Starts}
 use Rattle.rhd_machine.specs.Runs.{Runs, not_begun, ended, host_answered, finished, cut_short, Steps, none_yet, one_more, received_by}
 use Rattle.rhd_call.specs.Trees.{InTree, is_root, is_below, AllBegun, CutTree, cut_here, cut_below, begun_in, begun_in_nodes, begun_in_row}
-use Rattle.rhd_machine.specs.Trees.{entered_by, frame_at, RunsAt}
+use Rattle.rhd_machine.specs.Trees.{frame_inside, frame_at, RunsAt}
 use Rattle.rhd_laws.specs.Requests.{Requests, no_more, the_last, one_then, ShowsRequests}
 use Rattle.rhd_machine.proofs.Found.{runs_within, runs_plan}
 use Rattle.rhd_machine.proofs.Stepped.{starts_begun, resumes_begun}
@@ -223,7 +223,7 @@ module _ {H B : Type 0} (o : Objects H B) (w : World) where
 
   -- the frame in which the requests of a node are asked
   abbrev inner : Frame → CallNode → Frame
-  inner f node = entered_by w f (seen node) (seen node).pick
+  inner f node = frame_inside w f (seen node) (seen node).pick
 
   steps_run : {f : Frame} {level : ℕ} {plan : Plan} {pick : Pick} {first last : NativeStep} {carries : List Carry} {children : List CallNode} {before after : Moment H B} → Steps o w f level plan pick first carries children last before after
       → All (RunsUnder (entered w.environs f level pick) level) children
@@ -238,7 +238,7 @@ module _ {H B : Type 0} (o : Objects H B) (w : World) where
   all_run : (f : Frame) (level : ℕ) (call : CallRequest) (node : CallNode) (pick : Pick) (carries : List Carry) (children : List CallNode) (end : End) → seen node ≡ begun_node call level (Some pick) carries children end
       → All (RunsUnder (entered w.environs f level pick) level) children → All (RunsUnder (inner f node) level) (seen node).children
   all_run f level call node pick carries children end s all =
-      subst (λ (g : Frame). All (RunsUnder g level) (seen node).children) (sym (ap (λ (x : Seen). entered_by w f x x.pick) s))
+      subst (λ (g : Frame). All (RunsUnder g level) (seen node).children) (sym (ap (λ (x : Seen). frame_inside w f x x.pick) s))
       (All-same (RunsUnder (entered w.environs f level pick) level) (seen node).children children (ap (λ (x : Seen). x.children) s) all)
 
   -- so do all children of a node that runs

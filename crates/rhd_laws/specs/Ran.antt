@@ -7,6 +7,7 @@ use Rattle.rhd_call.specs.declared.reply.Reply.{Reply}
 use Rattle.rhd_call.specs.declared.reply.Stopped.{Stopped}
 use Rattle.rhd_engine.specs.Engine.{Frame}
 use Rattle.rhd_session.specs.Answered.{Answered}
+use Rattle.rhd_session.specs.State.{SessionState, SessionObjects}
 use Rattle.rhd_machine.specs.Runs.{Runs}
 use Rattle.rhd_machine.specs.World.{World, Objects, Moment}
 
@@ -22,27 +23,24 @@ pub record Ran {H B : Type 0} (o : Objects H B) : Type 0 where
   pub cut : Bool
   pub runs : Runs o world frame level call node before after cut
 
--- Commands from any world, frame and moment on, and replies that answer them.
-pub record RunOf {H B : Type 0} (o : Objects H B) : Type 0 where
-  pub world : World
-  pub frame : Frame
+-- Commands from any state and moment on, and replies that answer them.
+pub record RunOf {H B : Type 0} (o : SessionObjects H B) : Type 0 where
+  pub state : SessionState
   pub before : Moment H B
   pub commands : List Command
   pub replies : List Reply
-  pub last_world : World
-  pub last_frame : Frame
+  pub last : SessionState
   pub after : Moment H B
-  pub answered : Answered o world frame before commands replies last_world last_frame after
+  pub answered : Answered o state before commands replies last after
 
 -- the replies that were given, also where memory ran out
 abbrev pub replies_in : Result (List Reply) Stopped → List Reply
 replies_in (Ok replies) = replies
 replies_in (Err stopped) = stopped.replies
 
--- The run answers the first of these commands by the replies that were given, from this world, frame and moment on.
-pub record IsRunOf {H B : Type 0} (o : Objects H B) (world : World) (frame : Frame) (before : Moment H B) (commands : List Command) (result : Result (List Reply) Stopped) (run : RunOf o) : Type 0 where
-  pub world_is : run.world ≡ world
-  pub frame_is : run.frame ≡ frame
+-- The run answers the first of these commands by the replies that were given, from this state and moment on.
+pub record IsRunOf {H B : Type 0} (o : SessionObjects H B) (state : SessionState) (before : Moment H B) (commands : List Command) (result : Result (List Reply) Stopped) (run : RunOf o) : Type 0 where
+  pub state_is : run.state ≡ state
   pub before_is : run.before ≡ before
   pub first : run.commands ≡ take (length (replies_in result)) commands
   pub given : run.replies ≡ replies_in result

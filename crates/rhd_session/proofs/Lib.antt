@@ -6,3 +6,4 @@ pub mod ManifestChanges
 pub mod GlobalChanges
 pub mod JoinedHeld
 pub mod JoinChanges
+pub mod Imported

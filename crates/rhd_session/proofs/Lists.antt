@@ -1,5 +1,5 @@
 -- Lists of commands and their replies, one more at a time.
-use Rattle.std.proofs.Common.{◌≡◌, true, false, ℕ, ◌+◌, ◌<◌, ◌≤◌, List, [], ◌∷◌, ◌++◌, refl, sym, subst, length, ap, suc, take, get_or, slice_get, Some, ◌∙◌, arith}
+use Rattle.std.proofs.Common.{◌≡◌, ℕ, ◌+◌, ◌<◌, ◌≤◌, List, [], ◌∷◌, ◌++◌, refl, sym, subst, length, ap, suc, take, get_or, slice_get, Option, None, Some, ◌∙◌, arith}
 use Rattle.std.proofs.lemmas.List.{take_more, length-take, length-append}
 use Rattle.std.proofs.lemmas.Option.{get_or_from_slice_get}
 use Rattle.std.proofs.Math.Seq.{take-append_seam, get_or-append_seam, take-length}
@@ -7,117 +7,28 @@ use Rattle.std.specs.Iterator.{Yields}
 use Rattle.std.specs.Vec.Iter.{into_iter_items, into_iter_steps}
 use Rattle.std.specs.declared.vec.IntoIter.{IntoIter}
 use Rattle.rhd_call.specs.declared.command.Command.{Command}
-use Rattle.rhd_call.specs.declared.command.Command.TheVariants as commands
 use Rattle.rhd_call.specs.declared.reply.Reply.{Reply}
-use Rattle.rhd_engine.specs.Engine.{Frame}
-use Rattle.rhd_machine.specs.World.{World, Objects, Moment}
-use Rattle.rhd_session.specs.Commands.{is_call}
-use Rattle.rhd_session.specs.Answered.{Declares, declared, Replied, Answered, Begins}
+use Rattle.rhd_func.specs.declared.request.CallRequest.{CallRequest}
+use Rattle.rhd_machine.specs.World.{Moment}
+use Rattle.rhd_session.specs.Commands.{call_of}
+use Rattle.rhd_session.specs.State.{SessionState, SessionObjects, Stays}
+use Rattle.rhd_session.specs.Answered.{Applied, RepliedTo, Replied, BeginsCalls, Answered, Begins}
 
 -- where no call is begun, none is
+begins_no_call : (request : Option CallRequest) (n : ℕ) → BeginsCalls request n n
+begins_no_call None n = refl
+begins_no_call (Some request) n = omega arith
+
 pub begins_none : (command : Command) (n : ℕ) → Begins command n n
-begins_none commands.NewModule n = refl
-begins_none commands.PopLib n = refl
-begins_none commands.PopImport n = refl
-begins_none (commands.SetSource source) n = refl
-begins_none (commands.SetTag tag) n = refl
-begins_none (commands.PushImport name m) n = refl
-begins_none (commands.GlobalModule m) n = refl
-begins_none (commands.StaticModule name m) n = refl
-begins_none (commands.FromManifest a) n = refl
-begins_none (commands.CombineManifest m a) n = refl
-begins_none (commands.RegisterLazy m) n = refl
-begins_none (commands.Index m) n = refl
-begins_none (commands.SetId m a) n = refl
-begins_none (commands.SetDoc m a) n = refl
-begins_none (commands.SetVar m a b) n = refl
-begins_none (commands.SetType m a b) n = refl
-begins_none (commands.Native m reg id) n = refl
-begins_none (commands.RawNative m name namespace types func) n = refl
-begins_none (commands.Script m def) n = refl
-begins_none (commands.SubModule m name sub) n = refl
-begins_none (commands.Combine m other) n = refl
-begins_none (commands.CombineFlatten m other) n = refl
-begins_none (commands.Fill m other) n = refl
-begins_none (commands.Merge m other) n = refl
-begins_none (commands.Clear m) n = refl
-begins_none (commands.RegisterFn name id) n = refl
-begins_none (commands.RegisterRaw name types id) n = refl
-begins_none (commands.RegisterType kind display) n = refl
-begins_none (commands.PushLib m) n = refl
-begins_none (commands.Count m) n = refl
-begins_none (commands.Contains m key) n = refl
-begins_none (commands.Call request) n = omega arith
+begins_none command n = begins_no_call (call_of command) n
 
--- a command that makes no call is answered by what it declares
-pub declares_replied : {H B : Type 0} (o : Objects H B) (w w2 : World) (f f2 : Frame) (before after : Moment H B) (command : Command) (reply : Reply) → is_call command ≡ false → Declares w f command reply w2 f2 → after ≡ before → Replied o w f before command reply w2 f2 after
-declares_replied o w w2 f f2 before after (commands.Call request) reply q d e = absurd (let x : true ≡ false = q in cc)
-declares_replied o w w2 f f2 before after commands.NewModule reply q d e = (declared d, e)
-declares_replied o w w2 f f2 before after commands.PopLib reply q d e = (declared d, e)
-declares_replied o w w2 f f2 before after commands.PopImport reply q d e = (declared d, e)
-declares_replied o w w2 f f2 before after (commands.SetSource source) reply q d e = (declared d, e)
-declares_replied o w w2 f f2 before after (commands.SetTag tag) reply q d e = (declared d, e)
-declares_replied o w w2 f f2 before after (commands.PushImport name m) reply q d e = (declared d, e)
-declares_replied o w w2 f f2 before after (commands.GlobalModule m) reply q d e = (declared d, e)
-declares_replied o w w2 f f2 before after (commands.StaticModule name m) reply q d e = (declared d, e)
-declares_replied o w w2 f f2 before after (commands.FromManifest a) reply q d e = (declared d, e)
-declares_replied o w w2 f f2 before after (commands.CombineManifest m a) reply q d e = (declared d, e)
-declares_replied o w w2 f f2 before after (commands.RegisterLazy m) reply q d e = (declared d, e)
-declares_replied o w w2 f f2 before after (commands.Index m) reply q d e = (declared d, e)
-declares_replied o w w2 f f2 before after (commands.SetId m a) reply q d e = (declared d, e)
-declares_replied o w w2 f f2 before after (commands.SetDoc m a) reply q d e = (declared d, e)
-declares_replied o w w2 f f2 before after (commands.SetVar m a b) reply q d e = (declared d, e)
-declares_replied o w w2 f f2 before after (commands.SetType m a b) reply q d e = (declared d, e)
-declares_replied o w w2 f f2 before after (commands.Native m reg n) reply q d e = (declared d, e)
-declares_replied o w w2 f f2 before after (commands.RawNative m name namespace types func) reply q d e = (declared d, e)
-declares_replied o w w2 f f2 before after (commands.Script m def) reply q d e = (declared d, e)
-declares_replied o w w2 f f2 before after (commands.SubModule m name sub) reply q d e = (declared d, e)
-declares_replied o w w2 f f2 before after (commands.Combine m other) reply q d e = (declared d, e)
-declares_replied o w w2 f f2 before after (commands.CombineFlatten m other) reply q d e = (declared d, e)
-declares_replied o w w2 f f2 before after (commands.Fill m other) reply q d e = (declared d, e)
-declares_replied o w w2 f f2 before after (commands.Merge m other) reply q d e = (declared d, e)
-declares_replied o w w2 f f2 before after (commands.Clear m) reply q d e = (declared d, e)
-declares_replied o w w2 f f2 before after (commands.RegisterFn name id) reply q d e = (declared d, e)
-declares_replied o w w2 f f2 before after (commands.RegisterRaw name types id) reply q d e = (declared d, e)
-declares_replied o w w2 f f2 before after (commands.RegisterType kind display) reply q d e = (declared d, e)
-declares_replied o w w2 f f2 before after (commands.PushLib m) reply q d e = (declared d, e)
-declares_replied o w w2 f f2 before after (commands.Count m) reply q d e = (declared d, e)
-declares_replied o w w2 f f2 before after (commands.Contains m key) reply q d e = (declared d, e)
+-- a command that makes no call begins none
+pub declares_begins : (command : Command) (before after : ℕ) → call_of command ≡ None → after ≡ before → Begins command before after
+declares_begins command before after none e = subst (λ (r : Option CallRequest). BeginsCalls r before after) (sym none) e
 
--- nor does it begin one
-pub declares_begins : (command : Command) (before after : ℕ) → is_call command ≡ false → after ≡ before → Begins command before after
-declares_begins (commands.Call request) before after q e = absurd (let x : true ≡ false = q in cc)
-declares_begins commands.NewModule before after q e = e
-declares_begins commands.PopLib before after q e = e
-declares_begins commands.PopImport before after q e = e
-declares_begins (commands.SetSource source) before after q e = e
-declares_begins (commands.SetTag tag) before after q e = e
-declares_begins (commands.PushImport name m) before after q e = e
-declares_begins (commands.GlobalModule m) before after q e = e
-declares_begins (commands.StaticModule name m) before after q e = e
-declares_begins (commands.FromManifest a) before after q e = e
-declares_begins (commands.CombineManifest m a) before after q e = e
-declares_begins (commands.RegisterLazy m) before after q e = e
-declares_begins (commands.Index m) before after q e = e
-declares_begins (commands.SetId m a) before after q e = e
-declares_begins (commands.SetDoc m a) before after q e = e
-declares_begins (commands.SetVar m a b) before after q e = e
-declares_begins (commands.SetType m a b) before after q e = e
-declares_begins (commands.Native m reg n) before after q e = e
-declares_begins (commands.RawNative m name namespace types func) before after q e = e
-declares_begins (commands.Script m def) before after q e = e
-declares_begins (commands.SubModule m name sub) before after q e = e
-declares_begins (commands.Combine m other) before after q e = e
-declares_begins (commands.CombineFlatten m other) before after q e = e
-declares_begins (commands.Fill m other) before after q e = e
-declares_begins (commands.Merge m other) before after q e = e
-declares_begins (commands.Clear m) before after q e = e
-declares_begins (commands.RegisterFn name id) before after q e = e
-declares_begins (commands.RegisterRaw name types id) before after q e = e
-declares_begins (commands.RegisterType kind display) before after q e = e
-declares_begins (commands.PushLib m) before after q e = e
-declares_begins (commands.Count m) before after q e = e
-declares_begins (commands.Contains m key) before after q e = e
+-- where nothing was done, nothing has changed
+pub stays_same : (s : SessionState) → Stays s s
+stays_same s = (refl, refl, record { same = refl; rises = omega arith })
 
 -- the command of a place is the one that stands there
 pub begins_at : (cs : List Command) (i : ℕ) (command other : Command) (before after : ℕ) →
@@ -139,81 +50,80 @@ taken_next all done first last rest command is gave e =
       omega (arith, ap length stands, length-append done (command ∷ into_iter_items rest)),
     )
 
-module _ {H B : Type 0} (o : Objects H B) where
+module _ {H B : Type 0} (o : SessionObjects H B) where
+  -- a command that makes no call is answered by what is applied
+  pub applied_replied : (s s2 : SessionState) (before after : Moment H B) (command : Command) (reply : Reply) → call_of command ≡ None → Applied o s command reply s2 → after ≡ before → Replied o s before command reply s2 after
+  applied_replied s s2 before after command reply none a e = subst (λ (r : Option CallRequest). RepliedTo o s before command r reply s2 after) (sym none) (a, e)
+
   -- the commands that were taken are a front of all
-  pub answered_front : (w : World) (f : Frame) (s : Moment H B) (all done : List Command) (replies : List Reply) (w1 : World) (f1 : Frame) (s1 : Moment H B) →
-      take (length done) all ≡ done → Answered o w f s done replies w1 f1 s1 → Answered o w f s (take (length done) all) replies w1 f1 s1
-  answered_front w f s all done replies w1 f1 s1 e a = subst (λ (cs : List Command). Answered o w f s cs replies w1 f1 s1) (sym e) a
+  pub answered_front : (t : SessionState) (s : Moment H B) (all done : List Command) (replies : List Reply) (t1 : SessionState) (s1 : Moment H B) →
+      take (length done) all ≡ done → Answered o t s done replies t1 s1 → Answered o t s (take (length done) all) replies t1 s1
+  answered_front t s all done replies t1 s1 e a = subst (λ (cs : List Command). Answered o t s cs replies t1 s1) (sym e) a
 
   -- one command more
-  pub answered_more : (w : World) (f : Frame) (s : Moment H B) (commands : List Command) (replies : List Reply) (w1 : World) (f1 : Frame) (s1 : Moment H B) (command : Command) (reply : Reply) (w2 : World) (f2 : Frame) (s2 : Moment H B) →
-      Answered o w f s commands replies w1 f1 s1 → Replied o w1 f1 s1 command reply w2 f2 s2 → Answered o w f s (commands ++ command ∷ []) (replies ++ reply ∷ []) w2 f2 s2
-  answered_more w f s [] [] w1 f1 s1 command reply w2 f2 s2 a r = (
-    w2,
-    f2,
+  pub answered_more : (t : SessionState) (s : Moment H B) (commands : List Command) (replies : List Reply) (t1 : SessionState) (s1 : Moment H B) (command : Command) (reply : Reply) (t2 : SessionState) (s2 : Moment H B) →
+      Answered o t s commands replies t1 s1 → Replied o t1 s1 command reply t2 s2 → Answered o t s (commands ++ command ∷ []) (replies ++ reply ∷ []) t2 s2
+  answered_more t s [] [] t1 s1 command reply t2 s2 a r = (
+    t2,
     s2,
-    subst (λ (x : World). Replied o x f s command reply w2 f2 s2) a.0
-        (subst (λ (x : Frame). Replied o w1 x s command reply w2 f2 s2) a.1
-        (subst (λ (x : Moment H B). Replied o w1 f1 x command reply w2 f2 s2) a.2 r)),
-    (refl, refl, refl),
+    subst (λ (x : SessionState). Replied o x s command reply t2 s2) a.0 (subst (λ (x : Moment H B). Replied o t1 x command reply t2 s2) a.1 r),
+    (refl, refl),
   )
-  answered_more w f s (c ∷ commands) (p ∷ replies) w1 f1 s1 command reply w2 f2 s2 a r =
-      (a.0, a.1, a.2, a.3, answered_more a.0 a.1 a.2 commands replies w1 f1 s1 command reply w2 f2 s2 a.4 r)
-  answered_more w f s [] (p ∷ replies) w1 f1 s1 command reply w2 f2 s2 a r = absurd a
-  answered_more w f s (c ∷ commands) [] w1 f1 s1 command reply w2 f2 s2 a r = absurd a
+  answered_more t s (c ∷ commands) (p ∷ replies) t1 s1 command reply t2 s2 a r =
+      (a.0, a.1, a.2, answered_more a.0 a.1 commands replies t1 s1 command reply t2 s2 a.3 r)
+  answered_more t s [] (p ∷ replies) t1 s1 command reply t2 s2 a r = absurd a
+  answered_more t s (c ∷ commands) [] t1 s1 command reply t2 s2 a r = absurd a
 
   -- the same, where its reply goes last
-  pub answered_next : (w : World) (f : Frame) (s : Moment H B) (commands : List Command) (replies now : List Reply) (w1 : World) (f1 : Frame) (s1 : Moment H B) (command : Command) (reply : Reply) (w2 : World) (f2 : Frame) (s2 : Moment H B) →
-      now ≡ replies ++ reply ∷ [] → Answered o w f s commands replies w1 f1 s1 → Replied o w1 f1 s1 command reply w2 f2 s2 → Answered o w f s (commands ++ command ∷ []) now w2 f2 s2
-  answered_next w f s commands replies now w1 f1 s1 command reply w2 f2 s2 p a r =
-      subst (λ (rs : List Reply). Answered o w f s (commands ++ command ∷ []) rs w2 f2 s2) (sym p) (answered_more w f s commands replies w1 f1 s1 command reply w2 f2 s2 a r)
+  pub answered_next : (t : SessionState) (s : Moment H B) (commands : List Command) (replies now : List Reply) (t1 : SessionState) (s1 : Moment H B) (command : Command) (reply : Reply) (t2 : SessionState) (s2 : Moment H B) →
+      now ≡ replies ++ reply ∷ [] → Answered o t s commands replies t1 s1 → Replied o t1 s1 command reply t2 s2 → Answered o t s (commands ++ command ∷ []) now t2 s2
+  answered_next t s commands replies now t1 s1 command reply t2 s2 p a r =
+      subst (λ (rs : List Reply). Answered o t s (commands ++ command ∷ []) rs t2 s2) (sym p) (answered_more t s commands replies t1 s1 command reply t2 s2 a r)
 
   -- as many replies as commands
-  pub answered_length : (w : World) (f : Frame) (s : Moment H B) (commands : List Command) (replies : List Reply) (w2 : World) (f2 : Frame) (s2 : Moment H B) → Answered o w f s commands replies w2 f2 s2 → length replies ≡ length commands
-  answered_length w f s [] [] w2 f2 s2 a = refl
-  answered_length w f s (c ∷ commands) (p ∷ replies) w2 f2 s2 a = ap suc (answered_length a.0 a.1 a.2 commands replies w2 f2 s2 a.4)
-  answered_length w f s [] (p ∷ replies) w2 f2 s2 a = absurd a
-  answered_length w f s (c ∷ commands) [] w2 f2 s2 a = absurd a
+  pub answered_length : (t : SessionState) (s : Moment H B) (commands : List Command) (replies : List Reply) (t2 : SessionState) (s2 : Moment H B) → Answered o t s commands replies t2 s2 → length replies ≡ length commands
+  answered_length t s [] [] t2 s2 a = refl
+  answered_length t s (c ∷ commands) (p ∷ replies) t2 s2 a = ap suc (answered_length a.0 a.1 commands replies t2 s2 a.3)
+  answered_length t s [] (p ∷ replies) t2 s2 a = absurd a
+  answered_length t s (c ∷ commands) [] t2 s2 a = absurd a
 
   -- all commands are answered
-  pub run_taken : (w : World) (f : Frame) (s : Moment H B) (all done : List Command) (replies now : List Reply) (w1 : World) (f1 : Frame) (s1 : Moment H B) →
-      done ≡ all → now ≡ replies → Answered o w f s done replies w1 f1 s1 → Answered o w f s all now w1 f1 s1 × (length now ≡ length all)
-  run_taken w f s all done replies now w1 f1 s1 is e a =
-      let b : Answered o w f s all now w1 f1 s1 =
-      subst (λ (cs : List Command). Answered o w f s cs now w1 f1 s1) is (subst (λ (rs : List Reply). Answered o w f s done rs w1 f1 s1) (sym e) a) in
-      (b, answered_length w f s all now w1 f1 s1 b)
+  pub run_taken : (t : SessionState) (s : Moment H B) (all done : List Command) (replies now : List Reply) (t1 : SessionState) (s1 : Moment H B) →
+      done ≡ all → now ≡ replies → Answered o t s done replies t1 s1 → Answered o t s all now t1 s1 × (length now ≡ length all)
+  run_taken t s all done replies now t1 s1 is e a =
+      let b : Answered o t s all now t1 s1 =
+      subst (λ (cs : List Command). Answered o t s cs now t1 s1) is (subst (λ (rs : List Reply). Answered o t s done rs t1 s1) (sym e) a) in
+      (b, answered_length t s all now t1 s1 b)
 
-  pub run_whole : (w : World) (f : Frame) (s : Moment H B) (all : List Command) (i : ℕ) (replies now : List Reply) (w1 : World) (f1 : Frame) (s1 : Moment H B) →
-      i ≡ length all → now ≡ replies → Answered o w f s (take i all) replies w1 f1 s1 → Answered o w f s all now w1 f1 s1 × (length now ≡ length all)
-  run_whole w f s all i replies now w1 f1 s1 n e a = run_taken w f s all (take i all) replies now w1 f1 s1 (ap (λ (k : ℕ). take k all) n ∙ take-length all) e a
+  pub run_whole : (t : SessionState) (s : Moment H B) (all : List Command) (i : ℕ) (replies now : List Reply) (t1 : SessionState) (s1 : Moment H B) →
+      i ≡ length all → now ≡ replies → Answered o t s (take i all) replies t1 s1 → Answered o t s all now t1 s1 × (length now ≡ length all)
+  run_whole t s all i replies now t1 s1 n e a = run_taken t s all (take i all) replies now t1 s1 (ap (λ (k : ℕ). take k all) n ∙ take-length all) e a
 
   -- stopped after as many commands as replies
-  pub stopped_at : (w : World) (f : Frame) (s : Moment H B) (commands : List Command) (i : ℕ) (replies now : List Reply) (w1 w2 : World) (f1 f2 : Frame) (s1 : Moment H B) →
-      i ≤ length commands → now ≡ replies → w2 ≡ w1 → f2 ≡ f1 → Answered o w f s (take i commands) replies w1 f1 s1 → Answered o w f s (take (length now) commands) now w2 f2 s1
-  stopped_at w f s commands i replies now w1 w2 f1 f2 s1 h e n m a =
-      let l : i ≡ length now = omega (arith, answered_length w f s (take i commands) replies w1 f1 s1 a, length-take i commands, ap length e) in
-      subst (λ (k : ℕ). Answered o w f s (take k commands) now w2 f2 s1) l
-      (subst (λ (r : List Reply). Answered o w f s (take i commands) r w2 f2 s1) (sym e)
-      (subst (λ (x : World). Answered o w f s (take i commands) replies x f2 s1) (sym n)
-      (subst (λ (x : Frame). Answered o w f s (take i commands) replies w1 x s1) (sym m) a)))
+  pub stopped_at : (t : SessionState) (s : Moment H B) (commands : List Command) (i : ℕ) (replies now : List Reply) (t1 : SessionState) (s1 : Moment H B) →
+      i ≤ length commands → now ≡ replies → Answered o t s (take i commands) replies t1 s1 → Answered o t s (take (length now) commands) now t1 s1
+  stopped_at t s commands i replies now t1 s1 h e a =
+      let l : i ≡ length now = omega (arith, answered_length t s (take i commands) replies t1 s1 a, length-take i commands, ap length e) in
+      subst (λ (k : ℕ). Answered o t s (take k commands) now t1 s1) l
+      (subst (λ (r : List Reply). Answered o t s (take i commands) r t1 s1) (sym e) a)
 
   -- and before all are answered
-  pub stopped_before : (w : World) (f : Frame) (s : Moment H B) (commands : List Command) (i : ℕ) (replies now : List Reply) (w1 : World) (f1 : Frame) (s1 : Moment H B) →
-      i < length commands → now ≡ replies → Answered o w f s (take i commands) replies w1 f1 s1 → length now < length commands
-  stopped_before w f s commands i replies now w1 f1 s1 h e a = omega (arith, answered_length w f s (take i commands) replies w1 f1 s1 a, length-take i commands, ap length e)
+  pub stopped_before : (t : SessionState) (s : Moment H B) (commands : List Command) (i : ℕ) (replies now : List Reply) (t1 : SessionState) (s1 : Moment H B) →
+      i < length commands → now ≡ replies → Answered o t s (take i commands) replies t1 s1 → length now < length commands
+  stopped_before t s commands i replies now t1 s1 h e a = omega (arith, answered_length t s (take i commands) replies t1 s1 a, length-take i commands, ap length e)
 
   -- what the command begins at which it stops
-  pub stopped_begins : (w : World) (f : Frame) (s : Moment H B) (cs : List Command) (i : ℕ) (command other : Command) (replies now : List Reply) (w1 : World) (f1 : Frame) (s1 : Moment H B) (before after : ℕ) →
-      i < length cs → command ≡ get_or cs i command → now ≡ replies → Answered o w f s (take i cs) replies w1 f1 s1 → slice_get cs (length now) ≡ Some other → Begins command before after → Begins other before after
-  stopped_begins w f s cs i command other replies now w1 f1 s1 before after h is e a stands b =
-      let l : length now ≡ i = omega (arith, answered_length w f s (take i cs) replies w1 f1 s1 a, length-take i cs, ap length e) in
+  pub stopped_begins : (t : SessionState) (s : Moment H B) (cs : List Command) (i : ℕ) (command other : Command) (replies now : List Reply) (t1 : SessionState) (s1 : Moment H B) (before after : ℕ) →
+      i < length cs → command ≡ get_or cs i command → now ≡ replies → Answered o t s (take i cs) replies t1 s1 → slice_get cs (length now) ≡ Some other → Begins command before after → Begins other before after
+  stopped_begins t s cs i command other replies now t1 s1 before after h is e a stands b =
+      let l : length now ≡ i = omega (arith, answered_length t s (take i cs) replies t1 s1 a, length-take i cs, ap length e) in
       begins_at cs i command other before after is (subst (λ (k : ℕ). slice_get cs k ≡ Some other) l stands) b
 
   -- one turn of the loop
-  pub turn : (w : World) (f : Frame) (s : Moment H B) (commands : List Command) (i : ℕ) (command same : Command) (replies now : List Reply) (reply : Reply) (w1 w2 : World) (f1 f2 : Frame) (s1 s2 : Moment H B) →
+  pub turn : (t : SessionState) (s : Moment H B) (commands : List Command) (i : ℕ) (command same : Command) (replies now : List Reply) (reply : Reply) (t1 t2 : SessionState) (s1 s2 : Moment H B) →
       i < length commands → command ≡ get_or commands i command → same ≡ command → now ≡ replies ++ reply ∷ [] →
-      Answered o w f s (take i commands) replies w1 f1 s1 → Replied o w1 f1 s1 same reply w2 f2 s2 → Answered o w f s (take (i + 1) commands) now w2 f2 s2
-  turn w f s commands i command same replies now reply w1 w2 f1 f2 s1 s2 h is e p a r =
-      let t : take (i + 1) commands ≡ take i commands ++ same ∷ [] = take_more commands i command h ∙ ap (λ (c : Command). take i commands ++ c ∷ []) (sym is ∙ sym e) in
-      subst (λ (cs : List Command). Answered o w f s cs now w2 f2 s2) (sym t)
-      (answered_next w f s (take i commands) replies now w1 f1 s1 same reply w2 f2 s2 p a r)
+      Answered o t s (take i commands) replies t1 s1 → Replied o t1 s1 same reply t2 s2 → Answered o t s (take (i + 1) commands) now t2 s2
+  turn t s commands i command same replies now reply t1 t2 s1 s2 h is e p a r =
+      let cut : take (i + 1) commands ≡ take i commands ++ same ∷ [] = take_more commands i command h ∙ ap (λ (c : Command). take i commands ++ c ∷ []) (sym is ∙ sym e) in
+      subst (λ (cs : List Command). Answered o t s cs now t2 s2) (sym cut)
+      (answered_next t s (take i commands) replies now t1 s1 same reply t2 s2 p a r)

@@ -1,5 +1,5 @@
 -- How the code carries out the commands that declare something: the machine's own words. `Declares` says what they answer and leave.
-use Rattle.std.specs.Prelude.{◌≡◌, Bool, true, false, not, nat_lt, List, [], ◌∷◌, length, Option, None, Some, Result, Ok, Err}
+use Rattle.std.specs.Prelude.{◌≡◌, Bool, true, false, not, nat_lt, List, [], ◌∷◌, length, Option, None, Some, Result, Ok, Err, is_err}
 use Rattle.std.specs.List.{AllByRecursion, Contains}
 use Rattle.rhd_value.specs.Firsts.{first_some, where_holds}
 use Rattle.rhd_value.specs.declared.tag.FnId.{FnId}
@@ -16,13 +16,16 @@ use Rattle.rhd_module.specs.Tree.{ModuleTree}
 use Rattle.rhd_module.specs.Algebra.{combined_with, flattened_with, filled_with, merged_with, merged_all}
 use Rattle.rhd_module.specs.Registered.{unheld}
 use Rattle.rhd_engine.specs.Engine.{Frame}
+use Rattle.rhd_engine.specs.Lists.{with_last}
 use Rattle.rhd_call.specs.declared.command.Command.{Command}
 use Rattle.rhd_call.specs.declared.command.Command.TheVariants as commands
 use Rattle.rhd_call.specs.declared.command.ModuleId.{ModuleId}
 use Rattle.rhd_call.specs.declared.reply.Reply.{Reply}
-use Rattle.rhd_call.specs.declared.reply.Reply.TheVariants.{Done, Refused}
+use Rattle.rhd_call.specs.declared.reply.Reply.TheVariants.{Done, Fault, Refused}
+use Rattle.rhd_resolve.specs.declared.fault.ResolveFault.{ResolveFault}
+use Rattle.rhd_resolve.specs.declared.fault.ResolveFault.TheVariants as refusal
 use Rattle.rhd_machine.specs.World.{World}
-use Rattle.rhd_session.specs.Commands.{Keyed, with_made, without_keys, module_change, not_callable, indexer_not_allowed}
+use Rattle.rhd_session.specs.Commands.{Keyed, but_last, with_made, without_keys, module_change, not_callable, indexer_not_allowed}
 use Rattle.rhd_session.specs.Answered.{Declares, NoClash}
 use Rattle.rhd_session.specs.declared.joining.Join.{Join}
 use Rattle.rhd_session.specs.declared.joining.Join.TheVariants as joins
@@ -108,6 +111,17 @@ joined_by joins.Merge other m = merged_with (λ d. true) other m
 abbrev pub all_joined_by : Join → ModuleTree → ModuleTree → List ModuleTree
 all_joined_by joins.Merge other m = merged_all (λ d. true) other m
 all_joined_by join other m = joined_by join other m ∷ []
+
+-- the reply that a resolver's refusal is; want of memory is none
+abbrev pub IsRefusal : ResolveFault → Result Reply OutOfMemory → Type 0
+IsRefusal (refusal.Fault fault) r = r ≡ Ok (Fault fault)
+IsRefusal (refusal.HashCollision held new) r = r ≡ Ok (Refused (HashCollision held new))
+IsRefusal refusal.OutOfMemory r = is_err r ≡ true
+
+-- what an import comes to whose place was made last among the imports: the resolver's module stands there, or the place is taken off again
+abbrev pub EndsImport : Frame → Result ModuleTree ResolveFault → Result Reply OutOfMemory → Frame → Type 0
+EndsImport f (Ok m) r f2 = (r ≡ Ok Done) × (f2 ≡ record f { imports = with_last m f.imports })
+EndsImport f (Err fault) r f2 = IsRefusal fault r × (f2 ≡ record f { imports = but_last f.imports })
 
 -- the reply that such an answer is; want of memory is none
 abbrev pub IsReply : Result (Unit {0}) DeclFault → Result Reply OutOfMemory → Type 0

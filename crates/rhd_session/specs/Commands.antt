@@ -16,6 +16,7 @@ use Rattle.rhd_func.specs.declared.access.ManifestId.{ManifestId}
 use Rattle.rhd_func.specs.declared.access.FnNamespace.TheVariants.{Global}
 use Rattle.rhd_func.specs.declared.func.RhaiFunc.{RhaiFunc}
 use Rattle.rhd_func.specs.declared.func.RhaiFunc.TheVariants as funcs
+use Rattle.rhd_func.specs.declared.request.CallRequest.{CallRequest}
 use Rattle.rhd_decl.specs.declared.fault.DeclFault.{DeclFault}
 use Rattle.rhd_decl.specs.declared.fault.DeclFault.TheVariants.{IndexerNotAllowed, UnknownNumber, NotCallable}
 use Rattle.rhd_manifest.specs.Entry.{entry_key}
@@ -44,10 +45,16 @@ use Rattle.rhd_call.specs.declared.reply.Reply.{Reply}
 use Rattle.rhd_call.specs.declared.reply.Reply.TheVariants.{Done, Made, Count, Truth}
 use Rattle.rhd_machine.specs.World.{World}
 
--- only a call declares nothing
-abbrev pub is_call : Command → Bool
-is_call (commands.Call request) = true
-is_call command = false
+-- the call that a command makes, if it makes one
+abbrev pub call_of : Command → Option CallRequest
+call_of (commands.Call request) = Some request
+call_of command = None
+
+-- only a call and an import by its path declare nothing
+abbrev pub declares : Command → Bool
+declares (commands.Call request) = false
+declares (commands.ImportPath name path) = false
+declares command = true
 
 -- Numbers that aren't held, in the order of the operands: each number with the length of its list.
 abbrev pub native_operand : World → FnId → ℕ × ℕ
@@ -99,6 +106,7 @@ operands w f (commands.StaticModule name m) = module_operand w m ∷ []
 operands w f (commands.PushLib m) = module_operand w m ∷ []
 operands w f commands.PopLib = pop_operand f.lib
 operands w f (commands.PushImport name m) = module_operand w m ∷ []
+operands w f (commands.ImportPath name path) = []
 operands w f commands.PopImport = pop_operand f.imports
 operands w f (commands.SetSource source) = []
 operands w f (commands.SetTag tag) = []

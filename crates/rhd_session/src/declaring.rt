@@ -12,7 +12,7 @@ ghost use Rattle.rhd_session.specs.Answered.{Declares};
 ghost use Rattle.rhd_session.specs.Changing.{is_told, iterator_in, ChangesModule, Goes, IsReply, MadeFor};
 ghost use Rattle.rhd_session.specs.Commands.{target, raw_registration};
 
-use crate::session::Session;
+use crate::session_core::SessionCore;
 use rhd_call::{Command, ModuleId, Reply};
 use rhd_engine::{fn_registration, raw_func};
 use rhd_func::{FnNamespace, IterId, ManifestId, Natives, RhaiFunc, SharedText};
@@ -187,7 +187,7 @@ fn change(
     }
 }
 
-impl Session {
+impl SessionCore {
     ghost use Rattle.rhd_engine.specs.Held.{names_held};
     ghost use Rattle.rhd_session.specs.Of.{natives_of, world_of, frame_of, modules_of, calls_begun_of};
 

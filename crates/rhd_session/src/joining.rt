@@ -5,7 +5,7 @@ ghost use Rattle.rhd_module.specs.Algebra.{Joins};
 ghost use Rattle.rhd_session.specs.Changing.{Goes, all_joined_by, join_command, joined_by};
 
 use crate::declaring::unknown;
-use crate::session::Session;
+use crate::session_core::SessionCore;
 use rhd_call::ModuleId;
 use rhd_module::{DeclFault, Module, SharedModule};
 use std::alloc::Global;
@@ -40,7 +40,7 @@ fn join_with(
     }
 }
 
-impl Session {
+impl SessionCore {
     ghost use Rattle.rhd_session.specs.Of.{natives_of, world_of, frame_of, modules_of, calls_begun_of};
 
     /// Joins the module of a number with that of another, as it is now. Where both are the same number, the

@@ -2,8 +2,10 @@
 #![tactic(auto)]
 
 mod declaring;
+mod importing;
 mod joining;
 mod session;
+mod session_core;
 
 pub use rhd_call::{
     CallNode, Carries, Command, Commands, Layer, ModuleId, Nodes, Pick, Replies, Reply, SharedText,

@@ -1,193 +1,76 @@
-//! A session: an engine, the state of a run, and modules and environments by number.
+//! A session: commands in, replies out.
 
-ghost use Rattle.std.specs.Prelude.{◌≡◌, ◌≤◌, ◌<◌, ◌+◌, ◌^◌, ◌++◌, ◌∷◌, [], true, false, None, IfOk, OnOk, OnErr, length, vec_len, vec_capacity};
+ghost use Rattle.std.specs.Prelude.{◌≡◌, ◌≤◌, ◌<◌, ◌+◌, ◌^◌, ◌++◌, ◌∷◌, [], true, IfOk, OnOk, OnErr, length};
 ghost use Rattle.rhd_func.specs.Infos.{infos_of};
-ghost use Rattle.rhd_call.specs.declared.reply.Reply.{Reply};
 ghost use Rattle.rhd_manifest.specs.Fits.{fits};
-ghost use Rattle.rhd_engine.specs.Held.{all_held, builtins_held};
-ghost use Rattle.rhd_engine.specs.Start.{start_frame};
-ghost use Rattle.rhd_machine.specs.Held.{frame_held, environs_held};
-ghost use Rattle.rhd_machine.specs.World.{Moment};
-ghost use Rattle.rhd_machine.specs.Objects.{objects_of};
-ghost use Rattle.rhd_session.specs.Start.{start_world};
-ghost use Rattle.rhd_machine.specs.CallReplied.{CallReplied};
-ghost use Rattle.rhd_session.specs.Answered.{Declares, Replied, Begins, RunGives};
-ghost use Rattle.rhd_session.specs.Changing.{is_told, Goes};
-ghost use Rattle.rhd_session.specs.Commands.{is_call, target};
+ghost use Rattle.rhd_call.specs.declared.reply.Reply.{Reply};
+ghost use Rattle.rhd_engine.specs.Held.{builtins_held};
+ghost use Rattle.rhd_session.specs.Answered.{ImportsPath, Replied, Begins, RunGives};
+ghost use Rattle.rhd_session.specs.Start.{start_world, start_state, start_files};
+ghost use Rattle.rhd_session.specs.State.{Stays};
 
-use crate::declaring::{is_told, reply_of, target};
-use crate::joining::Join;
+use crate::session_core::SessionCore;
 use rhd_call::{Command, Commands, Replies, Reply, Stopped};
-use rhd_engine::{Builtins, Engine, GlobalRuntimeState, Limits, Printers};
-use rhd_func::{Bodies, CallRequest, Host, Natives};
+use rhd_engine::{Builtins, Limits, Printers};
+use rhd_func::{Bodies, Host, Natives};
 use rhd_hash::Seeds;
-use rhd_machine::{begun, fill};
 use rhd_manifest::Manifests;
-use rhd_module::{DeclFault, SharedModule};
-use rhd_resolve::Environs;
-use rhd_value::OutOfMemory;
+use rhd_resolve::{FileModuleResolver, Files, Loader};
+use rhd_value::{OutOfMemory, Text};
 use std::alloc::Global;
 
-/// Takes commands and answers them. Its natives are fixed when it is made.
+/// Takes commands and answers them. Its natives are fixed when it is made, and so are its files and its
+/// loader.
 #[derive(Drop)]
-pub struct Session {
-    pub(crate) engine: Engine,
-    pub(crate) state: GlobalRuntimeState,
-    pub(crate) modules: Vec<SharedModule>,
-    environs: Environs,
-    begun: u64,
-    ghost modules_held: { all_held (length engine.natives.items.items) modules.items ≡ true },
-    ghost environs_held: { environs_held (length engine.natives.items.items) environs.items ≡ true },
-    ghost state_held: { frame_held (length engine.natives.items.items) state ≡ true },
-    ghost within: { begun ≤ engine.limits.budget },
+pub struct Session<F, L> {
+    core: SessionCore,
+    resolver: FileModuleResolver<F, L>,
 }
 
-impl Session {
-    ghost use Rattle.rhd_session.specs.Of.{natives_of, world_of, frame_of, modules_of, calls_begun_of, moment_of, session_setting};
+impl<F: Files, L: Loader> Session<F, L> {
+    ghost use Rattle.rhd_session.specs.Of.{natives_of, world_of, frame_of, modules_of, calls_begun_of, moment_of, loader_of, state_of, session_objects, session_setting};
 
     /// A session in which nothing is registered. Its built-ins are held by the natives, which its manifests
-    /// fit, and its modules hash their keys under these seeds.
+    /// fit, and its modules hash their keys under these seeds. Its file resolver has no base path, and the
+    /// extension `rhai`.
     pub fn new(
         alloc: Global,
         natives: Natives,
         manifests: Manifests,
+        files: F,
+        loader: L,
         seeds: Seeds,
         limits: Limits,
         builtins: Builtins,
         printers: Printers,
-    ) -> Result<Session, OutOfMemory>
+    ) -> Result<Session<F, L>, OutOfMemory>
         requires level { limits.level ≤ 1000 }
         requires builtins { builtins_held (length natives.items.items) builtins ≡ true }
         requires fits { fits (infos_of info natives) manifests ≡ true }
-        ensures natives { IfOk result (λ session. natives_of session ≡ natives) }
-        ensures world { IfOk result (λ session. world_of info session ≡ start_world (infos_of info natives) manifests seeds limits builtins printers) }
-        ensures frame { IfOk result (λ session. frame_of session ≡ start_frame) }
-        ensures modules { IfOk result (λ session. modules_of session ≡ []) }
-        ensures begun { IfOk result (λ session. calls_begun_of session ≡ 0) }
+        ensures natives { IfOk result (λ session. natives_of session.core ≡ natives) }
+        ensures loader { IfOk result (λ session. loader_of session ≡ loader) }
+        ensures state { IfOk result (λ session. state_of info F.texts F.faults session ≡ start_state (start_world (infos_of info natives) manifests seeds limits builtins printers) (start_files (F.texts files) (F.faults files))) }
+        ensures begun { IfOk result (λ session. calls_begun_of session.core ≡ 0) }
     {
-        let environs = Environs::new(alloc, seeds, natives.len() as u64, 0)?;
         Ok(Session {
-            engine: Engine::new(alloc, natives, manifests, builtins, seeds, limits, printers)?,
-            state: GlobalRuntimeState::new(alloc),
-            modules: Vec::new(alloc),
-            environs,
-            begun: 0,
+            core: SessionCore::new(alloc, natives, manifests, seeds, limits, builtins, printers)?,
+            resolver: FileModuleResolver::new(alloc, files, loader)?,
         })
     }
 
-    /// Answers a command that makes no call.
-    fn declare(&mut self, alloc: Global, command: Command) -> Result<Reply, OutOfMemory>
-        requires declares { is_call command ≡ false }
-        requires count { length (modules_of self.old) < 2 ^ 32 }
-        ensures applied { IfOk result (λ reply. Declares (world_of info self.old) (frame_of self.old) command reply (world_of info self.new) (frame_of self.new)) }
-        ensures failed { OnErr result ((world_of info self.new ≡ world_of info self.old) × (frame_of self.new ≡ frame_of self.old)) }
-        ensures natives { natives_of self.new ≡ natives_of self.old }
-        ensures begun { calls_begun_of self.new ≡ calls_begun_of self.old }
-        ensures count { length (modules_of self.new) ≤ length (modules_of self.old) + 1 }
+    /// Puts the module that a path names under a name last among the imports. Its place is made before
+    /// the resolver is asked.
+    fn import_path(&mut self, alloc: Global, name: Text, path: &Text) -> Result<Reply, OutOfMemory>
+        ensures imports { IfOk result (λ reply. ImportsPath (L.allows_load (loader_of self.old)) (state_of info F.texts F.faults self.old) name path.now reply (state_of info F.texts F.faults self.new)) }
+        ensures stays { OnErr result (Stays (state_of info F.texts F.faults self.old) (state_of info F.texts F.faults self.new)) }
+        ensures natives { natives_of self.new.core ≡ natives_of self.old.core }
+        ensures loader { loader_of self.new ≡ loader_of self.old }
+        ensures modules { modules_of self.new.core ≡ modules_of self.old.core }
+        ensures begun { calls_begun_of self.new.core ≡ calls_begun_of self.old.core }
     {
-        if let Some(id) = target(&command) {
-            return reply_of(self.change_module(alloc, id, command));
-        }
-        if is_told(&command) {
-            return reply_of(self.register(alloc, command));
-        }
-        self.answer_itself(alloc, &command)
-    }
-
-    /// Answers a command that has an answer of its own.
-    fn answer_itself(&mut self, alloc: Global, command: &Command) -> Result<Reply, OutOfMemory>
-        requires call { is_call command.now ≡ false }
-        requires told { is_told command.now ≡ false }
-        requires plain { target command.now ≡ None }
-        requires count { length (modules_of self.old) < 2 ^ 32 }
-        ensures applied { IfOk result (λ reply. Declares (world_of info self.old) (frame_of self.old) command.now reply (world_of info self.new) (frame_of self.new)) }
-        ensures failed { OnErr result ((world_of info self.new ≡ world_of info self.old) × (frame_of self.new ≡ frame_of self.old)) }
-        ensures natives { natives_of self.new ≡ natives_of self.old }
-        ensures begun { calls_begun_of self.new ≡ calls_begun_of self.old }
-        ensures count { length (modules_of self.new) ≤ length (modules_of self.old) + 1 }
-    {
-        match command {
-            Command::NewModule => self.new_module(alloc),
-            Command::FromManifest { manifest } => self.from_manifest(alloc, *manifest),
-            Command::Count { module: id } => Ok(self.count(*id)),
-            Command::Contains { module: id, key } => Ok(self.contains(*id, key)),
-            _ => unreachable!(),
-        }
-    }
-
-    /// Carries out a command that answers nothing but that it is done, and changes no numbered module by
-    /// itself.
-    fn register(&mut self, alloc: Global, command: Command) -> Result<(), DeclFault>
-        requires { is_told command ≡ true }
-        ensures goes { Goes (world_of info self.old) (frame_of self.old) command result (world_of info self.new) (frame_of self.new) }
-        ensures natives { natives_of self.new ≡ natives_of self.old }
-        ensures begun { calls_begun_of self.new ≡ calls_begun_of self.old }
-        ensures count { length (modules_of self.new) ≡ length (modules_of self.old) }
-    {
-        match command {
-            Command::SubModule {
-                module: id,
-                name,
-                sub,
-            } => self.sub_module(alloc, id, name, sub),
-            Command::Combine { module: id, other } => self.join(alloc, Join::Combine, id, other),
-            Command::CombineFlatten { module: id, other } => {
-                self.join(alloc, Join::CombineFlatten, id, other)
-            }
-            Command::Fill { module: id, other } => self.join(alloc, Join::Fill, id, other),
-            Command::Merge { module: id, other } => self.join(alloc, Join::Merge, id, other),
-            Command::RegisterFn { name, id } => self.register_fn(alloc, name, id),
-            Command::RegisterRaw { name, types, id } => self.register_raw(alloc, name, &types, id),
-            Command::RegisterType { kind, display } => self.register_type(alloc, kind, display),
-            Command::GlobalModule { module: id } => self.global_module(alloc, id),
-            Command::StaticModule { name, module: id } => self.static_module(alloc, name, id),
-            Command::PushLib { module: id } => self.push_lib(alloc, id),
-            Command::PopLib => self.pop_lib(),
-            Command::PushImport { name, module: id } => self.push_import(alloc, name, id),
-            Command::PopImport => self.pop_import(),
-            Command::SetSource(source) => self.set_source(alloc, source),
-            Command::SetTag(tag) => self.set_tag(tag),
-            _ => unreachable!(),
-        }
-    }
-
-    /// Makes a call. Its node is made at the end of the replies, where there is room for it, and
-    /// leaves them again where memory runs out.
-    fn call<H: Host, B: Bodies>(
-        &mut self,
-        alloc: Global,
-        request: CallRequest,
-        replies: &mut Vec<Reply>,
-        host: &mut H,
-        bodies: &mut B,
-    ) -> Result<(), OutOfMemory>
-        requires { vec_len replies.old < vec_capacity replies.old }
-        ensures replied { OnOk result ((reply : Reply) × (replies.new.items ≡ replies.old.items ++ reply ∷ [])
-            × CallReplied (objects_of allows_call allows_resume B.allows_start B.allows_next H.allows_missing
-            (natives_of self.old)) (world_of info self.old) (frame_of self.old) (moment_of self.old host.old bodies.old) request reply (moment_of self.new host.new bodies.new)) }
-        ensures failed { OnErr result (replies.new.items ≡ replies.old.items) }
-        ensures world { world_of info self.new ≡ world_of info self.old }
-        ensures frame { frame_of self.new ≡ frame_of self.old }
-        ensures natives { natives_of self.new ≡ natives_of self.old }
-        ensures modules { modules_of self.new ≡ modules_of self.old }
-        ensures rises { calls_begun_of self.old ≤ calls_begun_of self.new }
-    {
-        let last = replies.len();
-        replies.push_reserved(Reply::Called(begun(alloc, request, 1)));
-        let filled = fill(
-            alloc,
-            &self.engine,
-            &self.environs,
-            &mut self.state,
-            &mut replies[last],
-            &mut self.begun,
-            host,
-            bodies,
-        );
-        if filled.is_err() {
-            drop(replies.pop());
-        }
-        filled
+        self.core.hold_import(alloc, name)?;
+        let answer = self.core.ask(alloc, &mut self.resolver, path);
+        self.core.end_import(answer)
     }
 
     /// Answers one command. Its reply goes last.
@@ -199,20 +82,25 @@ impl Session {
         host: &mut H,
         bodies: &mut B,
     ) -> Result<(), OutOfMemory>
-        requires { length (modules_of self.old) < 2 ^ 32 }
+        requires { length (modules_of self.old.core) < 2 ^ 32 }
         ensures replied { OnOk result ((reply : Reply) × (replies.new.items ≡ replies.old.items ++ reply ∷ [])
-            × Replied (objects_of allows_call allows_resume B.allows_start B.allows_next H.allows_missing
-            (natives_of self.old)) (world_of info self.old) (frame_of self.old) (moment_of self.old host.old bodies.old) command reply (world_of info self.new) (frame_of self.new) (moment_of self.new host.new bodies.new)) }
-        ensures failed { OnErr result ((replies.new.items ≡ replies.old.items) × (world_of info self.new ≡ world_of info self.old) × (frame_of self.new ≡ frame_of self.old)) }
-        ensures natives { natives_of self.new ≡ natives_of self.old }
-        ensures begins { Begins command (calls_begun_of self.old) (calls_begun_of self.new) }
-        ensures count { length (modules_of self.new) ≤ length (modules_of self.old) + 1 }
+            × Replied (session_objects allows_call allows_resume B.allows_start B.allows_next H.allows_missing L.allows_load self.old) (state_of info F.texts F.faults self.old) (moment_of self.old.core host.old bodies.old)
+            command reply (state_of info F.texts F.faults self.new) (moment_of self.new.core host.new bodies.new)) }
+        ensures failed { OnErr result ((replies.new.items ≡ replies.old.items) × Stays (state_of info F.texts F.faults self.old) (state_of info F.texts F.faults self.new)) }
+        ensures natives { natives_of self.new.core ≡ natives_of self.old.core }
+        ensures loader { loader_of self.new ≡ loader_of self.old }
+        ensures begins { Begins command (calls_begun_of self.old.core) (calls_begun_of self.new.core) }
+        ensures count { length (modules_of self.new.core) ≤ length (modules_of self.old.core) + 1 }
     {
         replies.reserve(1)?;
         match command {
-            Command::Call(request) => self.call(alloc, request, replies, host, bodies),
+            Command::Call(request) => self.core.call(alloc, request, replies, host, bodies),
+            Command::ImportPath { name, path } => {
+                replies.push_reserved(self.import_path(alloc, name, &path)?);
+                Ok(())
+            }
             declared => {
-                replies.push_reserved(self.declare(alloc, declared)?);
+                replies.push_reserved(self.core.declare(alloc, declared)?);
                 Ok(())
             }
         }
@@ -228,11 +116,12 @@ impl Session {
         host: &mut H,
         bodies: &mut B,
     ) -> Result<Replies, Stopped>
-        requires { length (modules_of self.old) + length commands.now < 2 ^ 32 }
-        ensures gives { RunGives (session_setting allows_call allows_resume B.allows_start B.allows_next H.allows_missing info self.old) (moment_of self.old host.old bodies.old) commands.now result
-            (world_of info self.new) (frame_of self.new) (moment_of self.new host.new bodies.new) }
-        ensures modules { length (modules_of self.new) ≤ length (modules_of self.old) + length commands.now }
-        ensures natives { natives_of self.new ≡ natives_of self.old }
+        requires { length (modules_of self.old.core) + length commands.now < 2 ^ 32 }
+        ensures gives { RunGives (session_setting allows_call allows_resume B.allows_start B.allows_next H.allows_missing L.allows_load info F.texts F.faults self.old) (moment_of self.old.core host.old bodies.old) commands.now result
+            (state_of info F.texts F.faults self.new) (moment_of self.new.core host.new bodies.new) }
+        ensures modules { length (modules_of self.new.core) ≤ length (modules_of self.old.core) + length commands.now }
+        ensures natives { natives_of self.new.core ≡ natives_of self.old.core }
+        ensures loader { loader_of self.new ≡ loader_of self.old }
     {
         let mut replies = Vec::new(alloc);
         for command in commands {
@@ -261,11 +150,12 @@ impl Session {
         host: &mut H,
         bodies: &mut B,
     ) -> Result<Replies, Stopped>
-        requires { length (modules_of self.old) + length commands < 2 ^ 32 }
-        ensures gives { RunGives (session_setting allows_call allows_resume B.allows_start B.allows_next H.allows_missing info self.old) (moment_of self.old host.old bodies.old) commands result
-            (world_of info self.new) (frame_of self.new) (moment_of self.new host.new bodies.new) }
-        ensures modules { length (modules_of self.new) ≤ length (modules_of self.old) + length commands }
-        ensures natives { natives_of self.new ≡ natives_of self.old }
+        requires { length (modules_of self.old.core) + length commands < 2 ^ 32 }
+        ensures gives { RunGives (session_setting allows_call allows_resume B.allows_start B.allows_next H.allows_missing L.allows_load info F.texts F.faults self.old) (moment_of self.old.core host.old bodies.old) commands result
+            (state_of info F.texts F.faults self.new) (moment_of self.new.core host.new bodies.new) }
+        ensures modules { length (modules_of self.new.core) ≤ length (modules_of self.old.core) + length commands }
+        ensures natives { natives_of self.new.core ≡ natives_of self.old.core }
+        ensures loader { loader_of self.new ≡ loader_of self.old }
     {
         let mut made = Vec::new(alloc);
         for command in commands.into_vec() {

@@ -2,7 +2,7 @@ use Rattle.rhd_laws.proofs.RunTrees.{run_gives, run_tree, run_node, run_call, ru
 use Rattle.rhd_laws.proofs.runs.each_tree_of_a_run_runs_where_the_run_came.Goals as goal
 
 pub returns-clause-gives : goal.returns-clause-gives
-returns-clause-gives g c = λ w w2 f f2 before after commands result h. run_gives _ w w2 f f2 before after commands result h
+returns-clause-gives g c = λ state last before after commands result h. run_gives _ state last before after commands result h
 
 pub returns-clause-tree : goal.returns-clause-tree
 returns-clause-tree g c = λ run n root h. run_tree _ run n root h

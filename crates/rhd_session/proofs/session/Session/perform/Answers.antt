@@ -1,21 +1,30 @@
-use Rattle.std.proofs.Common.{rules, ◌≡◌, ap, false, ℕ}
-use Rattle.rhd_session.specs.Commands.{is_call}
+use Rattle.std.proofs.Common.{rules, ◌≡◌, ap, ℕ}
+use Rattle.std.specs.Prelude.{None}
+use Rattle.rhd_session.specs.Answered.{declared, by_path}
+use Rattle.rhd_session.specs.Commands.{call_of}
 use Rattle.rhd_machine.specs.World.{moment}
-use Rattle.rhd_session.proofs.Lists.{begins_none, declares_replied, declares_begins}
+use Rattle.rhd_session.proofs.Lists.{begins_none, applied_replied, declares_begins}
 use Rattle.rhd_session.proofs.session.Session.perform.Goals as goal
 
 pub returns-in_ok-declare-in_default-clause-replied : goal.returns-in_ok-declare-in_default-clause-replied
 returns-in_ok-declare-in_default-clause-replied g c =
-    let no : is_call c.args.command ≡ false = search rules in (
+    let no : call_of c.args.command ≡ None = search rules in (
       c.in_ok-declare-in_default.field-0,
       search rules,
-      declares_replied _ _ _ _ _ _ _ c.args.command _ no c.in_ok-declare-in_default.ensures.applied (ap (λ (n : ℕ). moment n c.args.host.now c.args.bodies.now) c.in_ok-declare-in_default.ensures.begun),
+      applied_replied _ _ _ _ _ c.args.command _ no (declared c.in_ok-declare-in_default.ensures.applied) (ap (λ (n : ℕ). moment n c.args.host.now c.args.bodies.now) c.in_ok-declare-in_default.ensures.begun),
     )
 
 pub returns-in_ok-declare-in_default-clause-begins : goal.returns-in_ok-declare-in_default-clause-begins
 returns-in_ok-declare-in_default-clause-begins g c =
-    let no : is_call c.args.command ≡ false = search rules in
+    let no : call_of c.args.command ≡ None = search rules in
     declares_begins c.args.command _ _ no c.in_ok-declare-in_default.ensures.begun
 
 pub returns-in_err-reserve-clause-begins : goal.returns-in_err-reserve-clause-begins
-returns-in_err-reserve-clause-begins g c = begins_none c.args.command c.args.self.now.begun
+returns-in_err-reserve-clause-begins g c = begins_none c.args.command c.args.self.now.core.begun
+
+pub returns-in_ok-import_path-in-ImportPath-clause-replied : goal.returns-in_ok-import_path-in-ImportPath-clause-replied
+returns-in_ok-import_path-in-ImportPath-clause-replied g c = (
+  c.in_ok-import_path-in-ImportPath.field-0,
+  search rules,
+  rw c.in-ImportPath.is (by_path c.in_ok-import_path-in-ImportPath.ensures.imports, ap (λ (n : ℕ). moment n c.args.host.now c.args.bodies.now) c.in_ok-import_path-in-ImportPath.ensures.begun),
+)
