@@ -7,12 +7,11 @@ use Rattle.std.specs.Str.Lines.{lines}
 use Rattle.rhd_func.specs.Natives.{NativeInfo}
 use Rattle.rhd_call.specs.declared.command.Command.{Command}
 use Rattle.rhd_call.specs.declared.reply.Reply.{Reply}
-use Rattle.rhd_engine.specs.Engine.{Frame}
-use Rattle.rhd_engine.specs.Start.{start_frame}
 use Rattle.rhd_engine.specs.declared.limits.Limits.{Limits}
-use Rattle.rhd_machine.specs.World.{World, Moment}
+use Rattle.rhd_machine.specs.World.{Moment}
 use Rattle.rhd_hash.specs.declared.mixer.Seeds.{Seeds}
-use Rattle.rhd_session.specs.Start.{start_world, start_moment}
+use Rattle.rhd_session.specs.Start.{start_world, start_state, start_files, start_moment}
+use Rattle.rhd_session.specs.State.{SessionState}
 use Rattle.rhd_session.specs.Answered.{Answered}
 use Rattle.rhd_text.specs.declared.session.SessionText.{SessionText}
 use Rattle.rhd_text.specs.Session.{IsSession, IsFirstBad}
@@ -55,15 +54,14 @@ abbrev pub seeds_of : SessionText → Seeds
 seeds_of text = unwrap_or text.seeds default_seeds
 
 -- a new session with what the text sets
-abbrev pub start_of : List NativeInfo → SessionText → World
-start_of natives text = start_world natives text.manifests (seeds_of text) (limits_of text) text.builtins text.printers
+abbrev pub start_of : List NativeInfo → SessionText → SessionState
+start_of natives text = start_state (start_world natives text.manifests (seeds_of text) (limits_of text) text.builtins text.printers) (start_files text.files 0)
 
 -- the replies answer the commands, one after the other, in a new session with what the text sets, and with its host and bodies
 pub record IsAnswered (h : Handed) (text : SessionText) (commands : List Command) (replies : List Reply) : Type 0 where
-  pub world : World
-  pub frame : Frame
+  pub state : SessionState
   pub after : Moment Hosts Bodies
-  pub answered : Answered h.objects (start_of h.natives text) start_frame (start_moment text.hosts text.bodies) commands replies world frame after
+  pub answered : Answered h.objects (start_of h.natives text) (start_moment text.hosts text.bodies) commands replies state after
 
 -- these bytes are a session text, and the replies answer its commands
 pub record Ran (h : Handed) (bytes : List ℕ) (replies : List Reply) : Type 0 where

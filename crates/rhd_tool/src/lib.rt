@@ -18,6 +18,7 @@ mod writing;
 pub use kit::{KIT_LEN, KitFn};
 pub use laws::{a_body_asks_its_calls_in_order, a_native_asks_as_often_as_it_is_told};
 pub use plan_bodies::PlanBodies;
+pub use rhd_loader::PlanLoader;
 pub use sink::{MemSink, PlainSink, Sink, SinkFault, Writing};
 pub use source::{Failed, MemSource, PlainSource, Reading, Source};
 pub use table_host::TableHost;

@@ -22,8 +22,10 @@ use crate::table_host::TableHost;
 use crate::writing::write_whole;
 use rhd_call::{Replies, Reply, Stopped};
 use rhd_engine::Limits;
+use rhd_files::MemFiles;
 use rhd_func::Natives;
 use rhd_hash::Seeds;
+use rhd_loader::PlanLoader;
 use rhd_session::Session;
 use rhd_text::{SessionText, TextFault, print_replies, read_text};
 use rhd_value::OutOfMemory;
@@ -114,6 +116,7 @@ fn answer(alloc: Global, natives: Natives, text: SessionText) -> Result<Replies,
         printers,
         builtins,
         hosts,
+        files,
         manifests,
         bodies,
         commands,
@@ -122,8 +125,11 @@ fn answer(alloc: Global, natives: Natives, text: SessionText) -> Result<Replies,
     let limits = limits.unwrap_or(Limits::DEFAULT);
     let mut host = TableHost::new(hosts);
     let mut bodies = PlanBodies::new(bodies);
-    let Ok(mut session) = Session::new(alloc, natives, manifests, seeds, limits, builtins, printers)
-    else {
+    let files = MemFiles::new(files, Vec::new(alloc));
+    let loader = PlanLoader::new();
+    let Ok(mut session) = Session::new(
+        alloc, natives, manifests, files, loader, seeds, limits, builtins, printers,
+    ) else {
         return Err(Stopped {
             replies: Replies::new(alloc),
         });

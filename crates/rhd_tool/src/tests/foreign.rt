@@ -3,10 +3,12 @@
 use crate::tests::{SEEDS, holds, int, text_of};
 use rhd_call::{Command, Commands};
 use rhd_engine::{Builtins, Limits, Printers};
+use rhd_files::{FileTable, MemFiles};
 use rhd_func::{
     Bodies, CallDone, CallRequest, CallShape, Carry, Host, HostAnswer, NativeCallContext,
     NativeStep, Natives, PluginFunc, ScriptFuncDef,
 };
+use rhd_loader::PlanLoader;
 use rhd_manifest::Manifests;
 use rhd_session::Session;
 use rhd_text::{print_replies, read_call};
@@ -173,6 +175,8 @@ fn check_run(rt: &impl Abort, alloc: Global, natives: Natives) {
         alloc,
         natives,
         manifests,
+        MemFiles::new(FileTable::new(alloc), Vec::new(alloc)),
+        PlanLoader::new(),
         SEEDS,
         Limits::DEFAULT,
         builtins,

@@ -9,10 +9,12 @@ use crate::tool::run_tool;
 use crate::{PlanBodies, TableHost, kit};
 use rhd_call::{Command, Commands, ModuleId, Replies, Reply};
 use rhd_engine::{Builtins, Limits, Printers};
+use rhd_files::{FileTable, MemFiles};
 use rhd_func::{
     BodyId, CallRequest, CallShape, FnAccess, HostAnswer, NativeCallContext, Natives, PluginFunc,
     RhaiFunc, ScriptFuncDef, SharedDef,
 };
+use rhd_loader::PlanLoader;
 use rhd_manifest::Manifests;
 use rhd_module::{Module, SharedModule};
 use rhd_names::OpToken;
@@ -170,6 +172,8 @@ fn a_session_answers_twice(rt: HostRuntime) {
         alloc,
         natives,
         manifests,
+        MemFiles::new(FileTable::new(alloc), Vec::new(alloc)),
+        PlanLoader::new(),
         SEEDS,
         Limits::DEFAULT,
         builtins,
