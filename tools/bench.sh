@@ -5,8 +5,9 @@
 # of a name with three overloads; on as many calls that find a native with parameters of any type;
 # on 1,000 and 10,000 calls with seventeen arguments that aren't found; on 10,000 and 100,000 imports
 # that are pushed and popped, as many declarations that are indexed, joined with others, and put over by
-# a small module a thousand times; and on 1,000 calls over 100
-# and 1,000 libraries, imports and static modules. Prints the seconds of both sizes and their ratio,
+# a small module a thousand times; on 1,000 calls over 100
+# and 1,000 libraries, imports and static modules; and on 1,000 and 10,000 calls into an environment, and the
+# module of a file of 10,000 and 100,000 lines. Prints the seconds of both sizes and their ratio,
 # which is near 10 where it is linear, and how many of them that is in a second.
 #
 # tools/bench.sh [TWIN]: where another program of the same words is given, it is timed beside this one
@@ -132,6 +133,25 @@ layers() {
     }'
 }
 
+# Calls of a function of a file's module, which enter its environment, over 1,000 libraries.
+entered() {
+    awk -v times="$1" 'BEGIN {
+        print "file m.rhai \"fn f () 0\\nfn g () 0 private\\nimport k g () 0\"\nbody\nret 1\nmodule"
+        for (i = 0; i < 1000; i++) print "lib 0"
+        print "import-path m m"
+        for (i = 0; i < times; i++) print "qual m f"
+    }'
+}
+
+# A module of a file whose text has so many lines, each under a name of its own.
+loaded() {
+    awk -v times="$1" 'BEGIN {
+        printf "file m.rhai \""
+        for (i = 0; i < times; i += 4) printf "fn f%d (a b) 0\\nvar (v%d) 1\\nimport k%d f () 0\\nimport k0 g%d () 0\\n", i, i, i, i
+        print "\"\nimport-path m m\nqual m f0 1 2"
+    }'
+}
+
 compare() {
     local small large
     small=$(best "$work/small")
@@ -163,8 +183,11 @@ measure 'declarations a small module is put over' 10,000 100,000 put_over
 measure 'libraries asked by 1,000 calls' 100 1,000 layers 'lib 0'
 measure 'imports asked by 1,000 calls' 100 1,000 layers 'import a%d 0'
 measure 'static modules asked by 1,000 calls' 100 1,000 layers 'static a%d 0'
+measure 'calls into an environment over 1,000 libraries' 1,000 10,000 entered
+measure 'lines of a module text' 10,000 100,000 loaded
 
-# Times both programs on a kind of text, of two counts. Lines of forms that don't stand yet are left out.
+# Times both programs on a kind of text, of two counts. Lines of forms that don't stand yet are left out, and so are files
+# and imports by their paths, whose modules the twin keeps.
 beside() {
     local kind=$1 small=$2 large=$3 ours_small ours_large twin_small twin_large
     "$twin" gen-run "$kind" "$small" 1 | grep -v '^file \|^import-path \|^signatures\|^materialize' >"$work/small"
