@@ -13,14 +13,11 @@ pub mod Absent
 pub mod Listed
 pub mod Lookups
 pub mod SamePairs
-pub mod SameTrees
 pub mod Banned
 pub mod Registers
 pub mod Combined
-pub mod Made
 pub mod LazyParts
 pub mod JoinParts
 pub mod PlacesBack
 pub mod JoinLaws
 pub mod PutParts
-pub mod Gathered

@@ -7,6 +7,7 @@ pub mod Walk
 pub mod Below
 pub mod OwnKeys
 pub mod Index
+pub mod Lends
 pub mod Matching
 pub mod NativeIndex
 pub mod Scripts

@@ -1,7 +1,11 @@
 //! What a module holds besides functions.
 
 ghost use Rattle.std.specs.Prelude.{◌≡◌, [], IfOk, OnOk, OnErr, None, true, false, is_some};
+ghost use Rattle.std.specs.Cmp.Lexicographic.{slice_cmp};
+ghost use Rattle.std.specs.List.Sorted.{IsStrictlySortedBy};
+ghost use Rattle.std.specs.Map.{keys_of};
 ghost use Rattle.std.specs.Option.{option_copied, option_map, option_and_then};
+ghost use Rattle.std.specs.Ordering.{nat_cmp};
 ghost use Rattle.rhd_value.specs.Kinds.{type_name};
 ghost use Rattle.rhd_value.specs.Tree.{copied};
 ghost use Rattle.rhd_value.specs.Entries.{found};
@@ -292,7 +296,8 @@ impl Module {
 
     /// The sub-modules in ascending order of name.
     pub fn iter_sub_modules(&self) -> Iter<'_, Text, Rc<Module>>
-        ensures { subs_of result ≡ self.now.subs }
+        ensures subs { subs_of result ≡ self.now.subs }
+        ensures ordered { IsStrictlySortedBy (slice_cmp nat_cmp) (keys_of result) }
     {
         self.subs.iter()
     }

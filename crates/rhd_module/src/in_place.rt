@@ -33,9 +33,9 @@ use std::rc::Rc;
 
 /// Variables and sub-modules to be put into a module.
 #[derive(Drop)]
-pub(crate) struct Named {
-    pub(crate) vars: Vec<(Text, Dynamic)>,
-    pub(crate) subs: Vec<(Text, Rc<Module>)>,
+pub struct Named {
+    pub vars: Vec<(Text, Dynamic)>,
+    pub subs: Vec<(Text, Rc<Module>)>,
 }
 
 /// What stood under their names before.
@@ -276,7 +276,7 @@ impl Module {
 
     /// Puts what another module declares in the place of what has an equal key, else last, and variables and
     /// sub-modules. The module isn't indexed any more. A refusal changes nothing.
-    pub(crate) fn put_declared(
+    pub fn put_declared(
         &mut self,
         alloc: Global,
         other: &Module,
@@ -295,7 +295,7 @@ impl Module {
 
     /// Declares what another module declares under keys for which nothing is declared or listed, last, and
     /// puts variables and sub-modules in. The module isn't indexed any more. A refusal changes nothing.
-    pub(crate) fn put_unshown(
+    pub fn put_unshown(
         &mut self,
         alloc: Global,
         other: &Module,

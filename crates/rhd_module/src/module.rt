@@ -263,7 +263,7 @@ impl Module {
 
     /// Takes the declarations of another module in the place of its own, and lists nothing any more. The
     /// module isn't indexed any more.
-    pub(crate) fn take_fns(&mut self, alloc: Global, other: Module)
+    pub fn take_fns(&mut self, alloc: Global, other: Module)
         requires seeds { other.own.seeds ≡ self.old.own.seeds }
         requires listed { other.own.listed ≡ [] }
         ensures { self.new ≡ record self.old { own = record self.old.own { eager = other.own.eager; manifests = []; listed = []; indexed = false } } }
@@ -286,7 +286,7 @@ impl Module {
 
     /// A copy with the declarations of another module in the place of its own and with other sub-modules,
     /// which lists nothing. It isn't indexed.
-    pub(crate) fn dup_with(
+    pub fn dup_with(
         &self,
         alloc: Global,
         other: Module,

@@ -272,7 +272,7 @@ fn is_indexed_type(tag: TypeTag) -> bool
 }
 
 /// Whether it is an indexer of a type whose indexing has its meaning already.
-pub(crate) fn is_banned(name: &Text, types: &[TypeTag]) -> bool
+pub fn is_banned(name: &Text, types: &[TypeTag]) -> bool
     ensures { result ≡ is_banned name.now types.now }
 {
     let name = name.as_str();

@@ -1,21 +1,19 @@
 //! Modules with several owners.
 
-ghost use Rattle.std.specs.Prelude.{◌≡◌, true, None, [], OnOk, OnErr, IfOk};
+ghost use Rattle.std.specs.Prelude.{◌≡◌, None, [], OnOk, OnErr, IfOk};
+ghost use Rattle.std.specs.Borrow.{sem};
 ghost use Rattle.rhd_func.specs.Infos.{infos_of};
-ghost use Rattle.rhd_module.specs.Algebra.{Combines, Flattens, Fills, Merges};
 ghost use Rattle.rhd_module.specs.Contents.{with_id, named, with_doc, with_var, with_type, cleared, with_sub};
 ghost use Rattle.rhd_module.specs.Index.{Indexes};
-ghost use Rattle.rhd_module.specs.Lazy.{RegistersTree};
-ghost use Rattle.rhd_module.specs.Manifests.{AddsManifest, combined};
+ghost use Rattle.rhd_module.specs.Lends.{LendsModule};
 ghost use Rattle.rhd_module.specs.Registered.{Puts, Registers, RegistersBoth, RegistersRaw, native_at, registered_decl, script_key, script_decl};
 
 use crate::module::Module;
 use crate::registration::FuncRegistration;
 use rhd_decl::{DeclFault, FuncMetadata};
-use rhd_func::{ManifestId, Natives, RhaiFunc, SharedDef};
-use rhd_manifest::Manifests;
+use rhd_func::{Natives, RhaiFunc, SharedDef};
 use rhd_value::{Dynamic, FnId, OutOfMemory, Text, TypeTag};
-use std::alloc::Global;
+use std::alloc::{AllocError, Global};
 use std::marker::Model;
 use std::rc::Rc;
 
@@ -234,65 +232,14 @@ impl SharedModule {
         Ok(())
     }
 
-    /// Adds a manifest, flattened, to this owner's module, as `Module::combine_manifest` does. The module is
-    /// copied first where it has other owners.
-    pub fn combine_manifest(
-        &mut self,
-        alloc: Global,
-        manifests: &Manifests,
-        id: ManifestId,
-    ) -> Result<(), DeclFault>
-        ensures { AddsManifest manifests.now id self.old (combined manifests.now id self.old) result self.new }
+    /// This owner's module, to be changed. It is copied first where it has other owners.
+    pub fn module_mut(&mut self) -> Result<&mut Module, OutOfMemory>
+        ensures* writes_back { sem 𝓛 (LendsModule self.entry result) }
+        ensures value { IfOk result (λ lent. lent.now ≡ self.old) }
     {
-        let module = Rc::make_mut(&mut self.module)?;
-        module.combine_manifest(alloc, manifests, id)
-    }
-
-    /// Registers what is listed in this owner's module and below it, as `Module::register_lazy_functions`
-    /// does. The module is copied first where something is listed and it has other owners.
-    pub fn register_lazy_functions(&mut self, alloc: Global) -> Result<(), DeclFault>
-        ensures { RegistersTree self.old result self.new }
-    {
-        if !self.module.has_lazy_functions() {
-            return Ok(());
+        match Rc::make_mut(&mut self.module) {
+            Ok(module) => Ok(module),
+            Err(AllocError) => Err(OutOfMemory),
         }
-        let module = Rc::make_mut(&mut self.module)?;
-        module.register_lazy_functions(alloc)
-    }
-
-    /// Puts another module over this owner's module, as `Module::combine` does. The module is
-    /// copied first where it has other owners.
-    pub fn combine(&mut self, alloc: Global, other: &Module) -> Result<(), DeclFault>
-        ensures { Combines other.now self.old result self.new }
-    {
-        let module = Rc::make_mut(&mut self.module)?;
-        module.combine(alloc, other)
-    }
-
-    /// Puts what stands in the tree of another module over this owner's module, as `Module::combine_flatten` does. The module is
-    /// copied first where it has other owners.
-    pub fn combine_flatten(&mut self, alloc: Global, other: &Module) -> Result<(), DeclFault>
-        ensures { Flattens other.now self.old result self.new }
-    {
-        let module = Rc::make_mut(&mut self.module)?;
-        module.combine_flatten(alloc, other)
-    }
-
-    /// Puts what is new of another module into this owner's module, as `Module::fill_with` does. The module is
-    /// copied first where it has other owners.
-    pub fn fill_with(&mut self, alloc: Global, other: &Module) -> Result<(), DeclFault>
-        ensures { Fills other.now self.old result self.new }
-    {
-        let module = Rc::make_mut(&mut self.module)?;
-        module.fill_with(alloc, other)
-    }
-
-    /// Merges another module into this owner's module, as `Module::merge` does. The module is
-    /// copied first where it has other owners.
-    pub fn merge(&mut self, alloc: Global, other: &Module) -> Result<(), DeclFault>
-        ensures { Merges (λ d. true) other.now self.old result self.new }
-    {
-        let module = Rc::make_mut(&mut self.module)?;
-        module.merge(alloc, other)
     }
 }

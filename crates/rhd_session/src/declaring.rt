@@ -13,6 +13,7 @@ ghost use Rattle.rhd_session.specs.Changing.{is_told, iterator_in, ChangesModule
 ghost use Rattle.rhd_session.specs.Commands.{target, raw_registration};
 
 use crate::session_core::SessionCore;
+use rhd_algebra::{ModuleManifests, SharedAlgebra};
 use rhd_call::{Command, ModuleId, Reply};
 use rhd_engine::{fn_registration, raw_func};
 use rhd_func::{FnNamespace, IterId, ManifestId, Natives, RhaiFunc, SharedText};

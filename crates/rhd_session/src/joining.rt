@@ -6,6 +6,7 @@ ghost use Rattle.rhd_session.specs.Changing.{Goes, all_joined_by, join_command, 
 
 use crate::declaring::unknown;
 use crate::session_core::SessionCore;
+use rhd_algebra::SharedAlgebra;
 use rhd_call::ModuleId;
 use rhd_module::{DeclFault, Module, SharedModule};
 use std::alloc::Global;

@@ -3,6 +3,7 @@
 use crate::given::{CLASHING, SEEDS, script, text, texts};
 use crate::manifest::natives;
 use crate::must::{clashes, empty, holds, must, shared, shared_script, with_x};
+use rhd_algebra::{ModuleAlgebra, SharedAlgebra};
 use rhd_func::SharedDef;
 use rhd_module::Module;
 use rhd_value::FnId;

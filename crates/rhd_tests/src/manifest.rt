@@ -2,6 +2,7 @@
 
 use crate::given::{SEEDS, int, is_int, native_key, text, types};
 use crate::must::{empty, holds, must};
+use rhd_algebra::{EntryCalls, ManifestCalls, ModuleManifests};
 use rhd_decl::DeclFault;
 use rhd_func::{
     CallDone, Carry, FnNamespace, ManifestId, NativeCallContext, NativeStep, Natives, PluginFunc,
@@ -9,7 +10,7 @@ use rhd_func::{
 };
 use rhd_hash::{HashedKey, Key, Steps};
 use rhd_manifest::{FnManifestEntry, Manifests, ModuleManifest};
-use rhd_module::{EntryCalls, ManifestCalls, Module};
+use rhd_module::Module;
 use rhd_value::{Dynamic, FnId, OutOfMemory, Texts, TypeTag, Types, Values};
 use std::alloc::Global;
 use std::process::Abort;

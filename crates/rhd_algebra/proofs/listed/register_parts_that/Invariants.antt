@@ -1,0 +1,13 @@
+use Rattle.std.proofs.Common.{◌≡◌, Bool, map, take}
+use Rattle.std.specs.Fn.{FnReturnsAt}
+use Rattle.rhd_decl.specs.declared.declaration.Declaration.{Declaration}
+use Rattle.rhd_module.specs.Algebra.{that_pass, Tells}
+use Rattle.rhd_manifest.specs.Entry.{entry_pair}
+use Rattle.rhd_manifest.specs.Listing.{listed_in}
+use Rattle.rhd_module.specs.Manifests.{with_pairs, put_back}
+use Rattle.rhd_algebra.proofs.listed.register_parts_that.Given as goal
+
+abbrev pub invariant-loop-part : goal.invariant-loop-part
+invariant-loop-part g l =
+    (tells : Declaration → Bool) → Tells (FnReturnsAt g.F.Fn l.passes) tells
+    → l.made ≡ with_pairs (put_back (that_pass tells (map (entry_pair l.initial.made.own.seeds) (listed_in (take l.part-index l.parts)))) l.initial.made.own.eager) l.made.own.indexed l.initial.made

@@ -1,9 +1,0 @@
-use Rattle.std.proofs.Common.{◌≡◌, ◌++◌}
-use Rattle.rhd_module.specs.Tree.{Pairs}
-use Rattle.rhd_module.specs.Manifests.{with_pairs, put_all}
-use Rattle.rhd_module.proofs.manifests.register_declared.Given as goal
-
-abbrev pub invariant-loop-key : goal.invariant-loop-key
-invariant-loop-key l =
-    (front : Pairs) × (l.initial.key-iterator ≡ front ++ l.key-iterator)
-    × (l.target ≡ with_pairs (put_all front l.initial.target.own.eager) l.target.own.indexed l.initial.target)

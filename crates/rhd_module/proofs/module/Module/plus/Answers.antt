@@ -1,5 +1,0 @@
-use Rattle.std.proofs.Common.{true, rules}
-use Rattle.rhd_module.proofs.module.Module.plus.Goals as goal
-
-pub returns : goal.returns
-returns c = c.merged.ensures (λ d. true) (λ d r p. search rules)
