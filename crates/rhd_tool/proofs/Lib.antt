@@ -1,6 +1,3 @@
-pub mod Arrays
-pub mod AskLaws
-pub mod GivenBack
 pub mod Sessions
 pub mod Statuses
 pub mod WordLaws

@@ -17,7 +17,7 @@ use Rattle.rhd_text.specs.declared.session.SessionText.{SessionText}
 use Rattle.rhd_text.specs.Session.{IsSession, IsFirstBad}
 use Rattle.rhd_print.specs.PrintedReplies.{all_printed}
 use Rattle.rhd_tool.specs.Handed.{Handed, Hosts, Bodies}
-use Rattle.rhd_tool.specs.Streams.{CameWhole, WrotePart}
+use Rattle.rhd_streams.specs.Streams.{CameWhole, WrotePart}
 
 -- the most bytes that a text may have
 abbrev pub most_bytes : ℕ

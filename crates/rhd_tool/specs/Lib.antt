@@ -1,10 +1,2 @@
-pub mod Asks
-pub mod Causes
 pub mod Ends
 pub mod Handed
-pub mod Kit
-pub mod Memory
-pub mod PlanBodies
-pub mod Streams
-pub mod TableHost
-pub mod Values

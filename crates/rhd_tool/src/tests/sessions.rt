@@ -2,11 +2,9 @@
 
 ghost use Rattle.std.specs.Prelude.{◌<◌, length};
 
-use crate::sink::PlainSink;
-use crate::source::PlainSource;
 use crate::tests::{SEEDS, holds, int, one, text_of};
 use crate::tool::run_tool;
-use crate::{PlanBodies, TableHost, kit};
+use crate::{PlainSink, PlainSource, PlanBodies, TableHost, kit};
 use rhd_call::{Command, Commands, ModuleId, Replies, Reply};
 use rhd_engine::{Builtins, Limits, Printers};
 use rhd_files::{FileTable, MemFiles};

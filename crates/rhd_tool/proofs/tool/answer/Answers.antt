@@ -2,8 +2,8 @@ use Rattle.std.proofs.Common.{◌≡◌, length, ap, refl, arith}
 use Rattle.rhd_machine.specs.Objects.{objects_of}
 use Rattle.rhd_loader.specs.Loads.{PlanLoads}
 use Rattle.rhd_tool.specs.Handed.{handed_of}
-use Rattle.rhd_tool.specs.PlanBodies.{plan_starts, plan_resumes}
-use Rattle.rhd_tool.specs.TableHost.{table_answers}
+use Rattle.rhd_kit.specs.PlanBodies.{plan_starts, plan_resumes}
+use Rattle.rhd_kit.specs.TableHost.{table_answers}
 use Rattle.rhd_tool.proofs.Sessions.{none_answered, start_same, all_answered, some_answered}
 use Rattle.rhd_tool.proofs.tool.answer.Goals as goal
 

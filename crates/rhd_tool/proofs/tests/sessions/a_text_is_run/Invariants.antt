@@ -1,8 +1,8 @@
 use Rattle.std.proofs.Common.{◌≤◌, ◌-◌, length}
 use Rattle.rhd_tool.proofs.tests.sessions.a_text_is_run.Given as goal
 
-abbrev pub invariant-loop-natives : goal.invariant-loop-natives
-invariant-loop-natives g l = length l.natives.items.items ≤ 20
+abbrev pub invariant-loop-of-kit : goal.invariant-loop-of-kit
+invariant-loop-of-kit g l = length l.natives.items.items ≤ 20
 
-abbrev pub decreases-loop-natives : goal.decreases-loop-natives
-decreases-loop-natives g l = 20 - length l.natives.items.items
+abbrev pub decreases-loop-of-kit : goal.decreases-loop-of-kit
+decreases-loop-of-kit g l = 20 - length l.natives.items.items

@@ -1,0 +1,5 @@
+pub mod Asks
+pub mod Kit
+pub mod PlanBodies
+pub mod TableHost
+pub mod Values

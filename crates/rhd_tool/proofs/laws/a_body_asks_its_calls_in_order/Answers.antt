@@ -1,5 +1,0 @@
-use Rattle.rhd_tool.proofs.AskLaws.{asks_in_order}
-use Rattle.rhd_tool.proofs.laws.a_body_asks_its_calls_in_order.Goals as goal
-
-pub returns : goal.returns
-returns c = asks_in_order

@@ -1,6 +1,0 @@
-use Rattle.std.proofs.Common.{◌≡◌, length}
-use Rattle.std.specs.Io.KnownBytes.{Keeps}
-use Rattle.rhd_tool.proofs.source.read_once.Given as goal
-
-abbrev pub invariant-loop : goal.invariant-loop
-invariant-loop g l = record { room : length l.buf ≡ length l.initial.buf; kept : Keeps (g.R.Read.remaining l.initial.reader) (g.R.Read.remaining l.reader) }

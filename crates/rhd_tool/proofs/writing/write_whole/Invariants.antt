@@ -1,9 +1,0 @@
-use Rattle.std.proofs.Common.{◌-◌, ◌≤◌, length, take}
-use Rattle.std.specs.Io.KnownBytes.{Appends}
-use Rattle.rhd_tool.proofs.writing.write_whole.Given as goal
-
-abbrev pub invariant-loop-done : goal.invariant-loop-done
-invariant-loop-done g l = record { wrote : Appends (g.K.Sink.written l.fn.sink) (g.K.Sink.written l.sink) (take l.done l.bytes); later : g.K.Sink.faults l.fn.sink ≤ g.K.Sink.faults l.sink; within : l.done ≤ length l.bytes }
-
-abbrev pub decreases-loop-done : goal.decreases-loop-done
-decreases-loop-done g l = length l.bytes - l.done
