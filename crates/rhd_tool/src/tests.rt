@@ -1,5 +1,6 @@
 //! Tests of what no contract says: that each call succeeds where there is memory, and that natives,
-//! bodies and hosts other than those of `rhd_kit` may be handed in. The program of rows runs texts.
+//! bodies, hosts and files other than those of `rhd_kit` and `rhd_files` may be handed in. The program
+//! of rows runs texts.
 
 mod foreign;
 mod sessions;

@@ -1,9 +1,9 @@
-//! A native, bodies and a host other than those of this crate.
+//! A native, bodies, a host and files other than those of `rhd_kit` and `rhd_files`.
 
 use crate::tests::{SEEDS, holds, int, text_of};
 use rhd_call::{Command, Commands};
 use rhd_engine::{Builtins, Limits, Printers};
-use rhd_files::{FileTable, MemFiles};
+use rhd_files::{FileAnswer, FileTable, Files, MemFiles};
 use rhd_func::{
     Bodies, CallDone, CallRequest, CallShape, Carry, Host, HostAnswer, NativeCallContext,
     NativeStep, Natives, PluginFunc, ScriptFuncDef,
@@ -165,8 +165,60 @@ fn commands(alloc: Global) -> Commands {
     commands
 }
 
-/// Runs the commands with these natives, and compares the replies.
-fn check_run(rt: &impl Abort, alloc: Global, natives: Natives) {
+/// Files of which the first that is there is read, and no read after it succeeds.
+#[derive(Drop)]
+struct Once {
+    table: FileTable,
+    is_read: bool,
+    faults: u64,
+}
+
+impl Files for Once {
+    ghost texts = { λ it. it.table };
+
+    ghost faults = { λ it. it.faults };
+
+    fn read(&mut self, alloc: Global, path: &Text) -> Result<FileAnswer, OutOfMemory> {
+        let Some(text) = self.table.get(path) else {
+            return Ok(FileAnswer::NoFile);
+        };
+        if self.is_read {
+            self.faults = self.faults.saturating_add(1);
+            return Ok(FileAnswer::Failed);
+        }
+        self.is_read = true;
+        Ok(FileAnswer::Found(text.dup(alloc)?))
+    }
+}
+
+/// The commands of imports by paths, and of a call into the first.
+fn imports(alloc: Global) -> Commands {
+    let mut commands = Commands::new(alloc);
+    let _ = commands.push(Command::ImportPath {
+        name: text_of(alloc, "m"),
+        path: text_of(alloc, "m"),
+    });
+    if let Ok(Some(call)) = read_call(alloc, b"qual m f", 1) {
+        let _ = commands.push(Command::Call(call));
+    }
+    for path in ["m", "none"] {
+        let _ = commands.push(Command::ImportPath {
+            name: text_of(alloc, "m"),
+            path: text_of(alloc, path),
+        });
+    }
+    commands
+}
+
+/// Runs the commands with these natives and files, and compares the replies.
+fn check_run<F: Files>(
+    rt: &impl Abort,
+    alloc: Global,
+    natives: Natives,
+    files: F,
+    commands: Commands,
+    wanted: &[u8],
+) {
     let builtins = Builtins::new(alloc);
     assert!(rt; builtins.fits(&natives), "no built-in function");
     let manifests = Manifests::new(alloc);
@@ -175,7 +227,7 @@ fn check_run(rt: &impl Abort, alloc: Global, natives: Natives) {
         alloc,
         natives,
         manifests,
-        MemFiles::new(FileTable::new(alloc), Vec::new(alloc)),
+        files,
         PlanLoader::new(),
         SEEDS,
         Limits::DEFAULT,
@@ -185,7 +237,6 @@ fn check_run(rt: &impl Abort, alloc: Global, natives: Natives) {
     let Ok(mut session) = made else {
         panic!(rt; "a session");
     };
-    let commands = commands(alloc);
     assert!(rt; commands.len() < 10, "a few commands");
     let mut host = Counts { asked: 0 };
     let mut bodies = Counts { asked: 0 };
@@ -195,8 +246,7 @@ fn check_run(rt: &impl Abort, alloc: Global, natives: Natives) {
     let mut out = Vec::new(alloc);
     let printed = print_replies(alloc, replies.as_slice(), &mut out);
     holds(rt, printed.is_ok(), "printed");
-    let wanted = b"ok\nf global0#0 called = 1\n  g - host = 1\ng - host ! 15 \"twice\" & 1\n";
-    holds(rt, out.as_slice() == wanted.as_slice(), "what is answered");
+    holds(rt, out.as_slice() == wanted, "what is answered");
 }
 
 #[test]
@@ -209,5 +259,29 @@ fn other_natives_bodies_and_hosts_are_run(rt: HostRuntime) {
     let native: Box<dyn PluginFunc> = made;
     let pushed = natives.push(alloc, native);
     holds(&rt, pushed.is_ok(), "a native goes last");
-    check_run(&rt, alloc, natives);
+    let files = MemFiles::new(FileTable::new(alloc), Vec::new(alloc));
+    let wanted = b"ok\nf global0#0 called = 1\n  g - host = 1\ng - host ! 15 \"twice\" & 1\n";
+    check_run(&rt, alloc, natives, files, commands(alloc), wanted);
+}
+
+#[test]
+fn other_files_are_read(rt: HostRuntime) {
+    let alloc = rt.alloc();
+    let mut table = FileTable::new(alloc);
+    let put = table.insert(text_of(alloc, "m.rhai"), text_of(alloc, "fn f () 0"));
+    holds(&rt, put.is_ok(), "a file");
+    let files = Once {
+        table,
+        is_read: false,
+        faults: 0,
+    };
+    let wanted = b"ok\nm::f import0@0 called = 1\n! 12 \"m\"\n! 12 \"none\"\n";
+    check_run(
+        &rt,
+        alloc,
+        Natives::new(alloc),
+        files,
+        imports(alloc),
+        wanted,
+    );
 }
