@@ -207,5 +207,6 @@ if [ $# -gt 0 ]; then
     beside calls 20000 200000
     beside values 3000 30000
     beside modules 20000 200000
+    beside register 20000 200000
     beside manifest 20000 200000
 fi

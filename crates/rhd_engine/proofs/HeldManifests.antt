@@ -1,6 +1,6 @@
 -- The modules of manifests name held natives alone, and so do modules to which manifests are added.
 use Rattle.std.proofs.Common.{◌≡◌, ℕ, Bool, true, false, ◌&&◌, List, [], ◌∷◌, ◌++◌, length, refl, ap, subst, ◌∙◌}
-use Rattle.std.specs.Prelude.{zero, suc, nat_lt, reverse, Option, None, Some, slice_get, unwrap_or, if◌then◌else◌}
+use Rattle.std.specs.Prelude.{zero, suc, nat_lt, reverse, Option, None, Some, slice_get, unwrap_or}
 use Rattle.std.specs.List.{list_all, flat_map}
 use Rattle.std.specs.Option.{option_map_or}
 use Rattle.std.proofs.lemmas.Bool.{lt-ltb}
@@ -17,10 +17,10 @@ use Rattle.rhd_manifest.specs.Entry.{Entry}
 use Rattle.rhd_manifest.specs.Fits.{native_fits, entry_fits, manifest_fits, fits}
 use Rattle.rhd_manifest.specs.Manifest.{ManifestLists, no_lists, manifest_at}
 use Rattle.rhd_manifest.specs.Rank.{rank_by, flattened, flattened_to, rank}
-use Rattle.rhd_module.specs.Made.{with_subs, own_made, made_by, made_to, made}
+use Rattle.rhd_module.specs.Made.{with_subs, own_made, made_to, made}
 use Rattle.rhd_module.specs.Manifests.{combined}
 use Rattle.rhd_module.specs.Contents.{with_sub}
-use Rattle.rhd_module.specs.Tree.{ModuleTree, empty_module}
+use Rattle.rhd_module.specs.Tree.{ModuleTree}
 use Rattle.rhd_engine.specs.Held.{own_held, below_held, names_held, table_held}
 use Rattle.rhd_engine.proofs.HeldLaws.{both, parts, listed_held, pairs_held, infos_count}
 use Rattle.rhd_engine.proofs.HeldTrees.{sub_held}
