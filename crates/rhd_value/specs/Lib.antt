@@ -10,7 +10,5 @@ pub mod Remade
 pub mod Firsts
 pub mod Lends
 pub mod Pointers
-pub mod Variant
-pub mod Takes
 pub mod Fault
 pub mod Seen

@@ -7,7 +7,6 @@ mod lists;
 mod memory;
 mod tag;
 mod text;
-mod variant;
 
 pub use dynamic::{Dynamic, Entries, FnPtr, Value, Values};
 pub use fault::{BoxedFault, EvalAltResult, ParseErrorType};
@@ -15,4 +14,3 @@ pub use lists::{Texts, Types};
 pub use memory::OutOfMemory;
 pub use tag::{FnId, FnPtrType, Marks, Position, Sizes, TypeTag, map_type};
 pub use text::Text;
-pub use variant::{Variant, a_value_comes_back};

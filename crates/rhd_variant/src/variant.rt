@@ -2,11 +2,9 @@
 ghost use Rattle.std.specs.Prelude.{◌≡◌, ◌↔◌, ℕ, ℤ, Bool, Option, Some, None, IsSome, refl};
 ghost use Rattle.rhd_value.specs.Tree.{Tree, boolean, unit, integer, character, text, array, object, pointer, items_of, members_of};
 ghost use Rattle.rhd_value.specs.Kinds.{int_in, bool_in, text_in, plain};
-ghost use Rattle.rhd_value.specs.Variant.{list_in, entries_in, char_in, unit_in, pointer_in, IsTaken};
+ghost use Rattle.rhd_variant.specs.Variant.{list_in, entries_in, char_in, unit_in, pointer_in, IsTaken};
 
-use crate::dynamic::{Dynamic, Entries, FnPtr, Value, Values};
-use crate::tag::TypeTag;
-use crate::text::Text;
+use rhd_value::{Dynamic, Entries, FnPtr, Text, TypeTag, Value, Values};
 
 /// A Rust type whose values are values of one kind, or of all.
 pub trait Variant {
@@ -48,7 +46,7 @@ pub fn a_value_comes_back<T: Variant>(value: T) -> Option<T>
 
 impl Variant for i64 {
     ghost use Rattle.rhd_value.specs.declared.tag.TypeTag.TheVariants as tags;
-    ghost use Rattle.rhd_value.specs.Takes.{takes_int};
+    ghost use Rattle.rhd_variant.specs.Takes.{takes_int};
 
     ghost TAG = { tags.Int };
 
@@ -73,7 +71,7 @@ impl Variant for i64 {
 
 impl Variant for () {
     ghost use Rattle.rhd_value.specs.declared.tag.TypeTag.TheVariants as tags;
-    ghost use Rattle.rhd_value.specs.Takes.{takes_unit};
+    ghost use Rattle.rhd_variant.specs.Takes.{takes_unit};
 
     ghost TAG = { tags.Unit };
 
@@ -101,7 +99,7 @@ impl Variant for () {
 
 impl Variant for bool {
     ghost use Rattle.rhd_value.specs.declared.tag.TypeTag.TheVariants as tags;
-    ghost use Rattle.rhd_value.specs.Takes.{takes_bool};
+    ghost use Rattle.rhd_variant.specs.Takes.{takes_bool};
 
     ghost TAG = { tags.Bool };
 
@@ -126,7 +124,7 @@ impl Variant for bool {
 
 impl Variant for char {
     ghost use Rattle.rhd_value.specs.declared.tag.TypeTag.TheVariants as tags;
-    ghost use Rattle.rhd_value.specs.Takes.{takes_char};
+    ghost use Rattle.rhd_variant.specs.Takes.{takes_char};
 
     ghost TAG = { tags.Char };
 
@@ -154,7 +152,7 @@ impl Variant for char {
 
 impl Variant for Text {
     ghost use Rattle.rhd_value.specs.declared.tag.TypeTag.TheVariants as tags;
-    ghost use Rattle.rhd_value.specs.Takes.{takes_text};
+    ghost use Rattle.rhd_variant.specs.Takes.{takes_text};
 
     ghost TAG = { tags.Text };
 
@@ -182,7 +180,7 @@ impl Variant for Text {
 
 impl Variant for Values {
     ghost use Rattle.rhd_value.specs.declared.tag.TypeTag.TheVariants as tags;
-    ghost use Rattle.rhd_value.specs.Takes.{takes_list, list_returns};
+    ghost use Rattle.rhd_variant.specs.Takes.{takes_list, list_returns};
 
     ghost TAG = { tags.Array };
 
@@ -211,7 +209,7 @@ impl Variant for Values {
 
 impl Variant for Entries {
     ghost use Rattle.rhd_value.specs.declared.tag.TypeTag.TheVariants as tags;
-    ghost use Rattle.rhd_value.specs.Takes.{takes_entries, entries_return};
+    ghost use Rattle.rhd_variant.specs.Takes.{takes_entries, entries_return};
 
     ghost TAG = { tags.Map };
 
@@ -240,7 +238,7 @@ impl Variant for Entries {
 
 impl Variant for Dynamic {
     ghost use Rattle.rhd_value.specs.declared.tag.TypeTag.TheVariants as tags;
-    ghost use Rattle.rhd_value.specs.Takes.{takes_all};
+    ghost use Rattle.rhd_variant.specs.Takes.{takes_all};
 
     ghost TAG = { tags.Dynamic };
 
@@ -265,7 +263,7 @@ impl Variant for Dynamic {
 
 impl Variant for FnPtr {
     ghost use Rattle.rhd_value.specs.declared.tag.TypeTag.TheVariants as tags;
-    ghost use Rattle.rhd_value.specs.Takes.{takes_pointer, pointer_returns};
+    ghost use Rattle.rhd_variant.specs.Takes.{takes_pointer, pointer_returns};
 
     ghost TAG = { tags.FnPtr };
 

@@ -4,7 +4,7 @@ use Rattle.std.proofs.Common.{refl, ap, rules}
 use Rattle.rhd_value.specs.declared.tag.TypeTag.TheVariants as tags
 use Rattle.rhd_value.specs.Tree.{Tree, Pointer, Kind, unit, boolean, integer, character, text, array, object, pointer, items_of, members_of, list_of, entries_of, Bytes}
 use Rattle.rhd_value.specs.Kinds.{tag_of_kind, int_in, bool_in, text_in, plain}
-use Rattle.rhd_value.specs.Variant.{IsTaken, list_in, entries_in, char_in, unit_in, pointer_in}
+use Rattle.rhd_variant.specs.Variant.{IsTaken, list_in, entries_in, char_in, unit_in, pointer_in}
 
 pub takes_int : (t : Tree) → IsSome (int_in t.kind) ↔ IsTaken tags.Int t
 takes_int t = go t.kind

@@ -1,0 +1,2 @@
+pub mod Variant
+pub mod Takes
