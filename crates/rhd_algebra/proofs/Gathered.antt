@@ -13,9 +13,9 @@ use Rattle.rhd_decl.specs.declared.fault.DeclFault.TheVariants.{HashCollision, I
 use Rattle.rhd_manifest.specs.Entry.{entry_pair}
 use Rattle.rhd_module.specs.Algebra.{joined_doc, put_subs, over, over_all, combined_with, flattened_with, Passes, that_pass, registered_over, merged_own, merge_subs, merged_with, merged_all, rebuilt, SomeClash, HasOwnTable, Joins, Combines, Flattens, Merges}
 use Rattle.rhd_module.specs.Contents.{with_doc}
-use Rattle.rhd_module.specs.Index.{IsClash}
-use Rattle.rhd_module.specs.Manifests.{put_back, put_all}
-use Rattle.rhd_module.specs.Tree.{ModuleTree, Lists, Pairs, Subs, no_subs, sub, empty_module}
+use Rattle.rhd_table.specs.Indexed.{IsClash}
+use Rattle.rhd_table.specs.Pairs.{put_back, put_all, Pairs}
+use Rattle.rhd_module.specs.Tree.{ModuleTree, Lists, Subs, no_subs, sub, empty_module}
 use Rattle.rhd_module.proofs.JoinLaws.{all_through, back_through, vars_through, vars_sorted, subs_through}
 use Rattle.rhd_module.proofs.JoinParts.{clash_first, clash_in}
 use Rattle.rhd_module.proofs.Registers.{clash_put}

@@ -11,7 +11,8 @@ use Rattle.rhd_decl.specs.declared.fault.DeclFault.{DeclFault}
 use Rattle.rhd_decl.specs.declared.fault.DeclFault.TheVariants.{HashCollision, IndexerNotAllowed, NotCallable, UnknownNumber, OutOfMemory}
 use Rattle.rhd_manifest.specs.Manifest.{ManifestLists, manifest_at, AreLower}
 use Rattle.rhd_module.specs.Contents.{with_sub}
-use Rattle.rhd_module.specs.Index.{NoneClash, IsClash, indexed}
+use Rattle.rhd_table.specs.Indexed.{NoneClash, IsClash}
+use Rattle.rhd_module.specs.Index.{indexed}
 use Rattle.rhd_module.specs.Made.{with_subs, own_made, made_by, made_to, made, IsMadeApart, MadeClash}
 use Rattle.rhd_module.specs.Tree.{ModuleTree}
 use Rattle.rhd_module.specs.Walk.{tree}

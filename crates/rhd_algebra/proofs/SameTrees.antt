@@ -12,9 +12,11 @@ use Rattle.rhd_module.specs.Manifests.{registered, registered_pairs}
 use Rattle.rhd_module.specs.OwnKeys.{DeclaresOwn, HaveOwnKeys, HasOwnKeys, own_at}
 use Rattle.rhd_module.specs.Shown.{shown, own_decl}
 use Rattle.rhd_module.specs.Tree.{ModuleTree, Lists, Subs, no_subs, sub}
-use Rattle.rhd_module.specs.Walk.{pairs_at, below, tree, qualified}
+use Rattle.rhd_table.specs.Paths.{pairs_at}
+use Rattle.rhd_module.specs.Walk.{below, tree, qualified}
 use Rattle.rhd_module.proofs.LazyParts.{renewed, after}
-use Rattle.rhd_module.proofs.Lookups.{first, joined, first_registered}
+use Rattle.rhd_table.proofs.Lookups.{first}
+use Rattle.rhd_module.proofs.Lookups.{joined, first_registered}
 use Rattle.rhd_module.proofs.SamePairs.{apart_declared, pairs_registered}
 
 -- a module's own declarations once what it lists is registered

@@ -5,11 +5,12 @@ ghost use Rattle.std.specs.Fn.{FnReturnsAt};
 ghost use Rattle.std.specs.List.{AllByRecursion};
 ghost use Rattle.std.specs.Map.{keys_of};
 ghost use Rattle.rhd_decl.specs.declared.declaration.Declaration.{Declaration as Decl};
-ghost use Rattle.rhd_module.specs.Algebra.{joined_doc, over, combined_with, new_vars, new_subs, that_pass, registered_over, flattened_with, merged_own, merged_with, merged_all};
-ghost use Rattle.rhd_module.specs.Algebra.{HasOwnTable, SomeClash, IsJoined, Joins, Combines, Fills, Merges, Tells};
+ghost use Rattle.rhd_module.specs.Algebra.{joined_doc, over, combined_with, new_vars, new_subs, that_pass, registered_over, flattened_with, merged_own, merged_with, merged_all, HasOwnTable, SomeClash, IsJoined, Joins, Combines, Fills, Merges};
+ghost use Rattle.rhd_table.specs.Tells.{Tells};
 ghost use Rattle.rhd_module.specs.Contents.{with_doc};
-ghost use Rattle.rhd_module.specs.Index.{IsClash};
-ghost use Rattle.rhd_module.specs.Manifests.{put_all, with_contents, with_pairs};
+ghost use Rattle.rhd_table.specs.Indexed.{IsClash};
+ghost use Rattle.rhd_table.specs.Pairs.{put_all};
+ghost use Rattle.rhd_module.specs.Manifests.{with_contents, with_pairs};
 ghost use Rattle.rhd_module.specs.Tree.{empty_module, subs_of};
 
 use crate::listed::register_parts_that;

@@ -10,9 +10,11 @@ ghost use Rattle.rhd_hash.specs.Table.{HasOwnHashes};
 ghost use Rattle.rhd_manifest.specs.Entry.{entry_pair};
 ghost use Rattle.rhd_manifest.specs.Listing.{listed_in};
 ghost use Rattle.rhd_manifest.specs.Rank.{rank};
-ghost use Rattle.rhd_module.specs.Algebra.{entries_over, Tells};
-ghost use Rattle.rhd_module.specs.Index.{IsClash};
-ghost use Rattle.rhd_module.specs.Manifests.{is_banned_entry, first_banned, RefusesIndexers, with_pairs, put_back, registered_pairs};
+ghost use Rattle.rhd_module.specs.Algebra.{entries_over};
+ghost use Rattle.rhd_table.specs.Tells.{Tells};
+ghost use Rattle.rhd_table.specs.Indexed.{IsClash};
+ghost use Rattle.rhd_module.specs.Manifests.{is_banned_entry, first_banned, RefusesIndexers, with_pairs, registered_pairs};
+ghost use Rattle.rhd_table.specs.Pairs.{put_back};
 ghost use Rattle.rhd_module.specs.Tree.{empty_module};
 
 use rhd_decl::{DeclFault, Declaration};

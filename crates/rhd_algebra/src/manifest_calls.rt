@@ -3,7 +3,8 @@
 ghost use Rattle.std.specs.Prelude.{◌≡◌, OnOk, OnErr};
 ghost use Rattle.rhd_manifest.specs.Entry.{entry_key, entry_decl};
 ghost use Rattle.rhd_module.specs.Manifests.{with_contents};
-ghost use Rattle.rhd_module.specs.Registered.{banned, Puts};
+ghost use Rattle.rhd_decl.specs.Registration.{banned};
+ghost use Rattle.rhd_module.specs.Registered.{Puts};
 
 use crate::combining::{put_types, put_vars};
 use rhd_decl::DeclFault;

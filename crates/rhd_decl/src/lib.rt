@@ -8,6 +8,8 @@ mod fault;
 mod flags;
 mod metadata;
 mod native_keys;
+mod refusals;
+mod registration;
 
 pub use custom_types::{CustomTypeInfo, CustomTypesCollection};
 pub use declaration::Declaration;
@@ -15,3 +17,7 @@ pub use fault::DeclFault;
 pub use flags::{ModuleFlags, Switches};
 pub use metadata::FuncMetadata;
 pub use native_keys::{mapped_types, native_key};
+pub use refusals::{raw_refusal, refuse_banned, refuse_indexer, refuse_pair, unheld, unknown};
+pub use registration::{
+    FuncRegistration, is_banned, is_pure_by_name, script_declaration, script_key,
+};

@@ -20,9 +20,10 @@ use Rattle.rhd_manifest.specs.Entry.{Entry, entry_key, entry_decl}
 use Rattle.rhd_manifest.specs.Rank.{find_entry}
 use Rattle.rhd_module.proofs.Absent.{absent_qualified}
 use Rattle.rhd_module.proofs.Listed.{shown_past, none_dynamic}
-use Rattle.rhd_module.specs.Below.{may_be_dynamic, lists_dynamic}
+use Rattle.rhd_table.specs.Marks.{may_be_dynamic, lists_dynamic}
 use Rattle.rhd_module.specs.Matching.{may_match}
-use Rattle.rhd_module.specs.Tree.{ModuleTree, Pairs}
+use Rattle.rhd_module.specs.Tree.{ModuleTree}
+use Rattle.rhd_table.specs.Pairs.{Pairs}
 use Rattle.rhd_call.specs.declared.pick.Layer.{Layer}
 use Rattle.rhd_call.specs.declared.pick.Layer.TheVariants.{Library, Global, Import, Static}
 use Rattle.rhd_call.specs.declared.pick.Pick.{Pick}

@@ -7,7 +7,8 @@ use Rattle.rhd_value.specs.Firsts.{first_of}
 use Rattle.rhd_hash.specs.declared.key.Key.{Key}
 use Rattle.rhd_hash.specs.Keys.{key_eq}
 use Rattle.rhd_module.specs.Shown.{shown}
-use Rattle.rhd_module.specs.Tree.{ModuleTree, Pairs}
+use Rattle.rhd_module.specs.Tree.{ModuleTree}
+use Rattle.rhd_table.specs.Pairs.{Pairs}
 use Rattle.rhd_module.specs.Walk.{tree}
 use Rattle.rhd_call.specs.declared.pick.Layer.{Layer}
 use Rattle.rhd_call.specs.declared.pick.Layer.TheVariants.{Library, Global, Import, Static}

@@ -22,11 +22,13 @@ use Rattle.rhd_decl.specs.declared.fault.DeclFault.{DeclFault}
 use Rattle.rhd_decl.specs.declared.fault.DeclFault.TheVariants.{HashCollision, IndexerNotAllowed, NotCallable, UnknownNumber, OutOfMemory}
 use Rattle.rhd_manifest.specs.Entry.{Entry, entry_key, entry_pair}
 use Rattle.rhd_manifest.specs.Rank.{firsts}
-use Rattle.rhd_module.specs.declared.registration.FuncRegistration.{FuncRegistration}
+use Rattle.rhd_decl.specs.declared.registration.FuncRegistration.{FuncRegistration}
 use Rattle.rhd_module.specs.Contents.{with_type}
-use Rattle.rhd_module.specs.Tree.{ModuleTree, Lists, Pairs}
-use Rattle.rhd_module.specs.Shown.{without, shown}
-use Rattle.rhd_module.specs.Registered.{put, with_decl, unheld, registered_func, pure_by_name, banned, native_at, Puts, PutsBoth, Registers, RegistersBoth, RegistersRaw}
+use Rattle.rhd_module.specs.Tree.{ModuleTree, Lists}
+use Rattle.rhd_table.specs.Pairs.{Pairs, without, put}
+use Rattle.rhd_module.specs.Shown.{shown}
+use Rattle.rhd_module.specs.Registered.{with_decl, Puts, PutsBoth, Registers, RegistersBoth, RegistersRaw}
+use Rattle.rhd_decl.specs.Registration.{unheld, registered_func, pure_by_name, banned, native_at}
 use Rattle.rhd_engine.specs.Held.{func_held, own_held, below_held, names_held, all_held}
 use Rattle.rhd_engine.specs.Registered.{in_first, InFirst, RegistersFirst, RegistersBothFirst, RegistersRawFirst}
 

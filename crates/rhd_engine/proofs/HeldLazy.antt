@@ -6,9 +6,9 @@ use Rattle.rhd_manifest.specs.Entry.{entry_pair}
 use Rattle.rhd_module.specs.Below.{some_below, some_in, lists_any}
 use Rattle.rhd_module.specs.Index.{indexed}
 use Rattle.rhd_module.specs.Lazy.{with_registered, registered_subs, registered_tree}
-use Rattle.rhd_module.specs.Manifests.{lazy, put_back, put_all, registered, registered_pairs}
-use Rattle.rhd_module.specs.Registered.{put}
-use Rattle.rhd_module.specs.Tree.{ModuleTree, Subs, no_subs, sub, Pairs}
+use Rattle.rhd_module.specs.Manifests.{lazy, registered, registered_pairs}
+use Rattle.rhd_table.specs.Pairs.{put_back, put_all, put, Pairs}
+use Rattle.rhd_module.specs.Tree.{ModuleTree, Subs, no_subs, sub}
 use Rattle.rhd_engine.specs.Held.{own_held, below_held, names_held}
 use Rattle.rhd_engine.proofs.HeldLaws.{both, parts, is_held, listed_held, pairs_held, put_held}
 use Rattle.rhd_engine.proofs.HeldTrees.{three}

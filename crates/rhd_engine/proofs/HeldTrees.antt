@@ -13,10 +13,12 @@ use Rattle.rhd_hash.specs.declared.key.Key.{Key}
 use Rattle.rhd_hash.specs.Keys.{key_eq, with_path, is_typed_key}
 use Rattle.rhd_func.specs.Access.{is_private, is_global_namespace}
 use Rattle.rhd_decl.specs.declared.declaration.Declaration.{Declaration}
-use Rattle.rhd_module.specs.Tree.{ModuleTree, Lists, Subs, no_subs, sub, Pairs}
+use Rattle.rhd_module.specs.Tree.{ModuleTree, Lists, Subs, no_subs, sub}
+use Rattle.rhd_table.specs.Pairs.{Pairs}
 use Rattle.rhd_module.specs.Shown.{shown}
 use Rattle.rhd_module.specs.Contents.{with_sub, put_sub, find_sub}
-use Rattle.rhd_module.specs.Walk.{unpathed, pathed, pairs_at, below as pairs_below, tree}
+use Rattle.rhd_table.specs.Paths.{unpathed, pathed, pairs_at}
+use Rattle.rhd_module.specs.Walk.{below as pairs_below, tree}
 use Rattle.rhd_engine.specs.Held.{func_held, own_held, below_held, names_held, all_held, named_held}
 use Rattle.rhd_engine.specs.Lists.{Imports, module_of, put_module, second}
 use Rattle.rhd_engine.proofs.HeldLaws.{is_held, pairs_held, both, parts, found_held, shown_held}

@@ -6,7 +6,7 @@ use Rattle.std.proofs.lemmas.Result.{IfOk-weaker}
 use Rattle.rhd_value.specs.Tree.{Bytes}
 use Rattle.rhd_value.specs.declared.tag.FnId.{FnId}
 use Rattle.rhd_func.specs.Natives.{NativeInfo}
-use Rattle.rhd_module.specs.Registered.{no_info, native_at, params_by_type}
+use Rattle.rhd_decl.specs.Registration.{no_info, native_at, params_by_type}
 
 pub known_info : {N : Type 0} (view : N → NativeInfo) (items : List N) (id : FnId) (native : N) → slice_get items id.0 ≡ Some native → native_at (map view items) id ≡ view native
 known_info view items id native some = ap (λ (o : Option NativeInfo). unwrap_or o no_info) (slice_get-map view items id.0 ∙ ap (option_map view) some)

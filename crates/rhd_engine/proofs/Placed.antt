@@ -14,7 +14,8 @@ use Rattle.rhd_decl.specs.declared.fault.DeclFault.TheVariants.{HashCollision, I
 use Rattle.rhd_module.specs.Tree.{ModuleTree, empty_module}
 use Rattle.rhd_module.specs.Contents.{named, with_id, with_sub, find_sub}
 use Rattle.rhd_module.specs.Walk.{tree}
-use Rattle.rhd_module.specs.Index.{NoneClash, Indexes, indexed}
+use Rattle.rhd_table.specs.Indexed.{NoneClash}
+use Rattle.rhd_module.specs.Index.{Indexes, indexed}
 use Rattle.rhd_engine.specs.Held.{names_held, named_held}
 use Rattle.rhd_engine.specs.Lists.{Imports, module_of}
 use Rattle.rhd_engine.specs.Statics.{parts_of, placed, made, put_static, with_static, made_by, TreeClear, TreeClash, IsTreeRefusal, Places}

@@ -7,10 +7,11 @@ use Rattle.rhd_value.specs.declared.tag.TypeTag.{TypeTag}
 use Rattle.rhd_func.specs.declared.func.RhaiFunc.{RhaiFunc}
 use Rattle.rhd_func.specs.Natives.{NativeInfo}
 use Rattle.rhd_decl.specs.declared.fault.DeclFault.{DeclFault}
-use Rattle.rhd_module.specs.declared.registration.FuncRegistration.{FuncRegistration}
+use Rattle.rhd_decl.specs.declared.registration.FuncRegistration.{FuncRegistration}
 use Rattle.rhd_module.specs.Tree.{ModuleTree}
 use Rattle.rhd_decl.specs.declared.metadata.FuncMetadata.{FuncMetadata}
-use Rattle.rhd_module.specs.Registered.{Registers, RegistersBoth, RegistersRaw, native_at, registered_decl}
+use Rattle.rhd_module.specs.Registered.{Registers, RegistersBoth, RegistersRaw}
+use Rattle.rhd_decl.specs.Registration.{native_at, registered_decl}
 use Rattle.rhd_engine.specs.Registered.{InFirst, RegistersFirst, RegistersBothFirst, RegistersRawFirst, FirstTells}
 
 -- the first of some modules, set anew, goes as it is told

@@ -11,9 +11,10 @@ use Rattle.rhd_func.specs.declared.func.RhaiFunc.{RhaiFunc}
 use Rattle.rhd_func.specs.declared.func.RhaiFunc.TheVariants.{Method}
 use Rattle.rhd_decl.specs.declared.fault.DeclFault.{DeclFault}
 use Rattle.rhd_decl.specs.declared.metadata.FuncMetadata.{FuncMetadata}
-use Rattle.rhd_module.specs.declared.registration.FuncRegistration.{FuncRegistration}
+use Rattle.rhd_decl.specs.declared.registration.FuncRegistration.{FuncRegistration}
 use Rattle.rhd_module.specs.Tree.{ModuleTree}
-use Rattle.rhd_module.specs.Registered.{Registers, RegistersBoth, RegistersRaw, native_at, registered_decl, global_registration, params_by_type, pure_by_name}
+use Rattle.rhd_module.specs.Registered.{Registers, RegistersBoth, RegistersRaw}
+use Rattle.rhd_decl.specs.Registration.{native_at, registered_decl, global_registration, params_by_type, pure_by_name}
 
 -- the first of some modules changed
 abbrev pub in_first : (ModuleTree → ModuleTree) → List ModuleTree → List ModuleTree

@@ -12,7 +12,8 @@ use Rattle.rhd_decl.specs.declared.fault.DeclFault.TheVariants.{HashCollision, O
 use Rattle.rhd_module.specs.Tree.{ModuleTree, empty_module}
 use Rattle.rhd_module.specs.Contents.{named, with_sub, find_sub}
 use Rattle.rhd_module.specs.Walk.{tree}
-use Rattle.rhd_module.specs.Index.{NoneClash, indexed}
+use Rattle.rhd_table.specs.Indexed.{NoneClash}
+use Rattle.rhd_module.specs.Index.{indexed}
 use Rattle.rhd_engine.specs.Lists.{Imports, module_of, put_module}
 use Rattle.rhd_engine.specs.Paths.{path_of}
 

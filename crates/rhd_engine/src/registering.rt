@@ -5,7 +5,7 @@ ghost use Rattle.rhd_value.specs.Kinds.{type_text};
 ghost use Rattle.rhd_func.specs.Infos.{infos_of};
 ghost use Rattle.rhd_decl.specs.declared.fault.DeclFault.TheVariants.{OutOfMemory as no_memory};
 ghost use Rattle.rhd_module.specs.Contents.{with_type};
-ghost use Rattle.rhd_module.specs.Registered.{native_at, params_by_type, global_registration, getter_name, setter_name};
+ghost use Rattle.rhd_decl.specs.Registration.{native_at, params_by_type, global_registration, getter_name, setter_name};
 ghost use Rattle.rhd_engine.specs.Engine.{GlobalsAlone, StaticsAlone};
 ghost use Rattle.rhd_engine.specs.Held.{names_held};
 ghost use Rattle.rhd_engine.specs.Lists.{second};
@@ -356,7 +356,7 @@ impl Engine {
 
 /// A registration that can be made for all calls.
 pub trait RegisterIntoEngine {
-    ghost use Rattle.rhd_module.specs.declared.registration.FuncRegistration.{FuncRegistration};
+    ghost use Rattle.rhd_decl.specs.declared.registration.FuncRegistration.{FuncRegistration};
 
     /// The registration that it is.
     ghost registration: { Self → FuncRegistration };

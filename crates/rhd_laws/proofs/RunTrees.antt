@@ -8,8 +8,7 @@ use Rattle.rhd_value.specs.declared.fault.EvalAltResult.{EvalAltResult}
 use Rattle.rhd_decl.specs.declared.fault.DeclFault.{DeclFault}
 use Rattle.rhd_decl.specs.declared.fault.DeclFault.TheVariants.{HashCollision}
 use Rattle.rhd_call.specs.declared.command.Command.{Command}
-use Rattle.rhd_call.specs.declared.command.Command.TheVariants.{NewModule, SetId, SetDoc, SetVar, SetType, Native, RawNative, Script, SubModule, Combine, CombineFlatten, Fill, Merge, FromManifest, CombineManifest, RegisterLazy}
-use Rattle.rhd_call.specs.declared.command.Command.TheVariants.{Index, Clear, RegisterFn, RegisterRaw, RegisterType, GlobalModule, StaticModule, PushLib, PopLib, PushImport, ImportPath, PopImport, SetSource, SetTag, Call, Contains}
+use Rattle.rhd_call.specs.declared.command.Command.TheVariants.{NewModule, SetId, SetDoc, SetVar, SetType, Native, RawNative, Script, SubModule, Combine, CombineFlatten, Fill, Merge, FromManifest, CombineManifest, RegisterLazy, Index, Clear, RegisterFn, RegisterRaw, RegisterType, GlobalModule, StaticModule, PushLib, PopLib, PushImport, ImportPath, PopImport, SetSource, SetTag, Call, Contains}
 use Rattle.rhd_call.specs.declared.command.Command.TheVariants.{Count as CountOf}
 use Rattle.rhd_call.specs.declared.command.ModuleId.{ModuleId}
 use Rattle.rhd_call.specs.declared.node.CallNode.{CallNode}

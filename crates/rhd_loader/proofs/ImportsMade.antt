@@ -8,7 +8,7 @@ use Rattle.rhd_hash.specs.declared.mixer.Seeds.{Seeds}
 use Rattle.rhd_func.specs.declared.func.ScriptFuncDef.{ScriptFuncDef}
 use Rattle.rhd_decl.specs.declared.fault.DeclFault.{DeclFault}
 use Rattle.rhd_decl.specs.declared.fault.DeclFault.TheVariants.{HashCollision, IndexerNotAllowed, NotCallable, UnknownNumber, OutOfMemory}
-use Rattle.rhd_module.specs.Index.{IsClash}
+use Rattle.rhd_table.specs.Indexed.{IsClash}
 use Rattle.rhd_module.specs.Walk.{tree}
 use Rattle.rhd_engine.specs.Lists.{Imports}
 use Rattle.rhd_loader.specs.Imports.{ImportedScripts}

@@ -10,7 +10,8 @@ use Rattle.rhd_hash.specs.Table.{Clashing}
 use Rattle.rhd_func.specs.declared.func.ScriptFuncDef.{ScriptFuncDef}
 use Rattle.rhd_manifest.specs.Manifest.{ManifestLists}
 use Rattle.rhd_module.specs.Algebra.{HasOwnTable}
-use Rattle.rhd_module.specs.Index.{NoneClash, indexed}
+use Rattle.rhd_table.specs.Indexed.{NoneClash}
+use Rattle.rhd_module.specs.Index.{indexed}
 use Rattle.rhd_module.specs.Tree.{ModuleTree, empty_module}
 use Rattle.rhd_module.specs.Walk.{tree}
 use Rattle.rhd_engine.specs.Lists.{Imports}

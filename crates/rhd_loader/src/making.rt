@@ -2,7 +2,7 @@
 
 ghost use Rattle.std.specs.Prelude.{◌≡◌, ◌++◌, ◌∷◌, [], None, IfOk, OnOk, IfErr};
 ghost use Rattle.std.specs.Map.{keys_of};
-ghost use Rattle.rhd_module.specs.Index.{IsClash};
+ghost use Rattle.rhd_table.specs.Indexed.{IsClash};
 ghost use Rattle.rhd_resolve.specs.Loading.{with_scripts};
 ghost use Rattle.rhd_loader.specs.Loads.{import_of, imports_of, IsApart, AreApart};
 ghost use Rattle.rhd_loader.specs.Making.{ToldClash, SomeClash};

@@ -12,10 +12,13 @@ use Rattle.rhd_hash.specs.Parts.{untyped_key}
 use Rattle.rhd_hash.specs.Filter.{slot}
 use Rattle.rhd_func.specs.Access.{is_private, is_global_namespace}
 use Rattle.rhd_decl.specs.declared.declaration.Declaration.{Declaration}
-use Rattle.rhd_module.specs.Tree.{ModuleTree, Subs, no_subs, sub, Pairs}
+use Rattle.rhd_module.specs.Tree.{ModuleTree, Subs, no_subs, sub}
+use Rattle.rhd_table.specs.Pairs.{Pairs}
 use Rattle.rhd_module.specs.Shown.{shown}
-use Rattle.rhd_module.specs.Walk.{unpathed, pathed, pairs_at, below, tree}
-use Rattle.rhd_module.specs.Below.{some_below, some_in, may_be_dynamic, declares_dynamic, may_contain}
+use Rattle.rhd_table.specs.Paths.{unpathed, pathed, pairs_at}
+use Rattle.rhd_module.specs.Walk.{below, tree}
+use Rattle.rhd_module.specs.Below.{some_below, some_in, declares_dynamic, may_contain}
+use Rattle.rhd_table.specs.Marks.{may_be_dynamic}
 
 -- neither of two that aren't both
 left_false : (a b : Bool) → (a || b) ≡ false → a ≡ false

@@ -1,7 +1,6 @@
 -- Two natives that are registered, both or none.
-use Rattle.std.proofs.Common.{◌≡◌, List, [], ◌∷◌, refl, sym, ap, subst, ◌∙◌}
-use Rattle.std.specs.Prelude.{Option, Some, None, Result, Err, slice_get, unwrap_or}
-use Rattle.rhd_value.specs.Tree.{Bytes}
+use Rattle.std.proofs.Common.{◌≡◌, List, [], ◌∷◌, refl, sym, subst, ◌∙◌}
+use Rattle.std.specs.Prelude.{Option, Some, None, Err}
 use Rattle.rhd_value.specs.Firsts.{first_some}
 use Rattle.rhd_value.specs.declared.tag.FnId.{FnId}
 use Rattle.rhd_hash.specs.declared.key.Key.{Key}
@@ -11,10 +10,12 @@ use Rattle.rhd_decl.specs.declared.declaration.Declaration.{Declaration}
 use Rattle.rhd_decl.specs.declared.fault.DeclFault.{DeclFault}
 use Rattle.rhd_decl.specs.declared.fault.DeclFault.TheVariants.{HashCollision, IndexerNotAllowed, NotCallable, UnknownNumber, OutOfMemory}
 use Rattle.rhd_module.specs.Tree.{ModuleTree}
-use Rattle.rhd_module.specs.declared.registration.FuncRegistration.{FuncRegistration}
+use Rattle.rhd_decl.specs.declared.registration.FuncRegistration.{FuncRegistration}
 use Rattle.rhd_decl.specs.NativeKeys.{native_key}
-use Rattle.rhd_module.specs.Registered.{put, Puts, PutsBoth, Registers, RegistersBoth, Refuses, banned, no_info, native_at, registered_decl, registration_cause, pair_cause}
-use Rattle.rhd_module.proofs.Puts.{kept}
+use Rattle.rhd_table.specs.Pairs.{put}
+use Rattle.rhd_module.specs.Registered.{Puts, PutsBoth, Registers, RegistersBoth}
+use Rattle.rhd_decl.specs.Registration.{native_at, registered_decl, registration_cause, pair_cause}
+use Rattle.rhd_table.proofs.Puts.{kept}
 
 -- where nothing refuses a pair, nothing refuses its first half
 pub pair_first : (u v b c : Option DeclFault) → first_some (u ∷ v ∷ b ∷ c ∷ []) ≡ None → first_some (u ∷ b ∷ []) ≡ None
@@ -43,11 +44,3 @@ getter_refused A B infos get_reg get set_reg set old copy between new fault none
     let setter : NativeInfo = native_at infos set in
     first_refused (native_key getter.is_method get_reg.name getter.types) (native_key setter.is_method set_reg.name setter.types) (registered_decl old.own.seeds get_reg getter get) (λ (s : Seeds). registered_decl s set_reg setter set) old new A B
     (pair_cause infos get_reg.name get set_reg.name set) (registration_cause infos get_reg.name get) fault between none (pair_first _ _ _ _ none) (subst (λ (m : ModuleTree). Registers {A = A} infos get_reg get m (Err fault) between) is puts) same
-
--- a native that is held is refused as it says of itself, and one that isn't is no indexer
-pub held_refuses : {A : Type 0} (infos : List NativeInfo) (id : FnId) (name : Bytes) (r : Result A DeclFault) (info : NativeInfo) → slice_get infos id.0 ≡ Some info → Refuses (banned info.is_method name info.types) r
-    → Refuses (banned (native_at infos id).is_method name (native_at infos id).types) r
-held_refuses infos id name r info held why = subst (λ (i : NativeInfo). Refuses (banned i.is_method name i.types) r) (sym (ap (λ (o : Option NativeInfo). unwrap_or o no_info) held)) why
-
-pub none_refused : (infos : List NativeInfo) (id : FnId) (name : Bytes) → slice_get infos id.0 ≡ None → banned (native_at infos id).is_method name (native_at infos id).types ≡ None
-none_refused infos id name none = ap (λ (o : Option NativeInfo). banned (unwrap_or o no_info).is_method name (unwrap_or o no_info).types) none

@@ -19,14 +19,15 @@ use Rattle.rhd_hash.specs.declared.mixer.Seeds.{Seeds}
 use Rattle.rhd_hash.specs.Keys.{key_eq, key_eq-Decides}
 use Rattle.rhd_decl.specs.declared.declaration.Declaration.{Declaration}
 use Rattle.rhd_manifest.specs.Entry.{entry_pair}
-use Rattle.rhd_module.specs.Tree.{ModuleTree, Pairs, Subs, no_subs, sub, names_of}
-use Rattle.rhd_module.specs.Registered.{put}
-use Rattle.rhd_module.specs.Manifests.{lazy, put_all, put_back, put_vars}
+use Rattle.rhd_module.specs.Tree.{ModuleTree, Subs, no_subs, sub, names_of}
+use Rattle.rhd_table.specs.Pairs.{Pairs, put, put_all, put_back, without}
+use Rattle.rhd_module.specs.Manifests.{lazy, put_vars}
 use Rattle.rhd_module.specs.Contents.{put_sub}
-use Rattle.rhd_module.specs.Shown.{shown, without}
+use Rattle.rhd_module.specs.Shown.{shown}
 use Rattle.rhd_module.specs.Algebra.{put_subs, that_pass, filled_with, merged_with, registered_over}
 use Rattle.rhd_module.proofs.Listed.{lookup_append}
-use Rattle.rhd_module.proofs.Lookups.{first, one_key, Apart, first_all, first_back, first_filter, first_put, first_shown}
+use Rattle.rhd_table.proofs.Lookups.{first, one_key, first_put}
+use Rattle.rhd_module.proofs.Lookups.{Apart, first_all, first_back, first_filter, first_shown}
 use Rattle.rhd_map.proofs.MapOrder.{put_entries, sorted_inserted, entries_through}
 use Rattle.rhd_module.proofs.SamePairs.{Alone, alone_put, alone_back}
 

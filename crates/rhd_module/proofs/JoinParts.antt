@@ -23,16 +23,17 @@ use Rattle.rhd_manifest.specs.Listing.{listed_in}
 use Rattle.rhd_manifest.proofs.Firsts.{listed_append, listed_last}
 use Rattle.rhd_module.specs.Algebra.{SomeClash, Joins, IsJoined, put_subs, new_subs, over, over_all, flattened_with, Passes, merge_subs, merged_with, merged_all, rebuilt}
 use Rattle.rhd_module.specs.Contents.{put_sub, find_sub}
-use Rattle.rhd_module.specs.Below.{may_be_dynamic, lists_dynamic}
-use Rattle.rhd_module.specs.Index.{IsClash, IsFilter}
-use Rattle.rhd_module.specs.Manifests.{put_back, put_all}
-use Rattle.rhd_module.specs.Registered.{put}
-use Rattle.rhd_module.specs.Tree.{ModuleTree, Lists, Subs, no_subs, sub, Pairs, subs_of, depth, empty_module}
+use Rattle.rhd_table.specs.Marks.{may_be_dynamic, lists_dynamic}
+use Rattle.rhd_table.specs.Indexed.{IsClash}
+use Rattle.rhd_module.specs.Index.{IsFilter}
+use Rattle.rhd_table.specs.Pairs.{put_back, put_all, put, Pairs}
+use Rattle.rhd_module.specs.Tree.{ModuleTree, Lists, Subs, no_subs, sub, subs_of, depth, empty_module}
 use Rattle.rhd_map.specs.Puts.{put_entries}
 use Rattle.rhd_module.proofs.SubModules.{subs_put}
-use Rattle.rhd_module.proofs.Puts.{put_next, distinct_own}
-use Rattle.rhd_module.proofs.Registers.{all_append, all_keeps, back_append, clash_all, clash_back}
-use Rattle.rhd_module.proofs.Filled.{has_key, clash_among}
+use Rattle.rhd_table.proofs.Puts.{put_next, distinct_own}
+use Rattle.rhd_table.proofs.Registers.{all_append, all_keeps, clash_all}
+use Rattle.rhd_module.proofs.Registers.{back_append, clash_back}
+use Rattle.rhd_table.proofs.Filled.{has_key, clash_among}
 use Rattle.rhd_module.proofs.LazyParts.{all_append as all_by}
 
 -- Sub-modules as they stand in a map.

@@ -13,7 +13,8 @@ use Rattle.rhd_value.specs.Tree.{Bytes}
 use Rattle.rhd_decl.specs.declared.fault.DeclFault.{DeclFault}
 use Rattle.rhd_decl.specs.declared.fault.DeclFault.TheVariants.{HashCollision, IndexerNotAllowed, NotCallable, UnknownNumber, OutOfMemory}
 use Rattle.rhd_module.specs.Below.{lists_any, some_below, some_in}
-use Rattle.rhd_module.specs.Index.{IsClash, indexed}
+use Rattle.rhd_table.specs.Indexed.{IsClash}
+use Rattle.rhd_module.specs.Index.{indexed}
 use Rattle.rhd_module.specs.Lazy.{with_registered, registered_subs, registered_tree, touched, touched_below, RegisterClash}
 use Rattle.rhd_module.specs.Manifests.{registered_pairs}
 use Rattle.rhd_module.specs.Tree.{ModuleTree, Subs, no_subs, sub, subs_of}

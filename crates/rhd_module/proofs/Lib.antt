@@ -1,11 +1,8 @@
 pub mod Puts
-pub mod Noted
-pub mod Places
 pub mod Scripts
 pub mod Refusals
 pub mod SubModules
 pub mod Both
-pub mod Commented
 pub mod Filled
 pub mod Fills
 pub mod Kept
@@ -18,6 +15,5 @@ pub mod Registers
 pub mod Combined
 pub mod LazyParts
 pub mod JoinParts
-pub mod PlacesBack
 pub mod JoinLaws
 pub mod PutParts

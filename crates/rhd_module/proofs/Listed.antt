@@ -5,7 +5,6 @@ use Rattle.std.specs.Map.{lookup}
 use Rattle.std.specs.Option.{option_map, option_or, option_copied}
 use Rattle.std.proofs.lemmas.Bool.{or_parts}
 use Rattle.std.proofs.lemmas.List.Folds.{list_any-append}
-use Rattle.std.proofs.lemmas.List.Elements.{filter-append}
 use Rattle.rhd_hash.specs.declared.key.Key.{Key}
 use Rattle.rhd_hash.specs.declared.mixer.Seeds.{Seeds}
 use Rattle.rhd_hash.specs.Keys.{key_eq, key_eq-Decides, is_script_key}
@@ -14,9 +13,9 @@ use Rattle.rhd_manifest.specs.Entry.{Entry, entry_key, entry_decl, entry_pair}
 use Rattle.rhd_manifest.specs.Listing.{is_none_of}
 use Rattle.rhd_manifest.specs.Rank.{find_entry, firsts}
 use Rattle.rhd_manifest.proofs.Places.{no_script}
-use Rattle.rhd_module.specs.Below.{may_be_dynamic, lists_dynamic}
-use Rattle.rhd_module.specs.Tree.{Pairs}
-use Rattle.rhd_module.specs.Shown.{without, shown_of}
+use Rattle.rhd_table.specs.Marks.{may_be_dynamic, lists_dynamic}
+use Rattle.rhd_table.specs.Pairs.{Pairs, without}
+use Rattle.rhd_module.specs.Shown.{shown_of}
 
 pub twice : (b : Bool) → not (not b) ≡ b
 twice true = refl
@@ -217,7 +216,3 @@ any_lent f (e ∷ es) = ap (λ b. f (entry_key e.now) || b) (any_lent f es)
 pub pairs_lent : (seeds : Seeds) (es : List (Bor Entry)) → map (λ e. entry_pair seeds e.now) es ≡ map (entry_pair seeds) (map (λ e. e.now) es)
 pairs_lent seeds [] = refl
 pairs_lent seeds (e ∷ es) = ap (λ ps. entry_pair seeds e.now ∷ ps) (pairs_lent seeds es)
-
--- the first of some declarations, and the others
-pub without_more : (others : Pairs) (p : Key × Declaration) (ps : Pairs) → without others (p ∷ ps) ≡ without others (p ∷ []) ++ without others ps
-without_more others p ps = filter-append (λ p. is_none (lookup (key_eq p.0) others)) (p ∷ []) ps

@@ -2,29 +2,20 @@
 use Rattle.std.proofs.Common.{◌≡◌, Bool, true, false, cond, [], ◌∷◌, ◌++◌, map, Option, None, Some, is_none, refl, sym, ap, ◌∙◌}
 use Rattle.std.specs.Prelude.{⊤}
 use Rattle.std.specs.List.{filter}
-use Rattle.std.specs.Map.{lookup}
 use Rattle.std.specs.Option.{option_or, option_map}
 use Rattle.std.proofs.lemmas.Map.Entries.{lookup-filter-keys}
 use Rattle.rhd_hash.specs.declared.key.Key.{Key}
-use Rattle.rhd_hash.specs.Keys.{key_eq, key_eq-Decides}
-use Rattle.rhd_hash.proofs.FirstFound.{is_other}
-use Rattle.rhd_hash.proofs.PutIn.{finds_itself, finds_others}
+use Rattle.rhd_hash.specs.Keys.{key_eq}
 use Rattle.rhd_decl.specs.declared.declaration.Declaration.{Declaration}
 use Rattle.rhd_manifest.specs.Entry.{entry_decl, entry_pair}
 use Rattle.rhd_manifest.specs.Rank.{firsts}
-use Rattle.rhd_module.specs.Tree.{Lists, Pairs}
-use Rattle.rhd_module.specs.Registered.{put}
-use Rattle.rhd_module.specs.Manifests.{lazy, put_back, put_all, registered_pairs}
-use Rattle.rhd_module.specs.Shown.{without, shown}
+use Rattle.rhd_module.specs.Tree.{Lists}
+use Rattle.rhd_table.specs.Pairs.{Pairs, put, put_back, put_all, without}
+use Rattle.rhd_module.specs.Manifests.{lazy, registered_pairs}
+use Rattle.rhd_module.specs.Shown.{shown}
 use Rattle.rhd_module.specs.OwnKeys.{key_path}
 use Rattle.rhd_module.proofs.Listed.{lookup_append, lookup_pairs, find_firsts}
-
--- the first declaration with a key
-abbrev pub first : Key → Pairs → Option Declaration
-first k ps = lookup (key_eq k) ps
-
-pub one_key : (a b : Key) → key_eq a b ≡ true → a ≡ b
-one_key a b e = (key_eq-Decides a b).0 e
+use Rattle.rhd_table.proofs.Lookups.{first, first_put, one_key}
 
 pub or_none : {A : Type 0} (o : Option A) → option_or o None ≡ o
 or_none None = refl
@@ -41,13 +32,6 @@ joined k xs ys us vs a b = lookup_append (key_eq k) xs ys ∙ (λ i. option_or (
 -- those whose keys pass a test
 pub first_filter : (f : Key → Bool) (k : Key) (ps : Pairs) → first k (filter (λ p. f p.0) ps) ≡ cond (f k) (first k ps) None
 first_filter f k ps = lookup-filter-keys (key_eq k) f (f k) (λ q same. ap f (sym (one_key k q same))) ps
-
-pub first_put : (k q : Key) (d : Declaration) (ps : Pairs) → first k (put q d ps) ≡ cond (key_eq k q) (Some d) (first k ps)
-first_put k q d ps = by (key_eq k q) refl
-  where
-    by : (same : Bool) → key_eq k q ≡ same → first k (put q d ps) ≡ cond same (Some d) (first k ps)
-    by true s = ap (λ x. first x (put q d ps)) (one_key k q s) ∙ finds_itself key_eq key_eq-Decides q d ps
-    by false s = finds_others key_eq key_eq-Decides q d k ps (λ same. is_other key_eq key_eq-Decides k q s (sym same))
 
 -- put in from the last to the first: the first of them is found, else what was there
 pub first_back : (k : Key) (ps base : Pairs) → first k (put_back ps base) ≡ option_or (first k ps) (first k base)

@@ -7,37 +7,24 @@ use Rattle.std.proofs.lemmas.List.{map-append, reverse-append}
 use Rattle.rhd_hash.specs.declared.key.Key.{Key}
 use Rattle.rhd_hash.specs.declared.mixer.Seeds.{Seeds}
 use Rattle.rhd_hash.specs.Keys.{key_eq, key_eq-Decides}
-use Rattle.rhd_decl.specs.declared.declaration.Declaration.{Declaration}
 use Rattle.rhd_decl.specs.declared.fault.DeclFault.{DeclFault}
-use Rattle.rhd_module.specs.Tree.{Pairs}
-use Rattle.rhd_module.specs.Index.{IsClash}
+use Rattle.rhd_table.specs.Pairs.{Pairs, put, put_back, put_all}
+use Rattle.rhd_table.specs.Indexed.{IsClash}
 use Rattle.rhd_manifest.specs.Entry.{Entry, entry_pair}
 use Rattle.rhd_manifest.specs.Listing.{listed_in}
 use Rattle.rhd_manifest.proofs.Firsts.{listed_append, listed_last}
-use Rattle.rhd_module.specs.Registered.{put}
-use Rattle.rhd_module.specs.Manifests.{put_back, put_all}
-use Rattle.rhd_module.proofs.Puts.{there, kept}
-use Rattle.rhd_module.proofs.Filled.{has_key, is_in, is_held, clash_among}
+use Rattle.rhd_table.proofs.Puts.{there}
+use Rattle.rhd_table.proofs.Filled.{has_key, is_held, clash_among}
+use Rattle.rhd_table.proofs.Registers.{all_keeps, still}
 
 pub back_append : (xs ys ps : Pairs) → put_back (xs ++ ys) ps ≡ put_back xs (put_back ys ps)
 back_append [] ys ps = refl
 back_append (x ∷ xs) ys ps = ap (put x.0 x.1) (back_append xs ys ps)
 
-pub all_append : (xs ys ps : Pairs) → put_all (xs ++ ys) ps ≡ put_all ys (put_all xs ps)
-all_append [] ys ps = refl
-all_append (x ∷ xs) ys ps = all_append xs ys (put x.0 x.1 ps)
-
-still : (k : Key) (d : Declaration) (q : Key) (ps : Pairs) → has_key q (keys_of ps) ≡ true → has_key q (keys_of (put k d ps)) ≡ true
-still k d q ps h = is_held (keys_of (put k d ps)) q (kept k q d ps (is_in (keys_of ps) q h))
-
 -- no key is lost
 pub back_keeps : (xs ps : Pairs) (q : Key) → has_key q (keys_of ps) ≡ true → has_key q (keys_of (put_back xs ps)) ≡ true
 back_keeps [] ps q h = h
 back_keeps (x ∷ xs) ps q h = still x.0 x.1 q (put_back xs ps) (back_keeps xs ps q h)
-
-pub all_keeps : (xs ps : Pairs) (q : Key) → has_key q (keys_of ps) ≡ true → has_key q (keys_of (put_all xs ps)) ≡ true
-all_keeps [] ps q h = h
-all_keeps (x ∷ xs) ps q h = all_keeps xs (put x.0 x.1 ps) q (still x.0 x.1 q ps h)
 
 -- each key that is put in is there
 pub all_put : (xs ps : Pairs) (q : Key) → has_key q (keys_of xs) ≡ true → has_key q (keys_of (put_all xs ps)) ≡ true
@@ -60,9 +47,6 @@ clash_put s xs ps fault c = clash_among s s (keys_of xs) (keys_of (put_all xs ps
 -- a clash of some stays one once more are put in
 pub clash_back : (s : Seeds) (xs ps : Pairs) (fault : DeclFault) → IsClash s (keys_of ps) fault → IsClash s (keys_of (put_back xs ps)) fault
 clash_back s xs ps fault c = clash_among s s (keys_of ps) (keys_of (put_back xs ps)) fault refl (back_keeps xs ps) c
-
-pub clash_all : (s : Seeds) (xs ps : Pairs) (fault : DeclFault) → IsClash s (keys_of ps) fault → IsClash s (keys_of (put_all xs ps)) fault
-clash_all s xs ps fault c = clash_among s s (keys_of ps) (keys_of (put_all xs ps)) fault refl (all_keeps xs ps) c
 
 -- One listed function after the other.
 module _ (seeds : Seeds) where
@@ -95,7 +79,3 @@ module _ (seeds : Seeds) where
         ∙ ap (λ qs. put_back qs ps) (map-append (entry_pair seeds) (listed_in later) (listed_in (front ++ x ∷ []))) ∙ back_append (pairs (listed_in later)) (pairs (listed_in (front ++ x ∷ []))) ps in
         let P : Pairs → Type 0 = λ qs. IsClash seeds (keys_of qs) fault in
         subst P (sym whole) (clash_back seeds (pairs (listed_in later)) (put_back (pairs (listed_in (front ++ x ∷ []))) ps) fault (subst P (sym one) c))
-
-pub clash_at_pair : (s : Seeds) (front later all : Pairs) (p : Key × Declaration) (ps : Pairs) (fault : DeclFault) → all ≡ front ++ p ∷ later → IsClash s (keys_of (put p.0 p.1 (put_all front ps))) fault → IsClash s (keys_of (put_all all ps)) fault
-clash_at_pair s front later all p ps fault is c =
-    subst (λ (qs : Pairs). IsClash s (keys_of qs) fault) (sym (ap (λ xs. put_all xs ps) is ∙ all_append front (p ∷ later) ps)) (clash_all s later (put p.0 p.1 (put_all front ps)) fault c)

@@ -15,14 +15,15 @@ use Rattle.rhd_func.specs.Access.{is_private, is_global_namespace}
 use Rattle.rhd_decl.specs.declared.declaration.Declaration.{Declaration}
 use Rattle.rhd_manifest.specs.Entry.{Entry, entry_key, entry_pair}
 use Rattle.rhd_manifest.specs.Rank.{firsts}
-use Rattle.rhd_module.specs.Tree.{Lists, Pairs}
-use Rattle.rhd_module.specs.Registered.{put}
-use Rattle.rhd_module.specs.Manifests.{put_back, put_all, registered_pairs}
-use Rattle.rhd_module.specs.Shown.{without, shown}
-use Rattle.rhd_module.specs.Walk.{unpathed, pathed, pairs_at}
+use Rattle.rhd_module.specs.Tree.{Lists}
+use Rattle.rhd_table.specs.Pairs.{Pairs, put, put_back, put_all, without}
+use Rattle.rhd_module.specs.Manifests.{registered_pairs}
+use Rattle.rhd_module.specs.Shown.{shown}
+use Rattle.rhd_table.specs.Paths.{unpathed, pathed, pairs_at}
 use Rattle.rhd_module.specs.OwnKeys.{key_path, DeclaresOwn}
 use Rattle.rhd_module.proofs.Listed.{lookup_append}
-use Rattle.rhd_module.proofs.Lookups.{first, one_key, or_none, Apart, first_filter, first_put, first_registered}
+use Rattle.rhd_table.proofs.Lookups.{first, one_key, first_put}
+use Rattle.rhd_module.proofs.Lookups.{or_none, Apart, first_filter, first_registered}
 
 pub other_way : (a b : Key) → key_eq a b ≡ false → key_eq b a ≡ false
 other_way a b e = other_key key_eq key_eq-Decides b a (λ same. is_other key_eq key_eq-Decides a b e (sym same))

@@ -15,9 +15,10 @@ use Rattle.rhd_decl.specs.declared.fault.DeclFault.{DeclFault}
 use Rattle.rhd_decl.specs.declared.fault.DeclFault.TheVariants.{HashCollision, OutOfMemory}
 use Rattle.rhd_manifest.specs.Entry.{Entry, entry_pair}
 use Rattle.rhd_module.specs.Contents.{put_sub, find_sub}
-use Rattle.rhd_module.specs.Manifests.{put_vars, put_all, put_back}
-use Rattle.rhd_module.specs.Shown.{shown, without}
-use Rattle.rhd_module.specs.Tree.{Lists, ModuleTree, Pairs, Subs, no_subs, sub, empty_module}
+use Rattle.rhd_module.specs.Manifests.{put_vars}
+use Rattle.rhd_table.specs.Pairs.{put_all, put_back, without, Pairs}
+use Rattle.rhd_module.specs.Shown.{shown}
+use Rattle.rhd_module.specs.Tree.{Lists, ModuleTree, Subs, no_subs, sub, empty_module}
 
 -- documentation with more, after a line break where there is some already
 abbrev pub joined_doc : Bytes → Bytes → Bytes
@@ -130,10 +131,6 @@ rebuilt passes seeds (sub name own below later) = merged_with passes (record { o
 -- `retain_script_functions`: the scripts that pass; natives and manifests go
 abbrev pub scripts_that : Passes → ModuleTree → ModuleTree
 scripts_that passes m = record m { own = record m.own { eager = that_pass (λ d. is_script d.func && passes d) m.own.eager; manifests = []; listed = []; indexed = false } }
-
--- what a test answers is told by a function
-abbrev pub Tells : {A : Type 0} → (A → Bool → Type 0) → (A → Bool) → Type 0
-Tells {A} Answers passes = (a : A) (r : Bool) → Answers a r → r ≡ passes a
 
 -- a filter tells by the namespace, the access, whether it is a script, the name and the number of parameters
 abbrev pub passes_by : (FnNamespace → FnAccess → Bool → Bytes → ℕ → Bool) → Passes

@@ -1,20 +1,16 @@
 -- What holds of some module of a tree, and which module stands under a path.
-use Rattle.std.specs.Prelude.{ℕ, Bool, false, not, ◌||◌, ◌&&◌, ◌==◌, List, [], ◌∷◌, if◌then◌else◌, Option, None, Some}
+use Rattle.std.specs.Prelude.{ℕ, Bool, false, not, ◌||◌, ◌&&◌, List, [], ◌∷◌, if◌then◌else◌, Option, Some}
 use Rattle.std.specs.Option.{option_map, option_and_then}
 use Rattle.std.specs.List.{list_any}
 use Rattle.rhd_value.specs.Tree.{Bytes, Tree, copied}
 use Rattle.rhd_value.specs.Entries.{found}
-use Rattle.rhd_hash.specs.declared.key.Key.{Key}
 use Rattle.rhd_hash.specs.declared.mixer.Seeds.{Seeds}
-use Rattle.rhd_hash.specs.Keys.{has_dynamic}
-use Rattle.rhd_hash.specs.Parts.{untyped_key}
-use Rattle.rhd_hash.specs.Filter.{slot}
 use Rattle.rhd_func.specs.Access.{is_global_namespace}
-use Rattle.rhd_manifest.specs.Entry.{Entry, entry_key}
 use Rattle.rhd_manifest.specs.Listing.{is_none_of}
 use Rattle.rhd_module.specs.Tree.{ModuleTree, Lists, Subs, no_subs, sub}
 use Rattle.rhd_module.specs.Shown.{shown}
 use Rattle.rhd_module.specs.Contents.{find_sub}
+use Rattle.rhd_table.specs.Marks.{may_be_dynamic}
 
 -- some of these modules, or one below them, has this
 abbrev pub some_below : (Lists → Bool) → Subs → Bool
@@ -29,22 +25,9 @@ some_in has m = has m.own || some_below has m.subs
 abbrev pub declares_global : Lists → Bool
 declares_global own = list_any (λ p. is_global_namespace p.1.metadata.namespace) (shown own)
 
--- a number is this one modulo 64, if there is one
-abbrev pub has_slot : Option ℕ → ℕ → Bool
-has_slot None v = false
-has_slot (Some hash) v = slot 8 v == slot 8 hash
-
--- a key has a parameter of any type, and a hash under these seeds of its name and number of parameters that is this one modulo 64
-abbrev pub may_be_dynamic : Seeds → ℕ → Key → Bool
-may_be_dynamic seeds hash key = has_dynamic key && (slot 8 hash == slot 8 (untyped_key seeds key))
-
 -- the key of some declaration is such a one
 abbrev pub declares_dynamic : Seeds → ℕ → Lists → Bool
 declares_dynamic seeds hash own = list_any (λ p. may_be_dynamic seeds hash p.0) (shown own)
-
--- and of some function that is listed
-abbrev pub lists_dynamic : Seeds → ℕ → List Entry → Bool
-lists_dynamic seeds hash listed = list_any (λ e. may_be_dynamic seeds hash (entry_key e)) listed
 
 -- something is listed
 abbrev pub lists_any : Lists → Bool

@@ -20,7 +20,8 @@ use Rattle.rhd_manifest.specs.Entry.{Entry, coded_entry}
 use Rattle.rhd_decl.specs.contracts.declaration.Declaration as declaration
 use Rattle.rhd_decl.specs.declared.custom_types.CustomTypeInfo.{CustomTypeInfo}
 use Rattle.rhd_decl.specs.contracts.custom_types.CustomTypeInfo as info
-use Rattle.rhd_module.specs.Tree.{Lists, Subs, no_subs, sub, ModuleTree, Pairs, subs_of, depth}
+use Rattle.rhd_module.specs.Tree.{Lists, Subs, no_subs, sub, ModuleTree, subs_of, depth}
+use Rattle.rhd_table.specs.Pairs.{Pairs}
 
 abbrev coded_bytes : Coded Bytes
 coded_bytes = coded_list coded_ℕ

@@ -1,5 +1,5 @@
 -- What the calls on a module's contents change and find.
-use Rattle.std.specs.Prelude.{ℕ, Bool, true, false, List, [], ◌∷◌, ◌==◌, ◌&&◌, length, if◌then◌else◌, Option, None, Some, is_none}
+use Rattle.std.specs.Prelude.{ℕ, Bool, true, false, List, [], ◌∷◌, ◌&&◌, length, if◌then◌else◌, Option, None, Some, is_none}
 use Rattle.std.specs.Option.{option_or}
 use Rattle.std.specs.Ordering.{match_ordering, nat_cmp}
 use Rattle.std.specs.Cmp.Lexicographic.{slice_cmp}
@@ -8,14 +8,14 @@ use Rattle.rhd_value.specs.Entries.{put}
 use Rattle.rhd_value.specs.Firsts.{first_of}
 use Rattle.rhd_value.specs.Same.{text_eq}
 use Rattle.rhd_hash.specs.declared.key.Key.{Key}
-use Rattle.rhd_hash.specs.declared.key.Key.TheVariants.{Script, Typed, Native}
+use Rattle.rhd_hash.specs.declared.key.Key.TheVariants.{Script}
 use Rattle.rhd_hash.specs.Keys.{key_eq}
 use Rattle.rhd_func.specs.declared.func.ScriptFuncDef.{ScriptFuncDef}
 use Rattle.rhd_func.specs.Funcs.{script_def_of}
-use Rattle.rhd_decl.specs.declared.declaration.Declaration.{Declaration}
 use Rattle.rhd_decl.specs.CustomTypes.{type_info, put_type}
 use Rattle.rhd_manifest.specs.Listing.{is_none_of}
-use Rattle.rhd_module.specs.Tree.{ModuleTree, Subs, no_subs, sub, Pairs}
+use Rattle.rhd_module.specs.Tree.{ModuleTree, Subs, no_subs, sub}
+use Rattle.rhd_table.specs.Found.{script_in, comment_on}
 
 -- an empty id clears
 abbrev pub id_of : Bytes → Option Bytes
@@ -68,25 +68,10 @@ is_empty m = is_none_of m.own.vars && (has_no_subs m.subs && (is_none_of m.own.e
 abbrev pub counts : ModuleTree → ℕ × (ℕ × ℕ)
 counts m = (length m.own.vars, (length m.own.eager, length m.own.iterators))
 
--- a typed script's key of this name and number of parameters
-abbrev pub is_typed_of : Bytes → ℕ → Key → Bool
-is_typed_of name params (Script path n c) = false
-is_typed_of name params (Typed path n c this_type) = text_eq n name && (c == params)
-is_typed_of name params (Native path n types) = false
-
--- the script of a name and number of parameters: the untyped one, else the first typed one in order
+-- the script of a name and number of parameters
 abbrev pub script_of : Bytes → ℕ → ModuleTree → Option ScriptFuncDef
-script_of name params m =
-    option_or (first_of (λ p. if key_eq (Script None name params) p.0 then script_def_of p.1.func else None) m.own.eager)
-    (first_of (λ p. if is_typed_of name params p.0 then script_def_of p.1.func else None) m.own.eager)
+script_of name params m = script_in name params m.own.eager
 
--- the comments of the declaration under a key, if there is one
-abbrev pub commented : List Bytes → Declaration → Declaration
-commented comments d = record d { metadata = record d.metadata { comments = comments } }
-
-abbrev pub comment_on : Key → List Bytes → Pairs → Pairs
-comment_on key comments [] = []
-comment_on key comments (p ∷ ps) = if key_eq key p.0 then (p.0, commented comments p.1) ∷ ps else p ∷ comment_on key comments ps
-
+-- the module with comments of the declaration under a key, if there is one
 abbrev pub with_comments : Key → List Bytes → ModuleTree → ModuleTree
 with_comments key comments m = record m { own = record m.own { eager = comment_on key comments m.own.eager } }

@@ -6,7 +6,8 @@ use Rattle.rhd_hash.specs.Table.{HasOwnHashes, Clashing}
 use Rattle.rhd_decl.specs.declared.fault.DeclFault.{DeclFault}
 use Rattle.rhd_decl.specs.declared.fault.DeclFault.TheVariants.{HashCollision, OutOfMemory}
 use Rattle.rhd_module.specs.Below.{lists_any, some_below, some_in}
-use Rattle.rhd_module.specs.Index.{NoneClash, indexed}
+use Rattle.rhd_table.specs.Indexed.{NoneClash}
+use Rattle.rhd_module.specs.Index.{indexed}
 use Rattle.rhd_module.specs.Manifests.{registered, registered_pairs}
 use Rattle.rhd_module.specs.Tree.{ModuleTree, Subs, no_subs, sub}
 use Rattle.rhd_module.specs.Walk.{tree}

@@ -9,8 +9,6 @@ pub mod OwnKeys
 pub mod Index
 pub mod Lends
 pub mod Matching
-pub mod NativeIndex
-pub mod Scripts
 pub mod Manifests
 pub mod Made
 pub mod Lazy

@@ -11,7 +11,8 @@ use Rattle.rhd_decl.specs.declared.fault.DeclFault.TheVariants.{HashCollision, O
 use Rattle.rhd_manifest.specs.Manifest.{ManifestLists, manifest_at}
 use Rattle.rhd_manifest.specs.Rank.{rank, walk}
 use Rattle.rhd_module.specs.Contents.{with_sub}
-use Rattle.rhd_module.specs.Index.{NoneClash, indexed}
+use Rattle.rhd_table.specs.Indexed.{NoneClash}
+use Rattle.rhd_module.specs.Index.{indexed}
 use Rattle.rhd_module.specs.Manifests.{with_contents, with_manifest, first_banned, RefusesIndexers}
 use Rattle.rhd_module.specs.Tree.{ModuleTree, empty_module}
 use Rattle.rhd_module.specs.Walk.{tree}

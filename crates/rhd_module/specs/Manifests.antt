@@ -12,8 +12,9 @@ use Rattle.rhd_decl.specs.declared.fault.DeclFault.TheVariants.{HashCollision, I
 use Rattle.rhd_manifest.specs.Entry.{Entry, entry_key, entry_pair}
 use Rattle.rhd_manifest.specs.Manifest.{ManifestLists}
 use Rattle.rhd_manifest.specs.Rank.{rank, all_vars, all_types}
-use Rattle.rhd_module.specs.Registered.{is_banned, put}
-use Rattle.rhd_module.specs.Tree.{ModuleTree, Lists, Pairs}
+use Rattle.rhd_decl.specs.Registration.{is_banned}
+use Rattle.rhd_table.specs.Pairs.{Pairs, put_back, put_all}
+use Rattle.rhd_module.specs.Tree.{ModuleTree, Lists}
 
 -- the module with what a manifest lists above what it lists; it isn't indexed any more
 abbrev pub with_listed : ManifestId × Bool → List Entry → ModuleTree → ModuleTree
@@ -61,15 +62,6 @@ AddsManifest table id old done (Err fault) new = RefusesIndexers {A = ManifestId
 -- what is listed, as declarations under their keys
 abbrev pub lazy : Lists → Pairs
 lazy own = map (entry_pair own.seeds) own.listed
-
--- declarations put in one after the other, the last first, and the first first
-abbrev pub put_back : Pairs → Pairs → Pairs
-put_back [] ps = ps
-put_back (p ∷ more) ps = put p.0 p.1 (put_back more ps)
-
-abbrev pub put_all : Pairs → Pairs → Pairs
-put_all [] ps = ps
-put_all (p ∷ more) ps = put_all more (put p.0 p.1 ps)
 
 -- the module with these declarations, indexed or not
 abbrev pub with_pairs : Pairs → Bool → ModuleTree → ModuleTree

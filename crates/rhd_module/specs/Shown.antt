@@ -1,6 +1,5 @@
 -- What a module has for a key.
-use Rattle.std.specs.Prelude.{◌++◌, List, map, Option, is_none}
-use Rattle.std.specs.List.{filter}
+use Rattle.std.specs.Prelude.{◌++◌, List, map, Option}
 use Rattle.std.specs.Map.{lookup}
 use Rattle.rhd_hash.specs.declared.key.Key.{Key}
 use Rattle.rhd_hash.specs.declared.mixer.Seeds.{Seeds}
@@ -8,11 +7,8 @@ use Rattle.rhd_decl.specs.declared.declaration.Declaration.{Declaration}
 use Rattle.rhd_hash.specs.Keys.{key_eq}
 use Rattle.rhd_manifest.specs.Entry.{Entry, entry_pair}
 use Rattle.rhd_manifest.specs.Rank.{firsts}
-use Rattle.rhd_module.specs.Tree.{Lists, ModuleTree, Pairs}
-
--- those of some declarations whose keys others don't have
-abbrev pub without : Pairs → Pairs → Pairs
-without others ps = filter (λ p. is_none (lookup (key_eq p.0) others)) ps
+use Rattle.rhd_module.specs.Tree.{Lists, ModuleTree}
+use Rattle.rhd_table.specs.Pairs.{Pairs, without}
 
 -- declarations, then what is listed under other keys: the first under each
 abbrev pub shown_of : Seeds → Pairs → List Entry → Pairs

@@ -3,17 +3,12 @@ use Rattle.std.specs.Prelude.{ℕ, Bool, true, false, max, ◌+◌, List, [], �
 use Rattle.std.specs.declared.rc.Rc.{Rc}
 use Rattle.rhd_value.specs.Tree.{Bytes, Tree}
 use Rattle.rhd_value.specs.declared.tag.TypeTag.{TypeTag}
-use Rattle.rhd_hash.specs.declared.key.Key.{Key}
 use Rattle.rhd_hash.specs.declared.mixer.Seeds.{Seeds}
 use Rattle.rhd_func.specs.declared.access.IterId.{IterId}
 use Rattle.rhd_func.specs.declared.access.ManifestId.{ManifestId}
 use Rattle.rhd_manifest.specs.Entry.{Entry}
-use Rattle.rhd_decl.specs.declared.declaration.Declaration.{Declaration}
 use Rattle.rhd_decl.specs.CustomTypes.{CustomTypes}
-
--- declarations under their keys
-abbrev pub Pairs : Type 0
-Pairs = List (Key × Declaration)
+use Rattle.rhd_table.specs.Pairs.{Pairs}
 
 -- the lists of a module, but for its sub-modules
 pub record Lists : Type 0 where

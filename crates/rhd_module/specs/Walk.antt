@@ -1,26 +1,14 @@
 -- The pairs of a module and of all below it, under which its functions are found by a qualified name.
-use Rattle.std.specs.Prelude.{not, ◌&&◌, ◌||◌, List, [], ◌∷◌, ◌++◌, if◌then◌else◌, Option}
-use Rattle.std.specs.List.{flat_map}
+use Rattle.std.specs.Prelude.{List, [], ◌∷◌, ◌++◌, Option}
 use Rattle.std.specs.Map.{lookup}
 use Rattle.rhd_value.specs.Tree.{Bytes}
 use Rattle.rhd_hash.specs.declared.key.Key.{Key}
-use Rattle.rhd_hash.specs.Keys.{key_eq, with_path, is_typed_key}
-use Rattle.rhd_func.specs.Access.{is_private, is_global_namespace}
+use Rattle.rhd_hash.specs.Keys.{key_eq}
 use Rattle.rhd_decl.specs.declared.declaration.Declaration.{Declaration}
-use Rattle.rhd_module.specs.Tree.{ModuleTree, Subs, no_subs, sub, Pairs}
+use Rattle.rhd_module.specs.Tree.{ModuleTree, Subs, no_subs, sub}
+use Rattle.rhd_table.specs.Pairs.{Pairs}
 use Rattle.rhd_module.specs.Shown.{shown}
-
--- where it is global and isn't private: under its key without a path; a private typed script method too
-abbrev pub unpathed : Key × Declaration → Pairs
-unpathed p = if is_global_namespace p.1.metadata.namespace && (not (is_private p.1.metadata.access) || is_typed_key p.0) then p ∷ [] else []
-
--- where it isn't private: under its key with the path of its module
-abbrev pub pathed : List Bytes → Key × Declaration → Pairs
-pathed path p = if is_private p.1.metadata.access then [] else (with_path path p.0, p.1) ∷ []
-
--- the pairs of one module at a path
-abbrev pub pairs_at : List Bytes → Pairs → Pairs
-pairs_at path declared = flat_map (λ p. unpathed p ++ pathed path p) declared
+use Rattle.rhd_table.specs.Paths.{pairs_at}
 
 -- those of the sub-modules under a path, in descending order of name; a module's own come before those of its sub-modules
 abbrev pub below : List Bytes → Subs → Pairs

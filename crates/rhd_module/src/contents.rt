@@ -16,7 +16,7 @@ ghost use Rattle.rhd_module.specs.Tree.{subs_of};
 
 use crate::module::Module;
 use rhd_decl::{CustomTypeInfo, CustomTypesCollection};
-use rhd_func::SharedText;
+use rhd_func::{SharedDef, SharedText};
 use rhd_value::{Dynamic, Entries, OutOfMemory, Text, Texts, TypeTag};
 use rhd_variant::Variant;
 use std::alloc::Global;
@@ -312,6 +312,13 @@ impl Module {
         let no_fns = self.eager.len() == 0;
         let no_manifests = self.iter_manifests().len() == 0;
         no_vars & (no_subs & (no_fns & no_manifests))
+    }
+
+    /// The script of a name and number of parameters: the untyped one, else the first typed one in order.
+    pub fn get_script_fn(&self, name: &Text, params: u64) -> Option<&SharedDef>
+        ensures { option_copied result ≡ script_of name.now params self.now }
+    {
+        self.eager.get_script(name, params)
     }
 
     /// How many variables, declarations and functions that iterate it has.

@@ -5,10 +5,12 @@ ghost use Rattle.std.specs.Fn.{FnReturnsAt};
 ghost use Rattle.std.specs.Map.{keys_of};
 ghost use Rattle.rhd_decl.specs.declared.declaration.Declaration.{Declaration as Decl};
 ghost use Rattle.rhd_manifest.specs.Entry.{entry_decl, entry_key, entry_pair};
-ghost use Rattle.rhd_module.specs.Algebra.{declared_over, Tells};
-ghost use Rattle.rhd_module.specs.Index.{IsClash};
-ghost use Rattle.rhd_module.specs.Manifests.{put_all, put_back, with_pairs};
-ghost use Rattle.rhd_module.specs.Registered.{put, Puts};
+ghost use Rattle.rhd_module.specs.Algebra.{declared_over};
+ghost use Rattle.rhd_table.specs.Tells.{Tells};
+ghost use Rattle.rhd_table.specs.Indexed.{IsClash};
+ghost use Rattle.rhd_table.specs.Pairs.{put_all, put_back, put};
+ghost use Rattle.rhd_module.specs.Manifests.{with_pairs};
+ghost use Rattle.rhd_module.specs.Registered.{Puts};
 
 use crate::module::Module;
 use rhd_decl::{DeclFault, Declaration};

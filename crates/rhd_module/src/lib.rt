@@ -8,11 +8,8 @@ mod index;
 mod law;
 mod manifests;
 mod module;
-mod native_index;
 mod parts;
 mod qualified;
-mod registration;
-mod script_search;
 mod setters;
 mod shared;
 
@@ -21,10 +18,9 @@ pub use in_place::Named;
 pub use law::{a_declaration_leaves_the_others, a_key_finds_its_first_declaration};
 pub use module::Module;
 pub use parts::Lists;
-pub use registration::{
-    FuncRegistration, is_banned, is_pure_by_name, script_declaration, script_key,
-};
 pub use rhd_decl::{
-    CustomTypeInfo, CustomTypesCollection, DeclFault, Declaration, FuncMetadata, native_key,
+    CustomTypeInfo, CustomTypesCollection, DeclFault, Declaration, FuncMetadata, FuncRegistration,
+    is_banned, is_pure_by_name, native_key, script_declaration, script_key,
 };
+pub use setters::RegisterIntoModule;
 pub use shared::SharedModule;

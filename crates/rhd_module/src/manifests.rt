@@ -1,35 +1,14 @@
 //! What manifests list, in modules.
 
-ghost use Rattle.std.specs.Prelude.{◌≡◌, ◌||◌, ℕ, OnOk, OnErr};
-ghost use Rattle.rhd_hash.specs.Filter.{is_marked};
-ghost use Rattle.rhd_manifest.specs.Listing.{listed_in};
-ghost use Rattle.rhd_module.specs.Below.{lists_any, lists_dynamic, some_in};
+ghost use Rattle.std.specs.Prelude.{◌≡◌, OnOk, OnErr};
+ghost use Rattle.rhd_module.specs.Below.{lists_any, some_in};
 ghost use Rattle.rhd_module.specs.Manifests.{with_listed};
 
-use crate::module::{Module, mark_dynamic};
+use crate::module::Module;
 use rhd_func::ManifestId;
-use rhd_hash::{BloomFilterU64, Seeds};
-use rhd_manifest::{EntryList, FnManifestEntry, Listing};
+use rhd_manifest::Listing;
+use rhd_table::mark_parts;
 use rhd_value::OutOfMemory;
-use std::rc::Rc;
-
-/// Marks the hashes of the keys of listed functions that have a parameter of any type.
-fn mark_entries(filter: &mut BloomFilterU64<8>, seeds: Seeds, entries: &[FnManifestEntry])
-    ensures { (v : ℕ) → is_marked 8 filter.new v ≡ (is_marked 8 filter.old v || lists_dynamic seeds v entries.now) }
-{
-    for entry in entries {
-        mark_dynamic(filter, entry.key().dynamic_hash(seeds));
-    }
-}
-
-/// The same of all that some manifests list.
-pub(crate) fn mark_parts(filter: &mut BloomFilterU64<8>, seeds: Seeds, parts: &[Rc<EntryList>])
-    ensures { (v : ℕ) → is_marked 8 filter.new v ≡ (is_marked 8 filter.old v || lists_dynamic seeds v (listed_in parts.now)) }
-{
-    for part in parts {
-        mark_entries(filter, seeds, part.as_slice());
-    }
-}
 
 impl Module {
     /// Puts what a manifest lists above what the module lists.

@@ -1,35 +1,26 @@
 //! A module.
 
-ghost use Rattle.std.specs.Prelude.{◌≡◌, ℕ, List, ◌||◌, ◌++◌, [], false, None, is_none, is_some, OnOk, OnErr, IfOk, IfErr, IsErr};
-ghost use Rattle.std.specs.List.{Contains};
+ghost use Rattle.std.specs.Prelude.{◌≡◌, [], None, is_some, OnOk, OnErr, IfOk};
 ghost use Rattle.std.specs.Map.{lookup, keys_of};
 ghost use Rattle.std.specs.Option.{option_copied, option_map};
-ghost use Rattle.rhd_hash.specs.Filter.{is_marked};
 ghost use Rattle.rhd_hash.specs.Keys.{key_eq};
-ghost use Rattle.rhd_hash.specs.Parts.{mixed};
 ghost use Rattle.rhd_hash.specs.Steps.{raised};
 ghost use Rattle.rhd_hash.specs.Table.{HasOwnHashes};
-ghost use Rattle.rhd_hash.specs.Refusal.{IsRefusal};
-ghost use Rattle.rhd_hash.specs.declared.fault.TableFault.{TableFault};
-ghost use Rattle.rhd_decl.specs.Collisions.{collision};
-ghost use Rattle.rhd_module.specs.Tree.{empty_module, subs_of};
 ghost use Rattle.rhd_manifest.specs.Entry.{entry_decl};
 ghost use Rattle.rhd_manifest.specs.Rank.{find_entry};
-ghost use Rattle.rhd_module.specs.Below.{has_slot, may_list_dynamic};
-ghost use Rattle.rhd_module.specs.Shown.{own_decl};
-ghost use Rattle.rhd_module.specs.Registered.{put, with_decl, Puts};
-ghost use Rattle.rhd_module.specs.Contents.{commented, comment_on, with_comments};
+ghost use Rattle.rhd_module.specs.Below.{may_list_dynamic};
+ghost use Rattle.rhd_module.specs.Contents.{with_comments};
 ghost use Rattle.rhd_module.specs.Matching.{may_match};
-ghost use Rattle.rhd_module.specs.NativeIndex.{noted, place_at, matches_at};
+ghost use Rattle.rhd_module.specs.Registered.{Puts};
+ghost use Rattle.rhd_module.specs.Shown.{own_decl};
+ghost use Rattle.rhd_module.specs.Tree.{empty_module, subs_of};
 
-use crate::index::TreeIndex;
-use crate::manifests::mark_parts;
-use crate::native_index::NativeIndex;
 use indexmap::map::Values;
 use rhd_decl::{CustomTypesCollection, DeclFault, Declaration, Switches};
 use rhd_func::{ManifestId, RhaiFunc, SharedText};
-use rhd_hash::{BloomFilterU64, HashedKey, Key, KeyTable, Seeds, Steps};
+use rhd_hash::{BloomFilterU64, HashedKey, Key, Seeds, Steps};
 use rhd_manifest::Listing;
+use rhd_table::{Declarations, TreeIndex, mark_dynamic};
 use rhd_value::{Entries, OutOfMemory, Text, Texts, TypeTag};
 use std::alloc::{AllocError, Global};
 use std::collections::BTreeMap;
@@ -44,7 +35,7 @@ pub struct Module {
     pub(crate) types: CustomTypesCollection,
     pub(crate) vars: Entries,
     /// Declarations, in the order in which their keys came first.
-    pub(crate) eager: KeyTable<Declaration>,
+    pub(crate) eager: Declarations,
     /// Manifests, each with whether it is flattened.
     pub(crate) manifests: Vec<(ManifestId, bool)>,
     /// What these list.
@@ -55,10 +46,6 @@ pub struct Module {
     pub(crate) filter: BloomFilterU64<8>,
     /// What it has of its tree, while it is indexed. Copies share it.
     pub(crate) index: Rc<TreeIndex>,
-    /// Where the natives of a name stand among the declarations.
-    pub(crate) natives: NativeIndex,
-    /// Whether a script was ever declared: if not, a search for one ends at once.
-    pub(crate) scripts: bool,
 }
 
 impl Model for Module {
@@ -66,8 +53,6 @@ impl Model for Module {
     ghost use Rattle.std.proofs.Common.{arith};
     ghost use Rattle.rhd_module.specs.Tree.{ModuleTree, subs_of, depth};
     ghost use Rattle.rhd_module.specs.Codes.{tree_code, most_le-depth};
-    ghost use Rattle.rhd_module.specs.NativeIndex.{IsIndex};
-    ghost use Rattle.rhd_module.specs.Scripts.{AreNoted};
     ghost use Rattle.rhd_module.specs.Index.{IsFilter, IsKept};
 
     ghost Value = { ModuleTree };
@@ -93,9 +78,7 @@ impl Model for Module {
     } };
 
     ghost invariant = { λ m.
-        IsIndex m.natives m.eager.pairs
-        × AreNoted m.scripts m.eager.pairs
-        × IsFilter m.filter record {
+        IsFilter m.filter record {
           id = m.id;
           doc = m.doc;
           types = m.types;
@@ -132,53 +115,6 @@ impl Model for Module {
     ghost size_decreases = { λ a h. omega (arith, most_le-depth a.subs.entries) };
 }
 
-/// Notes the place of a declaration under its name, if it is a native's without a path.
-pub(crate) fn note_place(
-    natives: &mut NativeIndex,
-    alloc: Global,
-    declarations: &KeyTable<Declaration>,
-    place: usize,
-) -> Result<(), OutOfMemory>
-    ensures ok { OnOk result ((name : List ℕ) → noted natives.new name ≡ noted natives.old name ++ place_at name declarations.now.pairs place) }
-    ensures err { OnErr result ((name : List ℕ) → noted natives.new name ≡ noted natives.old name) }
-{
-    let Some((key, _declaration)) = declarations.get_index(place) else {
-        return Ok(());
-    };
-    match key.native_name() {
-        Some(name) => natives.note(alloc, name, place),
-        None => Ok(()),
-    }
-}
-
-/// Puts a declaration under a key of a table. Answers whether one stood there.
-pub(crate) fn put_pair(
-    table: &mut KeyTable<Declaration>,
-    key: Key,
-    declaration: Declaration,
-) -> Result<bool, DeclFault>
-    ensures replaced { IfOk result (λ replaced. replaced ≡ is_some (lookup (key_eq key) table.old.pairs)) }
-    ensures pairs { OnOk result (table.new ≡ record table.old { pairs = put key declaration table.old.pairs }) }
-    ensures apart { OnOk result (HasOwnHashes table.old.seeds (keys_of (put key declaration table.old.pairs))) }
-    ensures unchanged { OnErr result (table.new ≡ table.old) }
-    ensures absent { OnErr result (lookup (key_eq key) table.old.pairs ≡ None) }
-    ensures refused { IfErr result (λ fault. (clash : TableFault) × (fault ≡ collision clash) × IsRefusal table.old key clash) }
-{
-    match table.insert(key, declaration) {
-        Ok(old) => Ok(old.is_some()),
-        Err(fault) => Err(DeclFault::from(fault)),
-    }
-}
-
-/// Marks the hash of a key's name and number of parameters, if there is one.
-pub(crate) fn mark_dynamic(filter: &mut BloomFilterU64<8>, hash: Option<u64>)
-    ensures { (v : _) → is_marked 8 filter.new v ≡ (is_marked 8 filter.old v || has_slot hash v) }
-{
-    if let Some(hash) = hash {
-        filter.mark(hash);
-    }
-}
-
 impl Module {
     /// A module in which nothing is. It is indexed.
     pub fn new(alloc: Global, seeds: Seeds) -> Result<Module, OutOfMemory>
@@ -191,21 +127,19 @@ impl Module {
             doc: Text::new(alloc),
             types: CustomTypesCollection::new(alloc),
             vars: Entries::new(alloc),
-            eager: KeyTable::new(alloc, seeds),
+            eager: Declarations::new(alloc, seeds),
             manifests: Vec::new(alloc),
             listed: Listing::new(alloc),
             subs: BTreeMap::new(alloc),
             flags,
             filter: BloomFilterU64::new(),
             index: Rc::new(alloc, TreeIndex::new(alloc, seeds))?,
-            natives: NativeIndex::new(alloc),
-            scripts: false,
         })
     }
 
     /// Where its memory comes from.
     pub(crate) fn allocator(&self) -> Global {
-        self.natives.allocator()
+        self.eager.allocator()
     }
 
     /// The seeds under which its keys are hashed.
@@ -224,26 +158,17 @@ impl Module {
     ) -> Result<(), DeclFault>
         ensures { Puts None key declaration self.old result self.new }
     {
-        let place = self.eager.len();
         let dynamic = key.dynamic_hash(self.eager.seeds());
-        self.scripts |= key.is_script();
-        match put_pair(&mut self.eager, key, declaration) {
-            Err(fault) => return Err(fault),
+        match self.eager.put(alloc, key, declaration) {
+            Err(fault) => Err(fault),
             Ok(true) => {
-                self.flags.set_indexed(false);
-                return Ok(());
-            }
-            Ok(false) => {}
-        }
-        match note_place(&mut self.natives, alloc, &self.eager, place) {
-            Ok(()) => {
-                mark_dynamic(&mut self.filter, dynamic);
                 self.flags.set_indexed(false);
                 Ok(())
             }
-            Err(OutOfMemory) => {
-                self.eager.truncate(place);
-                Err(DeclFault::OutOfMemory)
+            Ok(false) => {
+                mark_dynamic(&mut self.filter, dynamic);
+                self.flags.set_indexed(false);
+                Ok(())
             }
         }
     }
@@ -253,12 +178,10 @@ impl Module {
         ensures { self.new ≡ record self.old { own = record self.old.own { eager = []; manifests = []; listed = []; indexed = false } } }
     {
         self.flags.set_indexed(false);
-        self.eager = KeyTable::new(alloc, self.eager.seeds());
+        self.eager = Declarations::new(alloc, self.eager.seeds());
         self.manifests = Vec::new(alloc);
         self.listed = Listing::new(alloc);
         self.filter = BloomFilterU64::new();
-        self.natives = NativeIndex::new(alloc);
-        self.scripts = false;
     }
 
     /// Takes the declarations of another module in the place of its own, and lists nothing any more. The
@@ -268,18 +191,10 @@ impl Module {
         requires listed { other.own.listed ≡ [] }
         ensures { self.new ≡ record self.old { own = record self.old.own { eager = other.own.eager; manifests = []; listed = []; indexed = false } } }
     {
-        let Module {
-            eager,
-            filter,
-            natives,
-            scripts,
-            ..
-        } = other;
+        let Module { eager, filter, .. } = other;
         self.flags.set_indexed(false);
         self.eager = eager;
         self.filter = filter;
-        self.natives = natives;
-        self.scripts = scripts;
         self.manifests = Vec::new(alloc);
         self.listed = Listing::new(alloc);
     }
@@ -306,13 +221,7 @@ impl Module {
         let index = self.index.clone()?;
         let mut flags = self.flags.dup();
         flags.set_indexed(false);
-        let Module {
-            eager,
-            filter,
-            natives,
-            scripts,
-            ..
-        } = other;
+        let Module { eager, filter, .. } = other;
         Ok(Module {
             id,
             doc,
@@ -325,8 +234,6 @@ impl Module {
             flags,
             filter,
             index,
-            natives,
-            scripts,
         })
     }
 
@@ -342,7 +249,7 @@ impl Module {
         ensures ok { OnOk result (self.new ≡ with_comments key.now comments self.old) }
         ensures err { OnErr result (self.new ≡ self.old) }
     {
-        let found = comment_pair(&mut self.eager, alloc, key, comments)?;
+        let found = self.eager.set_comments(alloc, key, comments)?;
         Ok(found)
     }
 
@@ -362,9 +269,6 @@ impl Module {
         ensures steps { steps.new ≡ raised steps.old 1 }
     {
         steps.raise();
-        if !self.scripts && key.key().is_script() {
-            return None;
-        }
         match self.eager.get_hashed(key) {
             Some(declaration) => Some(&declaration.func),
             None => self.get_listed(key.key()),
@@ -375,7 +279,7 @@ impl Module {
     fn get_listed(&self, key: &Key) -> Option<&RhaiFunc>
         ensures { option_copied result ≡ option_map (λ e. (entry_decl self.now.own.seeds e).func) (find_entry key.now self.now.own.listed) }
     {
-        if self.listed.is_empty() {
+        if self.listed.is_empty() || key.is_script() {
             return None;
         }
         match self.listed.find(key) {
@@ -421,22 +325,7 @@ impl Module {
     pub fn may_match(&self, exact: usize, name: &Text, kinds: &[TypeTag]) -> bool
         ensures { result ≡ may_match self.now exact name.now kinds.now }
     {
-        for place in self.natives.places(name) {
-            if self.matches_at(*place, exact, name, kinds) {
-                return true;
-            }
-        }
-        false
-    }
-
-    /// Whether the declaration at a place has such a key.
-    fn matches_at(&self, place: usize, exact: usize, name: &Text, kinds: &[TypeTag]) -> bool
-        ensures { result ≡ matches_at self.now exact name.now kinds.now place }
-    {
-        match self.eager.get_index(place) {
-            Some((key, _declaration)) => key.matches(exact, name, kinds),
-            None => false,
-        }
+        self.eager.may_match(exact, name, kinds)
     }
 
     /// An equal module. Its sub-modules are shared.
@@ -448,82 +337,14 @@ impl Module {
             doc: self.doc.dup(alloc)?,
             types: self.types.dup(alloc)?,
             vars: self.vars.dup(alloc)?,
-            eager: dup_declarations(alloc, &self.eager)?,
+            eager: self.eager.dup(alloc)?,
             manifests: Vec::from_slice(alloc, self.manifests.as_slice())?,
             listed: self.listed.dup(alloc)?,
             subs: self.subs.clone()?,
             flags: self.flags.dup(),
             filter: self.filter.clone()?,
             index: self.index.clone()?,
-            natives: self.natives.dup(alloc)?,
-            scripts: self.scripts,
         })
-    }
-}
-
-/// An equal declaration but for its comments.
-fn commented(
-    alloc: Global,
-    declaration: &Declaration,
-    comments: Texts,
-) -> Result<Declaration, OutOfMemory>
-    ensures { IfOk result (λ d. d ≡ commented comments declaration.now) }
-{
-    let mut copy = declaration.dup(alloc)?;
-    copy.metadata.comments = comments;
-    Ok(copy)
-}
-
-/// Sets the comments of the declaration under a key of a table. Answers whether there is one.
-fn comment_pair(
-    table: &mut KeyTable<Declaration>,
-    alloc: Global,
-    key: &Key,
-    comments: Texts,
-) -> Result<bool, OutOfMemory>
-    ensures answer { IfOk result (λ found. found ≡ is_some (lookup (key_eq key.now) table.old.pairs)) }
-    ensures ok { OnOk result (table.new ≡ record table.old { pairs = comment_on key.now comments table.old.pairs }) }
-    ensures err { OnErr result (table.new ≡ table.old) }
-{
-    let declaration = match table.get(key) {
-        Some(declaration) => commented(alloc, declaration, comments)?,
-        None => return Ok(false),
-    };
-    let key = key.dup(alloc)?;
-    match put_pair(table, key, declaration) {
-        Ok(_replaced) => Ok(true),
-        Err(_fault) => Err(OutOfMemory),
-    }
-}
-
-/// An equal table of declarations.
-fn dup_declarations(
-    alloc: Global,
-    table: &KeyTable<Declaration>,
-) -> Result<KeyTable<Declaration>, OutOfMemory>
-    ensures { IfOk result (λ copy. copy ≡ table.now) }
-{
-    let mut copy = KeyTable::new(alloc, table.seeds());
-    for (key, declaration) in table.iter() {
-        copy_pair(alloc, &mut copy, key, declaration)?;
-    }
-    Ok(copy)
-}
-
-/// Puts an equal declaration under an equal key.
-fn copy_pair(
-    alloc: Global,
-    copy: &mut KeyTable<Declaration>,
-    key: &Key,
-    declaration: &Declaration,
-) -> Result<(), OutOfMemory>
-    ensures { OnOk result (copy.new ≡ record copy.old { pairs = put key.now declaration.now copy.old.pairs }) }
-{
-    let declaration = declaration.dup(alloc)?;
-    let key = key.dup(alloc)?;
-    match put_pair(copy, key, declaration) {
-        Ok(_replaced) => Ok(()),
-        Err(_fault) => Err(OutOfMemory),
     }
 }
 

@@ -1,14 +1,14 @@
 //! Parts of a module, for whoever joins modules: what it has, taken and put in whole.
 
 ghost use Rattle.std.specs.Prelude.{◌≡◌, ◌||◌, ℕ, false};
-ghost use Rattle.rhd_module.specs.Below.{lists_dynamic};
+ghost use Rattle.rhd_table.specs.Marks.{lists_dynamic};
 ghost use Rattle.rhd_module.specs.Tree.{subs_of};
 
-use crate::manifests::mark_parts;
 use crate::module::Module;
 use rhd_decl::CustomTypesCollection;
 use rhd_func::ManifestId;
 use rhd_manifest::Listing;
+use rhd_table::mark_parts;
 use rhd_value::{Entries, Text};
 use std::collections::BTreeMap;
 use std::rc::Rc;

@@ -5,7 +5,8 @@ ghost use Rattle.std.specs.Option.{option_copied, option_map};
 ghost use Rattle.std.specs.Map.{keys_of};
 ghost use Rattle.rhd_hash.specs.Steps.{raised};
 ghost use Rattle.rhd_module.specs.Below.{some_in, declares_global, may_contain, qualified_var};
-ghost use Rattle.rhd_module.specs.Index.{Indexes, NoneClash};
+ghost use Rattle.rhd_module.specs.Index.{Indexes};
+ghost use Rattle.rhd_table.specs.Indexed.{NoneClash};
 ghost use Rattle.rhd_module.specs.Walk.{tree, qualified};
 
 use crate::module::Module;

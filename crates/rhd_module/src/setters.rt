@@ -1,122 +1,45 @@
 //! How functions are put into a module.
 
-ghost use Rattle.std.specs.Prelude.{◌≡◌, ◌||◌, ◌∷◌, [], None, Some, IfOk, codes, is_some, length};
-ghost use Rattle.std.specs.Option.{option_copied};
-ghost use Rattle.std.specs.Map.{lookup};
-ghost use Rattle.rhd_hash.specs.Keys.{key_eq};
+ghost use Rattle.std.specs.Prelude.{◌≡◌, None, Some, IfOk, codes};
 ghost use Rattle.rhd_hash.specs.Parts.{mixed};
 ghost use Rattle.rhd_func.specs.Infos.{infos_of};
-ghost use Rattle.rhd_value.specs.Firsts.{first_some, where_holds};
-ghost use Rattle.rhd_func.specs.Funcs.{is_method, is_iter, is_script, native_of};
+ghost use Rattle.rhd_func.specs.Funcs.{is_method};
 ghost use Rattle.rhd_decl.specs.NativeKeys.{native_key};
-ghost use Rattle.rhd_decl.specs.declared.fault.DeclFault.TheVariants.{NotCallable, UnknownNumber};
-ghost use Rattle.rhd_module.specs.Registered.{Puts, Registers, RegistersRaw, RegistersBoth, Refuses, unheld, banned, pair_cause, native_at, native_decl, registered_decl, registered_hash, raw_cause};
-ghost use Rattle.rhd_module.specs.Registered.{script_key, script_decl, new_registration, global_registration, setter_registration, pure_registration, getter_name, setter_name};
+ghost use Rattle.rhd_decl.specs.Registration.{banned, native_at, native_decl, registered_decl, script_key, script_decl, new_registration, global_registration, setter_registration, pure_registration, getter_name, setter_name};
+ghost use Rattle.rhd_module.specs.Registered.{Puts, Registers, RegistersRaw, RegistersBoth, registered_hash};
 
 use crate::module::Module;
-use crate::registration::{FuncRegistration, is_banned, script_declaration, script_key};
-use rhd_decl::{DeclFault, FuncMetadata, native_key};
+use rhd_decl::{
+    DeclFault, FuncMetadata, FuncRegistration, is_banned, native_key, raw_refusal, refuse_pair,
+    script_declaration, script_key, unknown,
+};
 use rhd_func::{EnvId, Natives, PluginFunc, RhaiFunc, SharedDef};
 use rhd_hash::Key;
 use rhd_value::{FnId, Text, Texts, TypeTag};
 use std::alloc::Global;
 
-/// The refusal of a native's number that isn't held.
-fn unknown(natives: &Natives, id: FnId) -> DeclFault
-    ensures { result ≡ UnknownNumber id.0 (length natives.now.items.items) }
-{
-    DeclFault::UnknownNumber {
-        number: u64::from(id.0),
-        length: natives.len() as u64,
-    }
-}
+/// A registration that can be made in a module.
+pub trait RegisterIntoModule {
+    ghost use Rattle.rhd_decl.specs.declared.registration.FuncRegistration.{FuncRegistration};
 
-/// Why the native of a number isn't found; none where it is held.
-fn unheld(natives: &Natives, id: FnId) -> Option<DeclFault>
-    ensures { result ≡ unheld (infos_of info natives.now) (Some id) }
-{
-    if (id.0 as usize) < natives.len() {
-        None
-    } else {
-        Some(unknown(natives, id))
-    }
-}
+    /// The registration that it is.
+    ghost registration: { Self → FuncRegistration };
 
-/// Why a function isn't registered raw, whatever its types and its name.
-fn raw_refusal(natives: &Natives, func: &RhaiFunc) -> Option<DeclFault>
-    ensures { result ≡ first_some (unheld (infos_of info natives.now) (native_of func.now) ∷ where_holds (is_iter func.now || is_script func.now) NotCallable ∷ []) }
-{
-    if let Some(id) = func.native_id() {
-        return unheld(natives, id);
-    }
-    Some(DeclFault::NotCallable)
-}
-
-/// Refuses a native that would be an indexer of a type whose indexing has its meaning already.
-fn refuse_banned(alloc: Global, native: &Box<dyn PluginFunc>, name: &Text) -> Result<(), DeclFault>
-    ensures { Refuses (banned (info native.now).is_method name.now (info native.now).types) result }
-{
-    let types = native.param_types();
-    if is_banned(name, types) {
-        let key = native_key(alloc, name, native.is_method_call(), types)?;
-        return Err(DeclFault::IndexerNotAllowed { key });
-    }
-    Ok(())
-}
-
-/// The same of the native of a number; none is refused where it isn't held.
-fn refuse_indexer(alloc: Global, natives: &Natives, name: &Text, id: FnId) -> Result<(), DeclFault>
-    ensures { Refuses (banned (native_at (infos_of info natives.now) id).is_method name.now (native_at (infos_of info natives.now) id).types) result }
-{
-    match natives.get(id) {
-        Some(native) => refuse_banned(alloc, native, name),
-        None => Ok(()),
-    }
-}
-
-/// Refuses two natives as the halves of a pair, whatever the module has.
-fn refuse_pair(
-    alloc: Global,
-    natives: &Natives,
-    get_name: &Text,
-    get: FnId,
-    set_name: &Text,
-    set: FnId,
-) -> Result<(), DeclFault>
-    ensures { Refuses (pair_cause (infos_of info natives.now) get_name.now get set_name.now set) result }
-{
-    if let Some(fault) = unheld(natives, get) {
-        return Err(fault);
-    }
-    if let Some(fault) = unheld(natives, set) {
-        return Err(fault);
-    }
-    refuse_indexer(alloc, natives, get_name, get)?;
-    refuse_indexer(alloc, natives, set_name, set)
-}
-
-impl FuncRegistration {
     /// Registers the native of a number in a module: in the place of one of an equal key, else last.
     /// Answers what is said of it.
-    pub fn set_into_module(
+    fn set_into_module(
         self,
         alloc: Global,
         target: &mut Module,
         natives: &Natives,
         id: FnId,
     ) -> Result<FuncMetadata, DeclFault>
-        ensures registers { Registers (infos_of info natives.now) self id target.old result target.new }
-        ensures metadata { IfOk result (λ metadata. metadata ≡ (registered_decl target.old.own.seeds self (native_at (infos_of info natives.now) id) id).metadata) }
-    {
-        match natives.get(id) {
-            Some(native) => target.put_held(alloc, self, native, id),
-            None => Err(unknown(natives, id)),
-        }
-    }
+        ensures registers { Registers (infos_of info natives.now) (registration self) id target.old result target.new }
+        ensures metadata { IfOk result (λ metadata. metadata ≡ (registered_decl target.old.own.seeds (registration self) (native_at (infos_of info natives.now) id) id).metadata) };
 
     /// Registers a function that isn't defined by a script and doesn't iterate, with these types: in the
     /// place of one of an equal key, else last. Answers what is said of it.
-    pub fn set_into_module_raw(
+    fn set_into_module_raw(
         self,
         alloc: Global,
         target: &mut Module,
@@ -124,11 +47,36 @@ impl FuncRegistration {
         types: &[TypeTag],
         func: RhaiFunc,
     ) -> Result<FuncMetadata, DeclFault>
-        requires purity { self.purity ≡ None }
-        requires volatility { self.volatility ≡ None }
-        ensures registers { RegistersRaw (infos_of info natives.now) self types.now func target.old result target.new }
-        ensures metadata { IfOk result (λ metadata. metadata ≡ (native_decl target.old.own.seeds self (is_method (infos_of info natives.now) func) types.now func).metadata) }
-    {
+        requires purity { (registration self).purity ≡ None }
+        requires volatility { (registration self).volatility ≡ None }
+        ensures registers { RegistersRaw (infos_of info natives.now) (registration self) types.now func target.old result target.new }
+        ensures metadata { IfOk result (λ metadata. metadata ≡ (native_decl target.old.own.seeds (registration self) (is_method (infos_of info natives.now) func) types.now func).metadata) };
+}
+
+impl RegisterIntoModule for FuncRegistration {
+    ghost registration = { λ reg. reg };
+
+    fn set_into_module(
+        self,
+        alloc: Global,
+        target: &mut Module,
+        natives: &Natives,
+        id: FnId,
+    ) -> Result<FuncMetadata, DeclFault> {
+        match natives.get(id) {
+            Some(native) => target.put_held(alloc, self, native, id),
+            None => Err(unknown(natives, id)),
+        }
+    }
+
+    fn set_into_module_raw(
+        self,
+        alloc: Global,
+        target: &mut Module,
+        natives: &Natives,
+        types: &[TypeTag],
+        func: RhaiFunc,
+    ) -> Result<FuncMetadata, DeclFault> {
         if let Some(fault) = raw_refusal(natives, &func) {
             return Err(fault);
         }

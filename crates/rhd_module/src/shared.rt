@@ -6,7 +6,8 @@ ghost use Rattle.rhd_func.specs.Infos.{infos_of};
 ghost use Rattle.rhd_module.specs.Contents.{with_id, named, with_doc, with_var, with_type, cleared, with_sub};
 ghost use Rattle.rhd_module.specs.Index.{Indexes};
 ghost use Rattle.rhd_module.specs.Lends.{LendsModule};
-ghost use Rattle.rhd_module.specs.Registered.{Puts, Registers, RegistersBoth, RegistersRaw, native_at, registered_decl, script_key, script_decl};
+ghost use Rattle.rhd_module.specs.Registered.{Puts, Registers, RegistersBoth, RegistersRaw};
+ghost use Rattle.rhd_decl.specs.Registration.{native_at, registered_decl, script_key, script_decl};
 
 use crate::module::Module;
 use crate::registration::FuncRegistration;

@@ -17,8 +17,10 @@ use Rattle.rhd_decl.specs.declared.declaration.Declaration.{Declaration}
 use Rattle.rhd_manifest.specs.Manifest.{ManifestLists}
 use Rattle.rhd_module.specs.Contents.{put_sub}
 use Rattle.rhd_module.specs.Index.{indexed}
-use Rattle.rhd_module.specs.Registered.{put, with_decl, script_key, script_decl}
-use Rattle.rhd_module.specs.Tree.{ModuleTree, Lists, Subs, no_subs, sub, Pairs}
+use Rattle.rhd_table.specs.Pairs.{put, Pairs}
+use Rattle.rhd_module.specs.Registered.{with_decl}
+use Rattle.rhd_decl.specs.Registration.{script_key, script_decl}
+use Rattle.rhd_module.specs.Tree.{ModuleTree, Lists, Subs, no_subs, sub}
 use Rattle.rhd_engine.specs.Held.{own_held, below_held}
 use Rattle.rhd_engine.specs.Lists.{Imports}
 use Rattle.rhd_engine.proofs.HeldLaws.{both, parts, stays_held}

@@ -9,12 +9,14 @@ use Rattle.rhd_func.specs.declared.access.EnvId.{EnvId}
 use Rattle.rhd_func.specs.declared.func.ScriptFuncDef.{ScriptFuncDef}
 use Rattle.rhd_decl.specs.declared.fault.DeclFault.{DeclFault}
 use Rattle.rhd_decl.specs.declared.fault.DeclFault.TheVariants.{HashCollision, IndexerNotAllowed, NotCallable, UnknownNumber, OutOfMemory}
-use Rattle.rhd_module.specs.Index.{IsClash, Indexes, indexed}
-use Rattle.rhd_module.specs.Manifests.{put_all}
-use Rattle.rhd_module.specs.Registered.{with_decl, script_key, script_decl}
-use Rattle.rhd_module.specs.Tree.{ModuleTree, Pairs}
+use Rattle.rhd_table.specs.Indexed.{IsClash}
+use Rattle.rhd_module.specs.Index.{Indexes, indexed}
+use Rattle.rhd_table.specs.Pairs.{put_all, Pairs}
+use Rattle.rhd_module.specs.Registered.{with_decl}
+use Rattle.rhd_decl.specs.Registration.{script_key, script_decl}
+use Rattle.rhd_module.specs.Tree.{ModuleTree}
 use Rattle.rhd_module.specs.Walk.{tree}
-use Rattle.rhd_module.proofs.Registers.{clash_all}
+use Rattle.rhd_table.proofs.Registers.{clash_all}
 use Rattle.rhd_resolve.specs.Loading.{with_scripts, is_public, public_functions, of_source}
 
 abbrev script_pairs : Seeds → Option EnvId → List ScriptFuncDef → Pairs

@@ -11,9 +11,11 @@ use Rattle.rhd_func.specs.declared.func.ScriptFuncDef.{ScriptFuncDef}
 use Rattle.rhd_decl.specs.declared.fault.DeclFault.{DeclFault}
 use Rattle.rhd_module.specs.Algebra.{HasOwnTable}
 use Rattle.rhd_module.specs.Contents.{with_id, put_sub}
-use Rattle.rhd_module.specs.Index.{indexed, IsClash, NoneClash}
+use Rattle.rhd_module.specs.Index.{indexed}
+use Rattle.rhd_table.specs.Indexed.{IsClash, NoneClash}
 use Rattle.rhd_module.specs.Manifests.{put_vars}
-use Rattle.rhd_module.specs.Registered.{with_decl, script_key, script_decl}
+use Rattle.rhd_module.specs.Registered.{with_decl}
+use Rattle.rhd_decl.specs.Registration.{script_key, script_decl}
 use Rattle.rhd_module.specs.Tree.{ModuleTree, Subs, no_subs, empty_module}
 use Rattle.rhd_module.specs.Walk.{tree}
 use Rattle.rhd_engine.specs.Lists.{Imports}

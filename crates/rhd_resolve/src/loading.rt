@@ -5,7 +5,7 @@ ghost use Rattle.std.specs.Option.{option_copied};
 ghost use Rattle.std.specs.Map.{keys_of};
 ghost use Rattle.rhd_manifest.specs.Manifest.{ManifestLists};
 ghost use Rattle.rhd_module.specs.Algebra.{HasOwnTable};
-ghost use Rattle.rhd_module.specs.Index.{IsClash, NoneClash};
+ghost use Rattle.rhd_table.specs.Indexed.{IsClash, NoneClash};
 ghost use Rattle.rhd_module.specs.Manifests.{with_contents};
 ghost use Rattle.rhd_module.specs.Walk.{tree};
 ghost use Rattle.rhd_resolve.specs.Loading.{value_named, named_values, imported, with_scripts, public_functions, of_source, library_of, contents_of, module_of, Loads};

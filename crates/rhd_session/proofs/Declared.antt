@@ -13,7 +13,8 @@ use Rattle.rhd_decl.specs.declared.fault.DeclFault.{DeclFault}
 use Rattle.rhd_decl.specs.declared.fault.DeclFault.TheVariants.{HashCollision, IndexerNotAllowed, NotCallable, UnknownNumber, OutOfMemory as no_memory}
 use Rattle.rhd_module.specs.Tree.{ModuleTree, empty_module}
 use Rattle.rhd_module.specs.Walk.{tree}
-use Rattle.rhd_module.specs.Index.{NoneClash, Indexes, indexed}
+use Rattle.rhd_table.specs.Indexed.{NoneClash}
+use Rattle.rhd_module.specs.Index.{Indexes, indexed}
 use Rattle.rhd_engine.specs.Engine.{Frame, Imports}
 use Rattle.rhd_engine.specs.Lists.{second}
 use Rattle.rhd_engine.specs.Statics.{with_static, made_static, Places}

@@ -16,11 +16,13 @@ use Rattle.rhd_module.specs.Tree.{ModuleTree}
 use Rattle.rhd_value.specs.declared.tag.TypeTag.TheVariants.{Custom}
 use Rattle.rhd_value.specs.Kinds.{type_name}
 use Rattle.rhd_func.specs.declared.access.FnNamespace.TheVariants.{Global}
-use Rattle.rhd_module.specs.declared.registration.FuncRegistration.{FuncRegistration}
+use Rattle.rhd_decl.specs.declared.registration.FuncRegistration.{FuncRegistration}
 use Rattle.rhd_module.specs.Contents.{with_sub, with_type}
 use Rattle.std.specs.Map.{keys_of}
 use Rattle.rhd_decl.specs.NativeKeys.{native_key}
-use Rattle.rhd_module.specs.Registered.{put, with_decl, unheld, native_at, native_decl, registered_decl, Puts}
+use Rattle.rhd_table.specs.Pairs.{put}
+use Rattle.rhd_module.specs.Registered.{with_decl, Puts}
+use Rattle.rhd_decl.specs.Registration.{unheld, native_at, native_decl, registered_decl}
 use Rattle.rhd_engine.specs.Engine.{Frame}
 use Rattle.rhd_engine.specs.Registered.{in_first, InFirst, RegistersFirst, RegistersRawFirst, fn_registration, raw_func}
 use Rattle.rhd_call.specs.declared.command.Command.{Command}

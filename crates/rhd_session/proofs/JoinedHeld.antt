@@ -11,9 +11,9 @@ use Rattle.rhd_decl.specs.declared.fault.DeclFault.{DeclFault}
 use Rattle.rhd_manifest.specs.Entry.{Entry, entry_pair}
 use Rattle.rhd_module.specs.Algebra.{Passes, Joins, that_pass, registered_over, over, over_all, put_subs, new_subs, fill_subs, merge_subs, merged_own, filled_with}
 use Rattle.rhd_module.specs.Contents.{put_sub, find_sub}
-use Rattle.rhd_module.specs.Manifests.{put_all, put_back}
-use Rattle.rhd_module.specs.Shown.{shown, without}
-use Rattle.rhd_module.specs.Tree.{ModuleTree, Lists, Subs, no_subs, sub, Pairs, empty_module}
+use Rattle.rhd_table.specs.Pairs.{put_all, put_back, without, Pairs}
+use Rattle.rhd_module.specs.Shown.{shown}
+use Rattle.rhd_module.specs.Tree.{ModuleTree, Lists, Subs, no_subs, sub, empty_module}
 use Rattle.rhd_engine.specs.Held.{own_held, below_held, names_held}
 use Rattle.rhd_engine.proofs.HeldLaws.{both, parts, is_held, kept_held, listed_held, pairs_held}
 use Rattle.rhd_engine.proofs.HeldLazy.{put_all_held, put_back_held}

@@ -18,7 +18,7 @@ use Rattle.rhd_manifest.specs.Entry.{Entry, entry_key}
 use Rattle.rhd_manifest.specs.Manifest.{ManifestLists, manifest_at}
 use Rattle.rhd_manifest.specs.Rank.{rank, walk}
 use Rattle.rhd_module.specs.Contents.{with_sub}
-use Rattle.rhd_module.specs.Index.{NoneClash}
+use Rattle.rhd_table.specs.Indexed.{NoneClash}
 use Rattle.rhd_module.specs.Lazy.{registered_tree, registered_subs, with_registered, touched, touched_below, HasApartTable, HasApartTree, RegistersTree}
 use Rattle.rhd_module.specs.Below.{some_in, lists_any}
 use Rattle.rhd_module.specs.Made.{with_subs, own_made, made_to, made, Makes}

@@ -24,12 +24,14 @@ use Rattle.rhd_value.specs.Tree.{Bytes}
 use Rattle.rhd_value.specs.declared.tag.TypeTag.{TypeTag}
 use Rattle.rhd_func.specs.declared.access.FnNamespace.{FnNamespace}
 use Rattle.rhd_func.specs.declared.func.ScriptFuncDef.{ScriptFuncDef}
-use Rattle.rhd_module.specs.declared.registration.FuncRegistration.{FuncRegistration}
+use Rattle.rhd_decl.specs.declared.registration.FuncRegistration.{FuncRegistration}
 use Rattle.rhd_module.specs.Index.{Indexes}
 use Rattle.rhd_module.proofs.Fills.{none_clash}
 use Rattle.std.specs.Map.{keys_of}
 use Rattle.rhd_decl.specs.NativeKeys.{native_key}
-use Rattle.rhd_module.specs.Registered.{put, with_decl, unheld, banned, native_at, native_decl, registered_func, registered_decl, registration_cause, raw_cause, script_key, script_decl, Puts, Registers, RegistersRaw}
+use Rattle.rhd_table.specs.Pairs.{put}
+use Rattle.rhd_module.specs.Registered.{with_decl, Puts, Registers, RegistersRaw}
+use Rattle.rhd_decl.specs.Registration.{unheld, banned, native_at, native_decl, registered_func, registered_decl, registration_cause, raw_cause, script_key, script_decl}
 use Rattle.rhd_engine.specs.Engine.{Frame}
 use Rattle.rhd_engine.specs.Held.{names_held, table_held}
 use Rattle.rhd_call.specs.declared.command.Command.{Command}

@@ -5,7 +5,7 @@ use Rattle.rhd_value.specs.Tree.{Bytes}
 use Rattle.rhd_value.specs.declared.fault.EvalAltResult.{EvalAltResult}
 use Rattle.rhd_hash.specs.declared.key.Key.{Key}
 use Rattle.rhd_hash.specs.Table.{Clashing}
-use Rattle.rhd_module.specs.Index.{NoneClash}
+use Rattle.rhd_table.specs.Indexed.{NoneClash}
 use Rattle.rhd_decl.specs.declared.fault.DeclFault.{DeclFault}
 use Rattle.rhd_decl.specs.declared.fault.DeclFault.TheVariants.{HashCollision}
 use Rattle.rhd_func.specs.declared.request.CallRequest.{CallRequest}

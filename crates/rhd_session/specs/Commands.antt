@@ -22,7 +22,7 @@ use Rattle.rhd_decl.specs.declared.fault.DeclFault.TheVariants.{IndexerNotAllowe
 use Rattle.rhd_manifest.specs.Entry.{entry_key}
 use Rattle.rhd_manifest.specs.Manifest.{ManifestLists}
 use Rattle.rhd_manifest.specs.Rank.{rank, walk}
-use Rattle.rhd_module.specs.declared.registration.FuncRegistration.{FuncRegistration}
+use Rattle.rhd_decl.specs.declared.registration.FuncRegistration.{FuncRegistration}
 use Rattle.rhd_module.specs.Tree.{ModuleTree, empty_module}
 use Rattle.rhd_module.specs.Algebra.{combined_with, flattened_with, filled_with, merged_with, merged_all}
 use Rattle.rhd_module.specs.Shown.{own_decl}
@@ -33,7 +33,8 @@ use Rattle.rhd_module.specs.Made.{made}
 use Rattle.rhd_module.specs.Manifests.{combined, first_banned, registered_pairs}
 use Rattle.rhd_module.specs.Contents.{with_id, with_doc, with_var, with_type, with_sub, cleared, counts}
 use Rattle.rhd_decl.specs.NativeKeys.{native_key}
-use Rattle.rhd_module.specs.Registered.{with_decl, native_at, native_decl, registered_decl, new_registration, script_key, script_decl, banned}
+use Rattle.rhd_module.specs.Registered.{with_decl}
+use Rattle.rhd_decl.specs.Registration.{native_at, native_decl, registered_decl, new_registration, script_key, script_decl, banned}
 use Rattle.rhd_engine.specs.Registered.{in_first, fn_registration, raw_func}
 use Rattle.rhd_engine.specs.Engine.{Frame, Imports}
 use Rattle.rhd_engine.specs.Lists.{second}

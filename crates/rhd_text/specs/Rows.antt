@@ -17,8 +17,8 @@ use Rattle.rhd_func.specs.declared.func.ScriptFuncDef.{ScriptFuncDef}
 use Rattle.rhd_func.specs.declared.func.RhaiFunc.{RhaiFunc}
 use Rattle.rhd_func.specs.declared.func.RhaiFunc.TheVariants as funcs
 use Rattle.rhd_hash.specs.declared.key.Key.TheVariants as keys
-use Rattle.rhd_module.specs.declared.registration.FuncRegistration.{FuncRegistration}
-use Rattle.rhd_module.specs.Registered.{new_registration}
+use Rattle.rhd_decl.specs.declared.registration.FuncRegistration.{FuncRegistration}
+use Rattle.rhd_decl.specs.Registration.{new_registration}
 use Rattle.rhd_call.specs.declared.command.ModuleId.{ModuleId}
 use Rattle.rhd_call.specs.declared.command.Command.{Command}
 use Rattle.rhd_call.specs.declared.command.Command.TheVariants as commands

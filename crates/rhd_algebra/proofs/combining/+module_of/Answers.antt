@@ -10,11 +10,12 @@ use Rattle.rhd_func.specs.declared.access.ManifestId.{ManifestId}
 use Rattle.rhd_manifest.specs.Rank.{walk}
 use Rattle.rhd_manifest.proofs.Ranks.{all_index, walk-is}
 use Rattle.rhd_module.specs.Contents.{with_sub}
-use Rattle.rhd_module.specs.Index.{IsClash, indexed}
+use Rattle.rhd_table.specs.Indexed.{IsClash}
+use Rattle.rhd_module.specs.Index.{indexed}
 use Rattle.rhd_module.specs.Made.{with_subs, made, IsMadeApart, MadeClash}
 use Rattle.rhd_module.specs.Tree.{ModuleTree}
 use Rattle.rhd_module.specs.Walk.{tree}
-use Rattle.rhd_module.proofs.Fills.{if_err, if_more}
+use Rattle.rhd_table.proofs.Fills.{if_err, if_more}
 use Rattle.rhd_algebra.proofs.Made.{all_lower, subs_append, subs_seeds, made-is, contains_flat, made_among, made_here, apart_here}
 use Rattle.rhd_algebra.proofs.combining.+module_of.Goals as goal
 

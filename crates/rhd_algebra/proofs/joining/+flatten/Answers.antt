@@ -4,10 +4,10 @@ use Rattle.std.specs.Map.{keys_of}
 use Rattle.rhd_hash.specs.declared.mixer.Seeds.{Seeds}
 use Rattle.rhd_value.specs.Tree.{Bytes}
 use Rattle.rhd_module.specs.Algebra.{over_all, flattened_with}
-use Rattle.rhd_module.specs.Index.{IsClash}
-use Rattle.rhd_module.specs.Manifests.{put_all}
+use Rattle.rhd_table.specs.Indexed.{IsClash}
+use Rattle.rhd_table.specs.Pairs.{put_all}
 use Rattle.rhd_module.specs.Tree.{ModuleTree, Subs, subs_of, depth}
-use Rattle.rhd_module.proofs.Fills.{if_err}
+use Rattle.rhd_table.proofs.Fills.{if_err}
 use Rattle.rhd_module.proofs.JoinParts.{over_next, over_seeds, clash_over, depth_at}
 use Rattle.rhd_algebra.proofs.joining.+flatten.Goals as goal
 

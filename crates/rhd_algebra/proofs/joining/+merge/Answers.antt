@@ -7,7 +7,7 @@ use Rattle.rhd_value.specs.Tree.{Bytes}
 use Rattle.rhd_module.specs.Algebra.{merged_with, merged_all, rebuilt, HasOwnTable, SomeClash}
 use Rattle.rhd_module.specs.Contents.{with_sub}
 use Rattle.rhd_module.specs.Tree.{ModuleTree, Subs, subs_of, depth, empty_module}
-use Rattle.rhd_module.proofs.Fills.{if_err}
+use Rattle.rhd_table.proofs.Fills.{if_err}
 use Rattle.rhd_module.proofs.JoinParts.{clash_first, clash_in, merged_more, rebuilt_more, rebuilt_at, depth_at}
 use Rattle.rhd_algebra.proofs.joining.+merge.Goals as goal
 

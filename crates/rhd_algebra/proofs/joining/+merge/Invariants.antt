@@ -5,7 +5,8 @@ use Rattle.std.specs.List.{AllByRecursion}
 use Rattle.rhd_value.specs.Tree.{Bytes}
 use Rattle.rhd_decl.specs.declared.declaration.Declaration.{Declaration}
 use Rattle.rhd_module.specs.Tree.{ModuleTree, subs_of, depth}
-use Rattle.rhd_module.specs.Algebra.{merge_subs, rebuilt, HasOwnTable, Tells}
+use Rattle.rhd_module.specs.Algebra.{merge_subs, rebuilt, HasOwnTable}
+use Rattle.rhd_table.specs.Tells.{Tells}
 use Rattle.rhd_algebra.proofs.joining.+merge.Given as goal
 
 abbrev pub invariant-loop-name : goal.invariant-loop-name

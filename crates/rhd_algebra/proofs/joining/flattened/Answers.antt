@@ -2,9 +2,9 @@ use Rattle.std.proofs.Common.{◌≡◌, subst, ◌∙◌}
 use Rattle.std.specs.Map.{keys_of}
 use Rattle.rhd_module.specs.Algebra.{flattened_with}
 use Rattle.rhd_module.specs.Contents.{with_doc}
-use Rattle.rhd_module.specs.Index.{IsClash}
+use Rattle.rhd_table.specs.Indexed.{IsClash}
 use Rattle.rhd_module.specs.Tree.{ModuleTree, empty_module}
-use Rattle.rhd_module.proofs.Fills.{if_err}
+use Rattle.rhd_table.proofs.Fills.{if_err}
 use Rattle.rhd_algebra.proofs.joining.flattened.Goals as goal
 
 pub returns-in_err-flatten-clause-clash : goal.returns-in_err-flatten-clause-clash

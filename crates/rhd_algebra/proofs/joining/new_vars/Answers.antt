@@ -3,7 +3,7 @@ use Rattle.std.proofs.lemmas.List.Elements.{filter-append}
 use Rattle.rhd_value.specs.Tree.{Bytes, Tree}
 use Rattle.rhd_value.specs.Entries.{found}
 use Rattle.rhd_module.specs.Algebra.{new_vars}
-use Rattle.rhd_module.proofs.Puts.{is_there, is_absent}
+use Rattle.rhd_table.proofs.Puts.{is_there, is_absent}
 use Rattle.rhd_algebra.proofs.joining.new_vars.Goals as goal
 
 pub loop-name-preserved-in_ok-push : goal.loop-name-preserved-in_ok-push

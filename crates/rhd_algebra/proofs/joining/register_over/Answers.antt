@@ -5,11 +5,11 @@ use Rattle.rhd_hash.specs.declared.mixer.Seeds.{Seeds}
 use Rattle.rhd_manifest.specs.Entry.{Entry, entry_pair}
 use Rattle.rhd_manifest.specs.Listing.{listed_in}
 use Rattle.rhd_module.specs.Algebra.{that_pass, entries_over}
-use Rattle.rhd_module.specs.Index.{IsClash}
-use Rattle.rhd_module.specs.Manifests.{put_back, put_all}
-use Rattle.rhd_module.specs.Tree.{ModuleTree, Pairs}
-use Rattle.rhd_module.proofs.Fills.{if_err}
-use Rattle.rhd_module.proofs.Registers.{clash_all}
+use Rattle.rhd_table.specs.Indexed.{IsClash}
+use Rattle.rhd_table.specs.Pairs.{put_back, put_all, Pairs}
+use Rattle.rhd_module.specs.Tree.{ModuleTree}
+use Rattle.rhd_table.proofs.Fills.{if_err}
+use Rattle.rhd_table.proofs.Registers.{clash_all}
 use Rattle.rhd_algebra.proofs.joining.register_over.Goals as goal
 
 pub returns-in_err-register_parts_that-clause-clash : goal.returns-in_err-register_parts_that-clause-clash

@@ -1,6 +1,7 @@
 use Rattle.std.proofs.Common.{◌≡◌, ap, ◌∙◌}
 use Rattle.rhd_module.specs.Algebra.{that_pass}
-use Rattle.rhd_module.specs.Manifests.{with_pairs, put_all}
+use Rattle.rhd_module.specs.Manifests.{with_pairs}
+use Rattle.rhd_table.specs.Pairs.{put_all}
 use Rattle.rhd_module.specs.Tree.{empty_module}
 use Rattle.rhd_module.proofs.JoinParts.{kept_alone}
 use Rattle.rhd_algebra.proofs.joining.retained.Goals as goal

@@ -7,13 +7,14 @@ use Rattle.std.specs.List.Sorted.{IsStrictlySortedBy}
 use Rattle.std.specs.Map.{keys_of}
 use Rattle.rhd_value.specs.Tree.{Bytes}
 use Rattle.rhd_module.specs.Below.{lists_any, some_in}
-use Rattle.rhd_module.specs.Index.{indexed, NoneClash, IsClash}
+use Rattle.rhd_module.specs.Index.{indexed}
+use Rattle.rhd_table.specs.Indexed.{NoneClash, IsClash}
 use Rattle.rhd_module.specs.Lazy.{with_registered, registered_subs, touched_below, HasApartTable, HasApartTree, RegisterClash}
 use Rattle.rhd_module.specs.Manifests.{registered_pairs}
 use Rattle.rhd_module.specs.Tree.{ModuleTree, Subs, subs_of, depth}
 use Rattle.rhd_module.specs.Walk.{tree}
 use Rattle.rhd_module.proofs.LazyParts.{below_rest, follows_more, all_more, none_touched, some_touched, after_same, after_listed, tree_listed, touched_at, below_touched, clash_more, renewed_clash}
-use Rattle.rhd_module.proofs.Fills.{if_err}
+use Rattle.rhd_table.proofs.Fills.{if_err}
 use Rattle.rhd_module.proofs.JoinParts.{depth_at}
 use Rattle.rhd_algebra.proofs.lazy.+registered_subs.Goals as goal
 

@@ -1,5 +1,5 @@
 use Rattle.rhd_module.specs.Lazy.{touched, touched_below}
-use Rattle.rhd_module.proofs.Fills.{if_err}
+use Rattle.rhd_table.proofs.Fills.{if_err}
 use Rattle.rhd_module.proofs.LazyParts.{below_touched, clash_more}
 use Rattle.rhd_algebra.proofs.lazy.registered_parts.Goals as goal
 

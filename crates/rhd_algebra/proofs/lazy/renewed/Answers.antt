@@ -1,6 +1,6 @@
 use Rattle.std.proofs.Common.{◌≡◌, [], false, ap, subst, ◌∙◌}
 use Rattle.std.specs.Map.{keys_of}
-use Rattle.rhd_module.specs.Index.{NoneClash}
+use Rattle.rhd_table.specs.Indexed.{NoneClash}
 use Rattle.rhd_module.specs.Lazy.{with_registered}
 use Rattle.rhd_module.specs.Tree.{ModuleTree, subs_of}
 use Rattle.rhd_module.specs.Walk.{tree}

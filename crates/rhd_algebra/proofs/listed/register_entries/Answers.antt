@@ -3,9 +3,9 @@ use Rattle.std.proofs.lemmas.List.{drop_more, take-append-drop}
 use Rattle.std.specs.Map.{keys_of}
 use Rattle.rhd_manifest.specs.Entry.{entry_pair}
 use Rattle.rhd_module.specs.Tree.{ModuleTree}
-use Rattle.rhd_module.specs.Index.{IsClash}
-use Rattle.rhd_module.specs.Manifests.{put_back}
-use Rattle.rhd_module.proofs.Fills.{if_err}
+use Rattle.rhd_table.specs.Indexed.{IsClash}
+use Rattle.rhd_table.specs.Pairs.{put_back}
+use Rattle.rhd_table.proofs.Fills.{if_err}
 use Rattle.rhd_module.proofs.Registers.{clash_at_entry}
 use Rattle.rhd_algebra.proofs.listed.register_entries.Goals as goal
 

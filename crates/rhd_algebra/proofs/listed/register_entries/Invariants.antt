@@ -1,6 +1,7 @@
 use Rattle.std.proofs.Common.{◌≡◌, map, reverse, take}
 use Rattle.rhd_manifest.specs.Entry.{entry_pair}
-use Rattle.rhd_module.specs.Manifests.{with_pairs, put_back}
+use Rattle.rhd_module.specs.Manifests.{with_pairs}
+use Rattle.rhd_table.specs.Pairs.{put_back}
 use Rattle.rhd_algebra.proofs.listed.register_entries.Given as goal
 
 abbrev pub invariant-loop-entry : goal.invariant-loop-entry

@@ -4,9 +4,10 @@ use Rattle.std.specs.Map.{keys_of}
 use Rattle.rhd_manifest.specs.Entry.{entry_pair}
 use Rattle.rhd_module.specs.Tree.{ModuleTree}
 use Rattle.rhd_module.specs.Algebra.{that_pass}
-use Rattle.rhd_module.specs.Index.{IsClash}
-use Rattle.rhd_module.specs.Manifests.{with_pairs, put_back}
-use Rattle.rhd_module.proofs.Fills.{if_err}
+use Rattle.rhd_table.specs.Indexed.{IsClash}
+use Rattle.rhd_module.specs.Manifests.{with_pairs}
+use Rattle.rhd_table.specs.Pairs.{put_back}
+use Rattle.rhd_table.proofs.Fills.{if_err}
 use Rattle.rhd_module.proofs.JoinParts.{entry_next, clash_entry}
 use Rattle.rhd_algebra.proofs.listed.register_entries_that.Goals as goal
 

@@ -1,9 +1,11 @@
 use Rattle.std.proofs.Common.{◌≡◌, Bool, map, reverse, take}
 use Rattle.std.specs.Fn.{FnReturnsAt}
 use Rattle.rhd_decl.specs.declared.declaration.Declaration.{Declaration}
-use Rattle.rhd_module.specs.Algebra.{that_pass, Tells}
+use Rattle.rhd_module.specs.Algebra.{that_pass}
+use Rattle.rhd_table.specs.Tells.{Tells}
 use Rattle.rhd_manifest.specs.Entry.{entry_pair}
-use Rattle.rhd_module.specs.Manifests.{with_pairs, put_back}
+use Rattle.rhd_module.specs.Manifests.{with_pairs}
+use Rattle.rhd_table.specs.Pairs.{put_back}
 use Rattle.rhd_algebra.proofs.listed.register_entries_that.Given as goal
 
 abbrev pub invariant-loop-entry : goal.invariant-loop-entry

@@ -3,8 +3,9 @@ use Rattle.std.proofs.lemmas.Fn.{says_at}
 use Rattle.std.specs.Map.{keys_of}
 use Rattle.rhd_hash.specs.declared.mixer.Seeds.{Seeds}
 use Rattle.rhd_manifest.specs.Entry.{entry_pair, entry_decl}
-use Rattle.rhd_module.specs.Index.{IsClash}
-use Rattle.rhd_module.specs.Manifests.{with_pairs, put_back}
+use Rattle.rhd_table.specs.Indexed.{IsClash}
+use Rattle.rhd_module.specs.Manifests.{with_pairs}
+use Rattle.rhd_table.specs.Pairs.{put_back}
 use Rattle.rhd_algebra.proofs.listed.register_entry_that.Goals as goal
 
 pub returns-then-not-passes-clause-ok : goal.returns-then-not-passes-clause-ok

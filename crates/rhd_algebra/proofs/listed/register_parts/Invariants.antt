@@ -1,7 +1,8 @@
 use Rattle.std.proofs.Common.{◌≡◌, map, take}
 use Rattle.rhd_manifest.specs.Entry.{entry_pair}
 use Rattle.rhd_manifest.specs.Listing.{listed_in}
-use Rattle.rhd_module.specs.Manifests.{with_pairs, put_back}
+use Rattle.rhd_module.specs.Manifests.{with_pairs}
+use Rattle.rhd_table.specs.Pairs.{put_back}
 use Rattle.rhd_algebra.proofs.listed.register_parts.Given as goal
 
 abbrev pub invariant-loop-part : goal.invariant-loop-part

@@ -1,10 +1,12 @@
 use Rattle.std.proofs.Common.{◌≡◌, Bool, map, take}
 use Rattle.std.specs.Fn.{FnReturnsAt}
 use Rattle.rhd_decl.specs.declared.declaration.Declaration.{Declaration}
-use Rattle.rhd_module.specs.Algebra.{that_pass, Tells}
+use Rattle.rhd_module.specs.Algebra.{that_pass}
+use Rattle.rhd_table.specs.Tells.{Tells}
 use Rattle.rhd_manifest.specs.Entry.{entry_pair}
 use Rattle.rhd_manifest.specs.Listing.{listed_in}
-use Rattle.rhd_module.specs.Manifests.{with_pairs, put_back}
+use Rattle.rhd_module.specs.Manifests.{with_pairs}
+use Rattle.rhd_table.specs.Pairs.{put_back}
 use Rattle.rhd_algebra.proofs.listed.register_parts_that.Given as goal
 
 abbrev pub invariant-loop-part : goal.invariant-loop-part

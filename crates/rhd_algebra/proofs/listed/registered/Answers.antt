@@ -3,10 +3,11 @@ use Rattle.std.specs.Map.{keys_of}
 use Rattle.rhd_manifest.specs.Entry.{Entry, entry_pair}
 use Rattle.rhd_manifest.specs.Listing.{listed_in}
 use Rattle.rhd_module.specs.Tree.{ModuleTree, empty_module}
-use Rattle.rhd_module.specs.Index.{IsClash}
-use Rattle.rhd_module.specs.Manifests.{lazy, put_back}
-use Rattle.rhd_module.proofs.Fills.{if_err}
-use Rattle.rhd_module.proofs.Registers.{clash_all}
+use Rattle.rhd_table.specs.Indexed.{IsClash}
+use Rattle.rhd_module.specs.Manifests.{lazy}
+use Rattle.rhd_table.specs.Pairs.{put_back}
+use Rattle.rhd_table.proofs.Fills.{if_err}
+use Rattle.rhd_table.proofs.Registers.{clash_all}
 use Rattle.rhd_algebra.proofs.listed.registered.Goals as goal
 
 pub returns-in_err-register_parts-clause-clash : goal.returns-in_err-register_parts-clause-clash

@@ -1,5 +1,5 @@
 use Rattle.std.proofs.Common.{◌≡◌, take}
-use Rattle.rhd_module.specs.Registered.{params_by_type}
+use Rattle.rhd_decl.specs.Registration.{params_by_type}
 use Rattle.rhd_engine.proofs.registering.params_by_type.Given as goal
 
 abbrev pub invariant-loop-tag : goal.invariant-loop-tag

@@ -2,10 +2,11 @@ use Rattle.std.proofs.Common.{◌≡◌, None, ap, subst, ◌∙◌}
 use Rattle.std.specs.Map.{keys_of}
 use Rattle.rhd_hash.specs.declared.mixer.Seeds.{Seeds}
 use Rattle.rhd_module.specs.Algebra.{HasOwnTable}
-use Rattle.rhd_module.specs.Index.{IsClash, NoneClash, indexed}
+use Rattle.rhd_table.specs.Indexed.{IsClash, NoneClash}
+use Rattle.rhd_module.specs.Index.{indexed}
 use Rattle.rhd_module.specs.Tree.{ModuleTree, empty_module}
 use Rattle.rhd_module.specs.Walk.{tree}
-use Rattle.rhd_module.proofs.Fills.{if_err}
+use Rattle.rhd_table.proofs.Fills.{if_err}
 use Rattle.rhd_resolve.specs.Loading.{with_scripts}
 use Rattle.rhd_resolve.proofs.ScriptsDeclared.{scripts_seeds, index_clash}
 use Rattle.rhd_loader.specs.Loads.{import_of}

@@ -2,7 +2,7 @@ use Rattle.std.proofs.Common.{List, sym, subst}
 use Rattle.std.specs.List.{Contains}
 use Rattle.rhd_value.specs.Tree.{Bytes}
 use Rattle.rhd_func.specs.declared.func.ScriptFuncDef.{ScriptFuncDef}
-use Rattle.rhd_module.proofs.Fills.{if_err}
+use Rattle.rhd_table.proofs.Fills.{if_err}
 use Rattle.rhd_loader.specs.Imports.{ImportedScripts}
 use Rattle.rhd_loader.specs.Loads.{AreApart}
 use Rattle.rhd_loader.specs.Making.{SomeClash}

@@ -2,12 +2,12 @@ use Rattle.std.proofs.Common.{◌≡◌, ◌∷◌, ◌++◌, [], sym, ap, subst
 use Rattle.std.specs.Map.{keys_of}
 use Rattle.rhd_hash.specs.declared.key.Key.{Key}
 use Rattle.rhd_decl.specs.declared.declaration.Declaration.{Declaration}
-use Rattle.rhd_module.specs.Tree.{ModuleTree, Pairs}
-use Rattle.rhd_module.specs.Index.{IsClash}
-use Rattle.rhd_module.specs.Registered.{put}
+use Rattle.rhd_module.specs.Tree.{ModuleTree}
+use Rattle.rhd_table.specs.Pairs.{Pairs, put}
+use Rattle.rhd_table.specs.Indexed.{IsClash}
 use Rattle.rhd_module.specs.Manifests.{with_pairs}
-use Rattle.rhd_module.proofs.Fills.{if_err}
-use Rattle.rhd_module.proofs.Registers.{all_append, clash_at_pair}
+use Rattle.rhd_table.proofs.Fills.{if_err}
+use Rattle.rhd_table.proofs.Registers.{all_append, clash_at_pair}
 use Rattle.rhd_module.proofs.declaring.register_declared.Goals as goal
 
 pub loop-key-preserved : goal.loop-key-preserved

@@ -1,6 +1,6 @@
 use Rattle.std.proofs.Common.{◌≡◌, ◌++◌}
-use Rattle.rhd_module.specs.Tree.{Pairs}
-use Rattle.rhd_module.specs.Manifests.{with_pairs, put_all}
+use Rattle.rhd_table.specs.Pairs.{Pairs, put_all}
+use Rattle.rhd_module.specs.Manifests.{with_pairs}
 use Rattle.rhd_module.proofs.declaring.register_declared.Given as goal
 
 abbrev pub invariant-loop-key : goal.invariant-loop-key

@@ -2,11 +2,12 @@ use Rattle.std.proofs.Common.{◌≡◌, ◌∷◌, ◌++◌, [], sym, ap, subst
 use Rattle.std.specs.Map.{keys_of}
 use Rattle.rhd_hash.specs.declared.key.Key.{Key}
 use Rattle.rhd_decl.specs.declared.declaration.Declaration.{Declaration}
-use Rattle.rhd_module.specs.Tree.{ModuleTree, Pairs}
+use Rattle.rhd_module.specs.Tree.{ModuleTree}
+use Rattle.rhd_table.specs.Pairs.{Pairs, put_all}
 use Rattle.rhd_module.specs.Algebra.{that_pass}
-use Rattle.rhd_module.specs.Index.{IsClash}
-use Rattle.rhd_module.specs.Manifests.{with_pairs, put_all}
-use Rattle.rhd_module.proofs.Fills.{if_err}
+use Rattle.rhd_table.specs.Indexed.{IsClash}
+use Rattle.rhd_module.specs.Manifests.{with_pairs}
+use Rattle.rhd_table.proofs.Fills.{if_err}
 use Rattle.rhd_module.proofs.JoinParts.{passed_next, clash_passed}
 use Rattle.rhd_module.proofs.declaring.register_declared_that.Goals as goal
 

@@ -1,9 +1,10 @@
 use Rattle.std.proofs.Common.{◌≡◌, Bool, ◌++◌}
 use Rattle.std.specs.Fn.{FnReturnsAt}
 use Rattle.rhd_decl.specs.declared.declaration.Declaration.{Declaration}
-use Rattle.rhd_module.specs.Algebra.{that_pass, Tells}
-use Rattle.rhd_module.specs.Tree.{Pairs}
-use Rattle.rhd_module.specs.Manifests.{with_pairs, put_all}
+use Rattle.rhd_module.specs.Algebra.{that_pass}
+use Rattle.rhd_table.specs.Tells.{Tells}
+use Rattle.rhd_table.specs.Pairs.{Pairs, put_all}
+use Rattle.rhd_module.specs.Manifests.{with_pairs}
 use Rattle.rhd_module.proofs.declaring.register_declared_that.Given as goal
 
 abbrev pub invariant-loop-key : goal.invariant-loop-key

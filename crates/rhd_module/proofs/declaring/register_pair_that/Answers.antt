@@ -1,8 +1,9 @@
 use Rattle.std.proofs.Common.{◌≡◌, ◌∷◌, [], Bool, true, false, cond, OnOk, IfErr, sym, subst, refl, ◌∙◌}
 use Rattle.std.proofs.lemmas.Fn.{says_at}
 use Rattle.std.specs.Map.{keys_of}
-use Rattle.rhd_module.specs.Index.{IsClash}
-use Rattle.rhd_module.specs.Manifests.{with_pairs, put_all}
+use Rattle.rhd_table.specs.Indexed.{IsClash}
+use Rattle.rhd_module.specs.Manifests.{with_pairs}
+use Rattle.rhd_table.specs.Pairs.{put_all}
 use Rattle.rhd_module.proofs.declaring.register_pair_that.Goals as goal
 
 pub returns-then-not-passes-clause-ok : goal.returns-then-not-passes-clause-ok

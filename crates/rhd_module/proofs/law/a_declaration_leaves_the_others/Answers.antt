@@ -1,5 +1,5 @@
 use Rattle.rhd_hash.specs.Keys.{key_eq, key_eq-Decides}
-use Rattle.rhd_module.specs.Registered.{put}
+use Rattle.rhd_table.specs.Pairs.{put}
 use Rattle.rhd_module.specs.Shown.{own_decl}
 use Rattle.rhd_hash.proofs.PutIn.{is_put, finds_itself, finds_others}
 use Rattle.rhd_module.proofs.Listed.{shown_found, shown_alike}

@@ -1,9 +1,9 @@
 use Rattle.std.proofs.Common.{◌+◌, ◌∷◌, ◌++◌, [], Some, take, drop, sym, ap, subst, ◌∙◌}
 use Rattle.std.specs.Map.{keys_of}
 use Rattle.std.proofs.lemmas.List.{take_more}
-use Rattle.rhd_module.specs.Index.{IsClash}
+use Rattle.rhd_table.specs.Indexed.{IsClash}
 use Rattle.rhd_module.specs.Tree.{ModuleTree}
-use Rattle.rhd_module.proofs.Fills.{if_err}
+use Rattle.rhd_table.proofs.Fills.{if_err}
 use Rattle.rhd_resolve.specs.Loading.{with_scripts, is_public, public_functions}
 use Rattle.rhd_resolve.proofs.ScriptsDeclared.{scripts_append, clash_script, parted, public_more, public_less, public_all}
 use Rattle.rhd_resolve.proofs.loading.declare_public.Goals.{in-Public+in_ok-declare-in-Public, in-Private}

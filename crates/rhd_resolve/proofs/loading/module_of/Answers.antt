@@ -2,10 +2,11 @@ use Rattle.std.proofs.Common.{◌≡◌, Some, inl, inr, ap, subst, ◌∙◌}
 use Rattle.std.specs.Map.{keys_of}
 use Rattle.rhd_hash.specs.declared.mixer.Seeds.{Seeds}
 use Rattle.rhd_module.specs.Algebra.{HasOwnTable}
-use Rattle.rhd_module.specs.Index.{IsClash, NoneClash, indexed}
+use Rattle.rhd_table.specs.Indexed.{IsClash, NoneClash}
+use Rattle.rhd_module.specs.Index.{indexed}
 use Rattle.rhd_module.specs.Tree.{ModuleTree}
 use Rattle.rhd_module.specs.Walk.{tree}
-use Rattle.rhd_module.proofs.Fills.{if_err}
+use Rattle.rhd_table.proofs.Fills.{if_err}
 use Rattle.rhd_resolve.specs.Loading.{with_scripts, public_functions, contents_of, module_of}
 use Rattle.rhd_resolve.proofs.ScriptsDeclared.{scripts_same, scripts_seeds, source_seeds, index_clash}
 use Rattle.rhd_resolve.proofs.loading.module_of.Goals as goal

@@ -4,7 +4,7 @@ use Rattle.rhd_hash.specs.declared.mixer.Seeds.{Seeds}
 use Rattle.rhd_value.specs.Tree.{Bytes}
 use Rattle.rhd_module.specs.Algebra.{flattened_with}
 use Rattle.rhd_module.specs.Contents.{with_doc}
-use Rattle.rhd_module.specs.Index.{IsClash}
+use Rattle.rhd_table.specs.Indexed.{IsClash}
 use Rattle.rhd_module.specs.Tree.{empty_module}
 use Rattle.rhd_algebra.proofs.Gathered.{flattened_clash, flattened_joins}
 use Rattle.rhd_module.proofs.JoinParts.{refused_join}

@@ -2,13 +2,15 @@ use Rattle.std.proofs.Common.{◌≡◌, ◌∷◌, [], ◌++◌, List, sym, ap,
 use Rattle.std.specs.declared.rc.Rc.{Rc}
 use Rattle.std.specs.Map.{keys_of}
 use Rattle.rhd_value.specs.Tree.{Bytes}
-use Rattle.rhd_module.specs.Tree.{ModuleTree, Subs, Pairs, subs_of}
+use Rattle.rhd_module.specs.Tree.{ModuleTree, Subs, subs_of}
+use Rattle.rhd_table.specs.Pairs.{Pairs}
 use Rattle.rhd_module.specs.Shown.{shown}
 use Rattle.rhd_module.specs.Walk.{walk, below}
 use Rattle.rhd_module.specs.Below.{some_below, some_in, declares_global, declares_dynamic}
-use Rattle.rhd_module.specs.Index.{Fills, IsClash}
+use Rattle.rhd_table.specs.Indexed.{Fills, IsClash}
 use Rattle.rhd_module.specs.contracts.module.Module.{the_view}
-use Rattle.rhd_module.proofs.Fills.{if_err, if_more, on_more, clash_below, clash_module, fills_below, fills_module}
+use Rattle.rhd_table.proofs.Fills.{if_err, if_more}
+use Rattle.rhd_module.proofs.Fills.{on_more, clash_below, clash_module, fills_below, fills_module}
 use Rattle.rhd_module.proofs.module.Module.+index_into.Goals as goal
 
 pub returns-in_err-index_into-clause-clash : goal.returns-in_err-index_into-clause-clash

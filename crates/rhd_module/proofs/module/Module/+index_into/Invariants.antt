@@ -4,7 +4,7 @@ use Rattle.rhd_value.specs.Tree.{Bytes}
 use Rattle.rhd_module.specs.Tree.{ModuleTree, subs_of}
 use Rattle.rhd_module.specs.Walk.{below}
 use Rattle.rhd_module.specs.Below.{some_below, declares_global, declares_dynamic}
-use Rattle.rhd_module.specs.Index.{Fills}
+use Rattle.rhd_table.specs.Indexed.{Fills}
 use Rattle.rhd_module.proofs.module.Module.+index_into.Given as goal
 
 abbrev pub invariant-loop-name : goal.invariant-loop-name

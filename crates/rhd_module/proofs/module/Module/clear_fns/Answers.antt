@@ -3,9 +3,9 @@ use Rattle.std.specs.List.{list_any}
 use Rattle.rhd_hash.specs.Table.{Table}
 use Rattle.rhd_decl.specs.Flags.{Flagged}
 use Rattle.rhd_decl.specs.declared.declaration.Declaration.{Declaration}
-use Rattle.rhd_module.specs.NativeIndex.{places_from}
-use Rattle.rhd_module.specs.Scripts.{has_script}
-use Rattle.rhd_module.specs.Below.{may_be_dynamic, lists_dynamic}
+use Rattle.rhd_table.specs.NativeIndex.{places_from}
+use Rattle.rhd_table.specs.Scripts.{has_script}
+use Rattle.rhd_table.specs.Marks.{may_be_dynamic, lists_dynamic}
 use Rattle.rhd_module.proofs.module.Module.clear_fns.Goals as goal
 
 pub invariant_of-self : goal.invariant_of-self

@@ -5,12 +5,13 @@ use Rattle.rhd_hash.specs.Table.{Table}
 use Rattle.rhd_decl.specs.Flags.{Flagged}
 use Rattle.rhd_decl.specs.declared.declaration.Declaration.{Declaration}
 use Rattle.rhd_module.specs.Tree.{ModuleTree, Subs}
-use Rattle.rhd_module.specs.Index.{Indexed, IsIndexOf}
-use Rattle.rhd_module.specs.NativeIndex.{places_from}
-use Rattle.rhd_module.specs.Scripts.{has_script}
+use Rattle.rhd_table.specs.Indexed.{Indexed}
+use Rattle.rhd_module.specs.Index.{IsIndexOf}
+use Rattle.rhd_table.specs.NativeIndex.{places_from}
+use Rattle.rhd_table.specs.Scripts.{has_script}
 use Rattle.rhd_module.specs.contracts.module.Module.{the_view}
 use Rattle.rhd_manifest.specs.Entry.{Entry}
-use Rattle.rhd_module.specs.Below.{may_be_dynamic, lists_dynamic}
+use Rattle.rhd_table.specs.Marks.{may_be_dynamic, lists_dynamic}
 use Rattle.rhd_module.proofs.SubModules.{subs_clone}
 use Rattle.rhd_module.proofs.module.Module.dup.Goals as goal
 

@@ -2,7 +2,7 @@ use Rattle.std.proofs.Common.{ap, subst, ◌∙◌}
 use Rattle.std.specs.Map.{keys_of}
 use Rattle.rhd_module.specs.Tree.{ModuleTree}
 use Rattle.rhd_module.specs.Walk.{tree}
-use Rattle.rhd_module.specs.Index.{NoneClash}
+use Rattle.rhd_table.specs.Indexed.{NoneClash}
 use Rattle.rhd_module.proofs.module.Module.has_index.Goals as goal
 
 pub returns-clause-apart : goal.returns-clause-apart

@@ -1,7 +1,8 @@
 use Rattle.std.proofs.Common.{not, sym, ap, ◌∙◌}
 use Rattle.std.specs.Prelude.{if◌then◌else◌}
 use Rattle.rhd_module.specs.Tree.{ModuleTree}
-use Rattle.rhd_module.specs.Below.{some_in, may_be_dynamic, declares_dynamic, may_contain}
+use Rattle.rhd_module.specs.Below.{some_in, declares_dynamic, may_contain}
+use Rattle.rhd_table.specs.Marks.{may_be_dynamic}
 use Rattle.rhd_module.specs.contracts.module.Module.{the_view}
 use Rattle.rhd_module.proofs.Listed.{any_shown, twice}
 use Rattle.rhd_module.proofs.module.Module.may_contain_dynamic_fn.Goals as goal

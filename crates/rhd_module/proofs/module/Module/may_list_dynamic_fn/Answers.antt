@@ -1,7 +1,8 @@
 use Rattle.std.proofs.Common.{◌≡◌, ◌&&◌, Bool, false, not, sym, ap, ◌∙◌}
 use Rattle.rhd_manifest.specs.Listing.{is_none_of}
 use Rattle.rhd_module.specs.Tree.{ModuleTree}
-use Rattle.rhd_module.specs.Below.{may_be_dynamic, declares_dynamic, may_list_dynamic}
+use Rattle.rhd_table.specs.Marks.{may_be_dynamic}
+use Rattle.rhd_module.specs.Below.{declares_dynamic, may_list_dynamic}
 use Rattle.rhd_module.specs.contracts.module.Module.{the_view}
 use Rattle.rhd_module.proofs.Listed.{any_shown, twice}
 use Rattle.rhd_module.proofs.module.Module.may_list_dynamic_fn.Goals as goal

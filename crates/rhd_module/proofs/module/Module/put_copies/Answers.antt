@@ -4,14 +4,14 @@ use Rattle.rhd_hash.specs.Filter.{is_marked}
 use Rattle.rhd_hash.specs.Table.{Table}
 use Rattle.rhd_decl.specs.Flags.{Flagged}
 use Rattle.rhd_decl.specs.declared.declaration.Declaration.{Declaration}
-use Rattle.rhd_module.specs.Below.{may_be_dynamic}
+use Rattle.rhd_table.specs.Marks.{may_be_dynamic}
 use Rattle.rhd_module.specs.Index.{IsFilter, IsKept}
-use Rattle.rhd_module.specs.NativeIndex.{IsIndex}
-use Rattle.rhd_module.specs.Scripts.{AreNoted}
+use Rattle.rhd_table.specs.NativeIndex.{IsIndex}
+use Rattle.rhd_table.specs.Scripts.{AreNoted}
 use Rattle.rhd_value.specs.Tree.{Bytes, Tree}
 use Rattle.rhd_module.specs.Tree.{ModuleTree, Subs, subs_of}
 use Rattle.rhd_module.specs.contracts.module.Module.{the_view}
-use Rattle.rhd_module.proofs.Lookups.{first}
+use Rattle.rhd_table.proofs.Lookups.{first}
 use Rattle.rhd_module.proofs.PutParts.{filter_grown, scripts_grown}
 use Rattle.rhd_module.proofs.module.Module.put_copies.Goals as goal
 

@@ -3,13 +3,14 @@ use Rattle.std.specs.List.{AllByRecursion, filter}
 use Rattle.std.specs.Map.{keys_of}
 use Rattle.rhd_hash.specs.Table.{HasOwnHashes}
 use Rattle.rhd_module.specs.Algebra.{with_named}
-use Rattle.rhd_module.specs.Index.{IsClash}
-use Rattle.rhd_module.specs.Manifests.{put_all, with_pairs}
-use Rattle.rhd_module.specs.Scripts.{has_script}
-use Rattle.rhd_module.specs.Tree.{ModuleTree, Pairs, subs_of}
-use Rattle.rhd_module.proofs.Fills.{if_more}
-use Rattle.rhd_module.proofs.Lookups.{first}
-use Rattle.rhd_module.proofs.Registers.{clash_all}
+use Rattle.rhd_table.specs.Indexed.{IsClash}
+use Rattle.rhd_table.specs.Pairs.{put_all, Pairs}
+use Rattle.rhd_module.specs.Manifests.{with_pairs}
+use Rattle.rhd_table.specs.Scripts.{has_script}
+use Rattle.rhd_module.specs.Tree.{ModuleTree, subs_of}
+use Rattle.rhd_table.proofs.Fills.{if_more}
+use Rattle.rhd_table.proofs.Lookups.{first}
+use Rattle.rhd_table.proofs.Registers.{clash_all}
 use Rattle.rhd_module.proofs.PutParts.{present, absent, all_present, all_absent, is_nothing, none_kept, alone_own, split_all}
 use Rattle.rhd_module.proofs.module.Module.put_declared.Goals as goal
 use Rattle.rhd_module.proofs.module.Module.put_declared.Goals.{After-put_copies}

@@ -7,15 +7,17 @@ use Rattle.rhd_hash.specs.declared.mixer.Seeds.{Seeds}
 use Rattle.rhd_decl.specs.Flags.{Flagged}
 use Rattle.rhd_hash.specs.Parts.{dynamic_hash}
 use Rattle.rhd_module.specs.Index.{IsFilter, IsKept}
-use Rattle.rhd_module.proofs.Kept.{filter_there, filter_last}
+use Rattle.rhd_table.proofs.Kept.{filter_there, filter_last}
 use Rattle.rhd_decl.specs.declared.declaration.Declaration.{Declaration}
-use Rattle.rhd_module.specs.Tree.{Pairs, ModuleTree}
-use Rattle.rhd_module.specs.Registered.{put, Puts}
-use Rattle.rhd_module.specs.NativeIndex.{IsIndex, noted, place_at}
+use Rattle.rhd_table.specs.Pairs.{Pairs, put}
+use Rattle.rhd_module.specs.Tree.{ModuleTree}
+use Rattle.rhd_module.specs.Registered.{Puts}
+use Rattle.rhd_table.specs.NativeIndex.{IsIndex, noted, place_at}
 use Rattle.rhd_module.specs.contracts.module.Module.{the_view}
-use Rattle.rhd_module.proofs.Places.{index_put_there, index_put_last, take_put}
-use Rattle.rhd_module.proofs.Puts.{refused, is_there, is_absent}
-use Rattle.rhd_module.proofs.Scripts.{noted_put, noted_still}
+use Rattle.rhd_table.proofs.Places.{index_put_there, index_put_last, take_put}
+use Rattle.rhd_module.proofs.Puts.{refused}
+use Rattle.rhd_table.proofs.Puts.{is_there, is_absent}
+use Rattle.rhd_table.proofs.Scripts.{noted_put, noted_still}
 use Rattle.rhd_module.proofs.module.Module.put_fn.Goals as goal
 use Rattle.rhd_module.proofs.module.Module.put_fn.Goals.{After-truncate}
 

@@ -7,10 +7,12 @@ use Rattle.rhd_manifest.specs.Entry.{entry_key}
 use Rattle.rhd_manifest.specs.Rank.{firsts}
 use Rattle.rhd_module.specs.Tree.{ModuleTree}
 use Rattle.rhd_module.specs.Shown.{shown}
-use Rattle.rhd_module.specs.Walk.{pairs_at}
-use Rattle.rhd_module.specs.Below.{may_be_dynamic, declares_dynamic, declares_global}
-use Rattle.rhd_module.specs.Index.{Fills, IsClash}
-use Rattle.rhd_module.proofs.Fills.{if_err, if_more, on_more, fills_lent, clash_lent, clash_last}
+use Rattle.rhd_table.specs.Paths.{pairs_at}
+use Rattle.rhd_table.specs.Marks.{may_be_dynamic}
+use Rattle.rhd_module.specs.Below.{declares_dynamic, declares_global}
+use Rattle.rhd_table.specs.Indexed.{Fills, IsClash}
+use Rattle.rhd_table.proofs.Fills.{if_err, if_more}
+use Rattle.rhd_module.proofs.Fills.{on_more, fills_lent, clash_lent, clash_last}
 use Rattle.rhd_module.specs.contracts.module.Module.{the_view}
 use Rattle.rhd_module.proofs.Listed.{any_firsts, any_lent}
 use Rattle.rhd_module.proofs.module.Module.put_own.Goals as goal

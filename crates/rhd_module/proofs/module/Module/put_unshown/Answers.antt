@@ -4,13 +4,14 @@ use Rattle.std.specs.Map.{keys_of}
 use Rattle.rhd_hash.specs.declared.key.Key.{Key}
 use Rattle.rhd_hash.specs.Table.{HasOwnHashes}
 use Rattle.rhd_module.specs.Algebra.{with_named}
-use Rattle.rhd_module.specs.Index.{IsClash}
-use Rattle.rhd_module.specs.Manifests.{put_all, with_pairs}
-use Rattle.rhd_module.specs.Scripts.{has_script}
-use Rattle.rhd_module.specs.Shown.{shown, without, own_decl}
-use Rattle.rhd_module.specs.Tree.{ModuleTree, Pairs, subs_of}
-use Rattle.rhd_module.proofs.Fills.{if_more}
-use Rattle.rhd_module.proofs.Lookups.{first}
+use Rattle.rhd_table.specs.Indexed.{IsClash}
+use Rattle.rhd_table.specs.Pairs.{put_all, without, Pairs}
+use Rattle.rhd_module.specs.Manifests.{with_pairs}
+use Rattle.rhd_table.specs.Scripts.{has_script}
+use Rattle.rhd_module.specs.Shown.{shown, own_decl}
+use Rattle.rhd_module.specs.Tree.{ModuleTree, subs_of}
+use Rattle.rhd_table.proofs.Fills.{if_more}
+use Rattle.rhd_table.proofs.Lookups.{first}
 use Rattle.rhd_module.proofs.PutParts.{all_absent, none_kept, not_is, same_filter, every, front_none}
 use Rattle.rhd_module.proofs.module.Module.put_unshown.Goals as goal
 use Rattle.rhd_module.proofs.module.Module.put_unshown.Goals.{After-put_copies}

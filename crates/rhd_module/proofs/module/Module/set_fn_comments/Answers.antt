@@ -4,10 +4,10 @@ use Rattle.rhd_decl.specs.declared.declaration.Declaration.{Declaration}
 use Rattle.rhd_module.specs.Tree.{ModuleTree}
 use Rattle.rhd_module.specs.contracts.module.Module.{the_view, the_invariant}
 use Rattle.rhd_module.proofs.Kept.{filter_commented, index_commented}
-use Rattle.rhd_module.specs.Contents.{comment_on}
-use Rattle.rhd_module.specs.NativeIndex.{places_from}
-use Rattle.rhd_module.specs.Scripts.{has_script}
-use Rattle.rhd_module.proofs.Commented.{places_commented, scripts_commented}
+use Rattle.rhd_table.specs.Found.{comment_on}
+use Rattle.rhd_table.specs.NativeIndex.{places_from}
+use Rattle.rhd_table.specs.Scripts.{has_script}
+use Rattle.rhd_table.proofs.Commented.{places_commented, scripts_commented}
 use Rattle.rhd_module.proofs.module.Module.set_fn_comments.Goals as goal
 
 pub invariant_of-self-2 : goal.invariant_of-self-2

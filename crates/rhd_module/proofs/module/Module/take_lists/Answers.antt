@@ -2,7 +2,7 @@ use Rattle.std.proofs.Common.{◌≡◌, ◌||◌, ℕ, sym, ap, subst, ◌∙�
 use Rattle.rhd_hash.specs.Filter.{is_marked}
 use Rattle.rhd_decl.specs.Flags.{Flagged}
 use Rattle.rhd_module.specs.Tree.{ModuleTree}
-use Rattle.rhd_module.specs.Below.{lists_dynamic}
+use Rattle.rhd_table.specs.Marks.{lists_dynamic}
 use Rattle.rhd_module.specs.contracts.module.Module.{the_view}
 use Rattle.rhd_module.proofs.JoinParts.{filters_listed}
 use Rattle.rhd_module.proofs.module.Module.take_lists.Goals as goal

@@ -1,6 +1,7 @@
 use Rattle.std.proofs.Common.{sym, ap, subst, ◌∙◌}
 use Rattle.rhd_module.specs.Tree.{ModuleTree}
-use Rattle.rhd_module.specs.Index.{Indexed, IsIndexOf}
+use Rattle.rhd_table.specs.Indexed.{Indexed}
+use Rattle.rhd_module.specs.Index.{IsIndexOf}
 use Rattle.rhd_module.proofs.Fills.{is_index}
 use Rattle.rhd_module.proofs.module.Module.tree_index.Goals as goal
 

@@ -2,7 +2,8 @@ use Rattle.std.proofs.Common.{◌≡◌, true, sym, subst, ◌∙◌}
 use Rattle.std.specs.Map.{keys_of}
 use Rattle.rhd_module.specs.Tree.{ModuleTree}
 use Rattle.rhd_module.specs.Walk.{tree}
-use Rattle.rhd_module.specs.Index.{NoneClash, indexed}
+use Rattle.rhd_table.specs.Indexed.{NoneClash}
+use Rattle.rhd_module.specs.Index.{indexed}
 use Rattle.rhd_module.proofs.shared.SharedModule.build_index.Goals as goal
 
 pub returns-then-has_index : goal.returns-then-has_index

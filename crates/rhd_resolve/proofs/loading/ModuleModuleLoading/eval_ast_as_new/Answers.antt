@@ -3,7 +3,7 @@ use Rattle.std.specs.Map.{keys_of}
 use Rattle.rhd_hash.specs.declared.mixer.Seeds.{Seeds}
 use Rattle.rhd_func.specs.declared.access.EnvId.{EnvId}
 use Rattle.rhd_module.specs.Algebra.{HasOwnTable}
-use Rattle.rhd_module.specs.Index.{NoneClash}
+use Rattle.rhd_table.specs.Indexed.{NoneClash}
 use Rattle.rhd_module.specs.Walk.{tree}
 use Rattle.rhd_resolve.specs.Environs.{with_env}
 use Rattle.rhd_resolve.specs.Loading.{library_of, module_of}

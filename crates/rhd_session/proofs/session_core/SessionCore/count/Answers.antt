@@ -1,7 +1,6 @@
-use Rattle.std.proofs.Common.{◌≡◌, length, refl, sym, ap, ◌∙◌, rules}
+use Rattle.std.proofs.Common.{◌≡◌, length, refl, sym, ap, ◌∙◌, rules, ℕ}
 use Rattle.std.specs.Prelude.{option_map}
 use Rattle.rhd_module.specs.Tree.{ModuleTree}
-use Rattle.std.proofs.Common.{ℕ}
 use Rattle.rhd_module.specs.Contents.{counts}
 use Rattle.rhd_call.specs.declared.reply.Reply.TheVariants.{Count}
 use Rattle.rhd_call.specs.declared.command.Command.TheVariants as commands

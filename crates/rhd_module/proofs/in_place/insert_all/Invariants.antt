@@ -1,8 +1,0 @@
-use Rattle.std.proofs.Common.{◌≡◌, ◌++◌}
-use Rattle.rhd_module.specs.Manifests.{put_all}
-use Rattle.rhd_module.specs.Tree.{Pairs}
-use Rattle.rhd_module.proofs.in_place.insert_all.Given as goal
-
-abbrev pub invariant-loop-key : goal.invariant-loop-key
-invariant-loop-key l =
-    (more : Pairs) × (l.table ≡ record l.fn.table { pairs = l.fn.table.pairs ++ more }) × (l.table.pairs ≡ put_all l.yielded l.fn.table.pairs)

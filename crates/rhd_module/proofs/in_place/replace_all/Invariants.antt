@@ -1,6 +1,0 @@
-use Rattle.std.proofs.Common.{◌≡◌}
-use Rattle.rhd_module.specs.Manifests.{put_all}
-use Rattle.rhd_module.proofs.in_place.replace_all.Given as goal
-
-abbrev pub invariant-loop-key : goal.invariant-loop-key
-invariant-loop-key l = l.table ≡ record l.fn.table { pairs = put_all l.yielded l.fn.table.pairs }

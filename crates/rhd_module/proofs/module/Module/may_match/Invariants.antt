@@ -1,8 +1,0 @@
-use Rattle.std.proofs.Common.{◌≡◌, drop}
-use Rattle.std.specs.List.{list_any}
-use Rattle.rhd_module.specs.Matching.{may_match}
-use Rattle.rhd_module.specs.NativeIndex.{matches_at}
-use Rattle.rhd_module.proofs.module.Module.may_match.Given as goal
-
-abbrev pub invariant-loop-place : goal.invariant-loop-place
-invariant-loop-place l = list_any (matches_at l.self l.exact l.name l.kinds) (drop l.place-index l.place-items) ≡ may_match l.self l.exact l.name l.kinds

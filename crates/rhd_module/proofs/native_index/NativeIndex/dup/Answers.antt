@@ -1,6 +1,0 @@
-use Rattle.std.proofs.Common.{string_bytes}
-use Rattle.rhd_module.proofs.Noted.{same_places, copy_noted}
-use Rattle.rhd_module.proofs.native_index.NativeIndex.dup.Goals as goal
-
-pub returns : goal.returns
-returns c = λ name. copy_noted string_bytes (λ v. v.items) _ (λ v w h. same_places v.items w.items h.0) c.args.self.now.places.entries c.in_ok-clone.field-0.entries c.in_ok-clone.ensures.cases name

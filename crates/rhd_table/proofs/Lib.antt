@@ -1,0 +1,14 @@
+pub mod Puts
+pub mod Noted
+pub mod Places
+pub mod PlacesBack
+pub mod Scripts
+pub mod Commented
+pub mod Listed
+pub mod Lookups
+pub mod Kept
+pub mod Filled
+pub mod Fills
+pub mod Registers
+pub mod PutParts
+pub mod Banned

@@ -1,0 +1,110 @@
+-- The places of the natives of a name: after a declaration is put, and in a search for a native that matches.
+use Rattle.std.proofs.Common.{◌≡◌, ℕ, suc, ◌+◌, ◌&&◌, ◌||◌, Bool, true, false, cond, List, [], ◌∷◌, ◌++◌, length, take, slice_get, Option, None, Some, is_none, refl, sym, ap, append-nil, arith, ◌∙◌}
+use Rattle.std.specs.List.{list_any}
+use Rattle.std.specs.Option.{option_map_or}
+use Rattle.std.specs.Map.{lookup}
+use Rattle.std.proofs.lemmas.Slice.Eq.{bytes_eq-Decides}
+use Rattle.rhd_value.specs.Tree.{Bytes}
+use Rattle.rhd_value.specs.Same.{text_eq}
+use Rattle.rhd_value.specs.declared.tag.TypeTag.{TypeTag}
+use Rattle.rhd_hash.specs.declared.key.Key.{Key}
+use Rattle.rhd_hash.specs.declared.key.Key.TheVariants.{Script, Typed, Native}
+use Rattle.rhd_decl.specs.declared.declaration.Declaration.{Declaration}
+use Rattle.rhd_table.specs.declared.native_index.NativeIndex.{NativeIndex}
+use Rattle.rhd_hash.specs.Keys.{key_eq}
+use Rattle.rhd_table.specs.Pairs.{Pairs, put}
+use Rattle.rhd_hash.specs.Matching.{types_match, key_matches}
+use Rattle.rhd_table.specs.NativeIndex.{is_native_of, places_from, place_at, noted, IsIndex}
+
+behind : (own : Bool) (n : ℕ) (xs ys : List ℕ) → cond own (n ∷ (xs ++ ys)) (xs ++ ys) ≡ cond own (n ∷ xs) xs ++ ys
+behind true n xs ys = refl
+behind false n xs ys = refl
+
+put_step : (n m : ℕ) (name : Bytes) (k : Key) (d : Declaration) (p : Key × Declaration) (ps : Pairs) (same : Bool) → key_eq k p.0 ≡ same
+    → places_from (n + 1) name (put k d ps) ≡ places_from (n + 1) name ps ++ cond (is_none (lookup (key_eq k) ps) && is_native_of name k) (m ∷ []) []
+    → places_from n name (cond same ((p.0, d) ∷ ps) (p ∷ put k d ps)) ≡ places_from n name (p ∷ ps) ++ cond (is_none (cond same (Some p.1) (lookup (key_eq k) ps)) && is_native_of name k) (m ∷ []) []
+put_step n m name k d p ps true s ih = sym (append-nil (places_from n name (p ∷ ps)))
+put_step n m name k d p ps false s ih =
+    ap (λ (xs : List ℕ). cond (is_native_of name p.0) (n ∷ xs) xs) ih
+    ∙ behind (is_native_of name p.0) n (places_from (n + 1) name ps) (cond (is_none (lookup (key_eq k) ps) && is_native_of name k) (m ∷ []) [])
+
+-- a new key of a native has its place last, and all others stay
+places_put : (n m : ℕ) (name : Bytes) (k : Key) (d : Declaration) (ps : Pairs) → m ≡ n + length ps
+    → places_from n name (put k d ps) ≡ places_from n name ps ++ cond (is_none (lookup (key_eq k) ps) && is_native_of name k) (m ∷ []) []
+places_put n m name k d [] at = let same : n ≡ m = omega arith in ap (λ (i : ℕ). cond (is_native_of name k) (i ∷ []) []) same
+places_put n m name k d (p ∷ ps) at = put_step n m name k d p ps (key_eq k p.0) refl (places_put (n + 1) m name k d ps (omega arith))
+
+slice_last_step : (k : Key) (d : Declaration) (p : Key × Declaration) (ps : Pairs) (same : Bool) → key_eq k p.0 ≡ same → (is_none (lookup (key_eq k) ps) ≡ true → slice_get (put k d ps) (length ps) ≡ Some (k, d))
+    → is_none (cond same (Some p.1) (lookup (key_eq k) ps)) ≡ true → slice_get (cond same ((p.0, d) ∷ ps) (p ∷ put k d ps)) (suc (length ps)) ≡ Some (k, d)
+slice_last_step k d p ps true s ih e = absurd cc
+slice_last_step k d p ps false s ih e = ih e
+
+-- a new key goes last
+slice_last : (k : Key) (d : Declaration) (ps : Pairs) → is_none (lookup (key_eq k) ps) ≡ true → slice_get (put k d ps) (length ps) ≡ Some (k, d)
+slice_last k d [] e = refl
+slice_last k d (p ∷ ps) e = slice_last_step k d p ps (key_eq k p.0) refl (slice_last k d ps) e
+
+-- what is taken out again is the declaration that went last
+take_put_step : (k : Key) (d : Declaration) (p : Key × Declaration) (ps : Pairs) (same : Bool) → key_eq k p.0 ≡ same → (is_none (lookup (key_eq k) ps) ≡ true → take (length ps) (put k d ps) ≡ ps)
+    → is_none (cond same (Some p.1) (lookup (key_eq k) ps)) ≡ true → take (suc (length ps)) (cond same ((p.0, d) ∷ ps) (p ∷ put k d ps)) ≡ p ∷ ps
+take_put_step k d p ps true s ih e = absurd cc
+take_put_step k d p ps false s ih e = ap (λ (qs : Pairs). p ∷ qs) (ih e)
+
+pub take_put : (k : Key) (d : Declaration) (ps : Pairs) → is_none (lookup (key_eq k) ps) ≡ true → take (length ps) (put k d ps) ≡ ps
+take_put k d [] e = refl
+take_put k d (p ∷ ps) e = take_put_step k d p ps (key_eq k p.0) refl (take_put k d ps) e
+
+-- an index stays the index once an equal key's declaration is put
+pub index_put_there : (natives : NativeIndex) (k : Key) (d : Declaration) (ps : Pairs) → IsIndex natives ps → is_none (lookup (key_eq k) ps) ≡ false → IsIndex natives (put k d ps)
+index_put_there natives k d ps index there name =
+    index name ∙ sym (append-nil (places_from 0 name ps)) ∙ ap (λ (b : Bool). places_from 0 name ps ++ cond (b && is_native_of name k) (length ps ∷ []) []) (sym there)
+    ∙ sym (places_put 0 (length ps) name k d ps (omega arith))
+
+-- an index that notes a new key's place is the index once the key is put
+pub index_put_last : (old new : NativeIndex) (k : Key) (d : Declaration) (ps : Pairs) → IsIndex old ps → is_none (lookup (key_eq k) ps) ≡ true
+    → ((name : Bytes) → noted new name ≡ noted old name ++ place_at name (put k d ps) (length ps)) → IsIndex new (put k d ps)
+index_put_last old new k d ps index absent notes name =
+    notes name ∙ ap (λ (o : Option (Key × Declaration)). noted old name ++ cond (option_map_or (λ p. is_native_of name p.0) o false) (length ps ∷ []) []) (slice_last k d ps absent)
+    ∙ ap (λ (xs : List ℕ). xs ++ cond (is_native_of name k) (length ps ∷ []) []) (index name)
+    ∙ ap (λ (b : Bool). places_from 0 name ps ++ cond (b && is_native_of name k) (length ps ∷ []) []) (sym absent)
+    ∙ sym (places_put 0 (length ps) name k d ps (omega arith))
+
+false_unless : (a b : Bool) → (a ≡ true → b ≡ true) → b ≡ false → a ≡ false
+false_unless true b h e = let t : b ≡ true = h refl in absurd cc
+false_unless false b h e = refl
+
+module _ (whole : Pairs) (test : Key → Bool) (name : Bytes) (own : (k : Key) → test k ≡ true → is_native_of name k ≡ true) where
+  any_step : (n : ℕ) (p : Key × Declaration) (ps : Pairs) (b : Bool) → is_native_of name p.0 ≡ b → slice_get whole n ≡ Some p
+      → list_any (λ place. option_map_or (λ p. test p.0) (slice_get whole place) false) (places_from (n + 1) name ps) ≡ list_any (λ p. test p.0) ps
+      → list_any (λ place. option_map_or (λ p. test p.0) (slice_get whole place) false) (cond b (n ∷ places_from (n + 1) name ps) (places_from (n + 1) name ps)) ≡ test p.0 || list_any (λ p. test p.0) ps
+  any_step n p ps true s at ih = rw (at, ih) refl
+  any_step n p ps false s at ih = rw (false_unless (test p.0) (is_native_of name p.0) (own p.0) s) ih
+
+  any_places : (n : ℕ) (ps : Pairs) → ((j : ℕ) → slice_get whole (n + j) ≡ slice_get ps j)
+      → list_any (λ place. option_map_or (λ p. test p.0) (slice_get whole place) false) (places_from n name ps) ≡ list_any (λ p. test p.0) ps
+  any_places n [] at = refl
+  any_places n (p ∷ ps) at =
+      let here : n + 0 ≡ n = omega arith in
+      any_step n p ps (is_native_of name p.0) refl (sym (ap (slice_get whole) here) ∙ at 0)
+      (any_places (n + 1) ps (λ j. let next : n + 1 + j ≡ n + suc j = omega arith in ap (slice_get whole) next ∙ at (suc j)))
+
+text_turned : (a b : Bytes) → text_eq a b ≡ true → text_eq b a ≡ true
+text_turned a b e = (bytes_eq-Decides b a).1 (sym ((bytes_eq-Decides a b).0 e))
+
+first_true : (a b : Bool) → (a && b) ≡ true → a ≡ true
+first_true true b e = refl
+first_true false b e = e
+
+-- a key that matches is a native's of the name
+own_matches : (n : ℕ) (name : Bytes) (kinds : List TypeTag) (k : Key) → key_matches n name kinds k ≡ true → is_native_of name k ≡ true
+own_matches n name kinds (Script path other params) e = absurd cc
+own_matches n name kinds (Typed path other params this_type) e = absurd cc
+own_matches n name kinds (Native None other types) e = text_turned other name (first_true (text_eq other name) (types_match n types kinds) e)
+own_matches n name kinds (Native (Some path) other types) e = absurd cc
+
+-- a search at the places of a name finds what a search of all declarations does
+pub matches_at_places : (natives : NativeIndex) (ps : Pairs) (n : ℕ) (name : Bytes) (kinds : List TypeTag) → IsIndex natives ps
+    → list_any (λ place. option_map_or (λ p. key_matches n name kinds p.0) (slice_get ps place) false) (noted natives name) ≡ list_any (λ p. key_matches n name kinds p.0) ps
+matches_at_places natives ps n name kinds index =
+    ap (list_any (λ place. option_map_or (λ p. key_matches n name kinds p.0) (slice_get ps place) false)) (index name)
+    ∙ any_places ps (key_matches n name kinds) name (own_matches n name kinds) 0 ps (λ j. let same : 0 + j ≡ j = omega arith in ap (slice_get ps) same)

@@ -1,0 +1,8 @@
+pub mod Pairs
+pub mod Marks
+pub mod Paths
+pub mod Indexed
+pub mod Found
+pub mod NativeIndex
+pub mod Scripts
+pub mod Tells
