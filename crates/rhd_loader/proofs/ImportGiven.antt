@@ -7,7 +7,8 @@ use Rattle.rhd_func.specs.declared.func.ScriptFuncDef.{ScriptFuncDef}
 use Rattle.rhd_decl.specs.declared.declaration.Declaration.{Declaration}
 use Rattle.rhd_module.specs.Registered.{put, with_decl, script_key, script_decl}
 use Rattle.rhd_module.specs.Tree.{ModuleTree, Pairs, empty_module}
-use Rattle.rhd_engine.proofs.HeldLaws.{both, parts, stays_held}
+use Rattle.rhd_layers.proofs.Bools.{both, parts}
+use Rattle.rhd_engine.proofs.HeldLaws.{stays_held}
 use Rattle.rhd_resolve.specs.Held.{env_held, own_envs_held, envs_held_below}
 use Rattle.rhd_resolve.specs.Loading.{with_scripts}
 use Rattle.rhd_resolve.specs.Sessions.{Seen, IsMade, IsGiven, AreGiven}

@@ -22,7 +22,8 @@ use Rattle.std.specs.Map.{keys_of}
 use Rattle.rhd_decl.specs.NativeKeys.{native_key}
 use Rattle.rhd_module.specs.Registered.{put, with_decl, unheld, native_at, native_decl, registered_decl, Puts}
 use Rattle.rhd_engine.specs.Engine.{Frame}
-use Rattle.rhd_engine.specs.Registered.{in_first, InFirst, RegistersFirst, RegistersRawFirst, fn_registration, raw_func}
+use Rattle.rhd_layers.specs.FirstModule.{in_first, InFirst, RegistersFirst, RegistersRawFirst}
+use Rattle.rhd_engine.specs.Registered.{fn_registration, raw_func}
 use Rattle.rhd_call.specs.declared.command.Command.{Command}
 use Rattle.rhd_call.specs.declared.command.ModuleId.{ModuleId}
 use Rattle.rhd_call.specs.declared.command.Command.TheVariants as commands

@@ -8,7 +8,7 @@ ghost use Rattle.rhd_text.specs.declared.session.SessionText.{SessionText};
 ghost use Rattle.rhd_syntax.specs.Bytes.{may_end};
 ghost use Rattle.rhd_syntax.specs.Spans.{value, IsValue};
 ghost use Rattle.rhd_text.specs.Proper.{IsProper, depth};
-ghost use Rattle.rhd_engine.specs.Paths.{path_of};
+ghost use Rattle.rhd_layers.specs.Paths.{path_of};
 ghost use Rattle.rhd_print.specs.PrintedValues.{spelled};
 ghost use Rattle.rhd_print.specs.PrintedKeys.{path_name};
 ghost use Rattle.rhd_value.specs.Tree.{Tree};
