@@ -27,7 +27,8 @@ use Rattle.rhd_engine.specs.Engine.{EngineLists, Imports}
 use Rattle.rhd_engine.specs.declared.builtins.Operator.{Operator}
 use Rattle.rhd_engine.specs.Held.{func_held, own_held, below_held, names_held, all_held, named_held, builtins_held}
 use Rattle.rhd_engine.specs.Operators.{operator_eq}
-use Rattle.rhd_engine.proofs.HeldLaws.{parts, found_held, shown_held}
+use Rattle.rhd_layers.proofs.Bools.{parts}
+use Rattle.rhd_engine.proofs.HeldLaws.{found_held, shown_held}
 use Rattle.rhd_engine.proofs.HeldTrees.{looked_up_held}
 use Rattle.rhd_engine.proofs.Tables.{table_held}
 use Rattle.rhd_module.specs.Walk.{tree}

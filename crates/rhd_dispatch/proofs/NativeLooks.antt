@@ -28,8 +28,8 @@ use Rattle.rhd_call.specs.declared.pick.Layer.{Layer}
 use Rattle.rhd_call.specs.declared.pick.Layer.TheVariants.{Library, Global, Import, Static}
 use Rattle.rhd_call.specs.declared.pick.Pick.{Pick}
 use Rattle.rhd_engine.specs.Engine.{EngineLists, Imports}
-use Rattle.rhd_engine.specs.Lists.{all_indexed}
-use Rattle.rhd_engine.proofs.HeldLaws.{parts}
+use Rattle.rhd_layers.specs.Lists.{all_indexed}
+use Rattle.rhd_layers.proofs.Bools.{parts}
 use Rattle.rhd_dispatch.specs.Asks.{native_found}
 use Rattle.rhd_dispatch.specs.Searched.{pick_at, found}
 use Rattle.rhd_dispatch.specs.Walks.{alone, rooted, place_of, place_of_tree, library_places, global_places, import_trees, static_trees, native_in, any_dynamic, may_have, any_may_have, may_list, may_show, any_may_show}

@@ -7,7 +7,7 @@ use Rattle.std.proofs.lemmas.List.{reverse-append, take_more, length-take, lengt
 use Rattle.std.proofs.lemmas.List.FromFn.{length-enumerate_from}
 use Rattle.std.proofs.Math.Seq.{drop-cons}
 use Rattle.rhd_value.specs.Firsts.{first_of}
-use Rattle.rhd_engine.proofs.HeldLaws.{parts}
+use Rattle.rhd_layers.proofs.Bools.{parts}
 use Rattle.rhd_dispatch.proofs.Firsts.{of_append, of_map}
 
 -- Lists of numbers.

@@ -11,7 +11,7 @@ use Rattle.rhd_value.specs.declared.tag.TypeTag.{TypeTag}
 use Rattle.rhd_value.specs.declared.tag.TypeTag.TheVariants.{Dynamic}
 use Rattle.rhd_hash.specs.Matching.{types_match}
 use Rattle.rhd_call.specs.declared.pick.Pick.{Pick}
-use Rattle.rhd_engine.proofs.HeldLaws.{parts}
+use Rattle.rhd_layers.proofs.Bools.{parts}
 use Rattle.rhd_dispatch.specs.Patterns.{patterns_to}
 use Rattle.rhd_dispatch.specs.Walks.{first_match, any_dynamic}
 use Rattle.rhd_dispatch.proofs.Firsts.{or_none, or_nones, or_found, of_append, of_map}

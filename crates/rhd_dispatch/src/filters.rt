@@ -1,7 +1,7 @@
 //! The filters of imports and static modules.
 
 ghost use Rattle.std.specs.Prelude.{◌≡◌, true};
-ghost use Rattle.rhd_engine.specs.Lists.{all_indexed};
+ghost use Rattle.rhd_layers.specs.Lists.{all_indexed};
 ghost use Rattle.rhd_dispatch.specs.Walks.{may_have, any_may_have};
 
 use rhd_engine::ModuleMap;

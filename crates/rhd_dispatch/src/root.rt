@@ -6,7 +6,7 @@ ghost use Rattle.std.specs.Map.{lookup};
 ghost use Rattle.rhd_value.specs.Firsts.{first_of};
 ghost use Rattle.rhd_value.specs.Same.{text_eq};
 ghost use Rattle.rhd_call.specs.declared.pick.Layer.TheVariants.{Import, Static};
-ghost use Rattle.rhd_engine.specs.Lists.{all_indexed};
+ghost use Rattle.rhd_layers.specs.Lists.{all_indexed};
 ghost use Rattle.rhd_engine.specs.Of.{lists_of};
 ghost use Rattle.rhd_dispatch.specs.Picks.{named_places, root_of};
 ghost use Rattle.rhd_dispatch.specs.Walks.{numbered, latest, rooted, named_at};

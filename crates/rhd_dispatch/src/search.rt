@@ -4,7 +4,7 @@ ghost use Rattle.std.specs.Prelude.{◌≡◌, ◌≤◌, ◌+◌, true, IfOk, l
 ghost use Rattle.std.specs.Option.{option_map};
 ghost use Rattle.rhd_value.specs.Firsts.{first_of};
 ghost use Rattle.rhd_call.specs.declared.pick.Layer.TheVariants as layers;
-ghost use Rattle.rhd_engine.specs.Lists.{all_indexed};
+ghost use Rattle.rhd_layers.specs.Lists.{all_indexed};
 ghost use Rattle.rhd_engine.specs.Of.{lists_of};
 ghost use Rattle.rhd_dispatch.specs.Searched.{pick_at, found, searched};
 ghost use Rattle.rhd_dispatch.specs.Walks.{numbered, latest, alone, rooted, in_own, in_tree, picked};

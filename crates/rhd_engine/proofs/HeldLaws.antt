@@ -29,8 +29,9 @@ use Rattle.rhd_table.specs.Pairs.{Pairs, without, put}
 use Rattle.rhd_module.specs.Shown.{shown}
 use Rattle.rhd_module.specs.Registered.{with_decl, Puts, PutsBoth, Registers, RegistersBoth, RegistersRaw}
 use Rattle.rhd_decl.specs.Registration.{unheld, registered_func, pure_by_name, banned, native_at}
+use Rattle.rhd_layers.specs.FirstModule.{in_first, InFirst, RegistersFirst, RegistersBothFirst, RegistersRawFirst}
+use Rattle.rhd_layers.proofs.Bools.{both, parts}
 use Rattle.rhd_engine.specs.Held.{func_held, own_held, below_held, names_held, all_held}
-use Rattle.rhd_engine.specs.Registered.{in_first, InFirst, RegistersFirst, RegistersBothFirst, RegistersRawFirst}
 
 abbrev pub is_held : ℕ → Declaration → Bool
 is_held n d = func_held n d.func
@@ -40,15 +41,6 @@ pairs_held n ps = list_all (λ p. is_held n p.1) ps
 
 abbrev pub listed_held : ℕ → List Entry → Bool
 listed_held n es = list_all (λ e. nat_lt e.func.0 n) es
-
-pub both : (a b : Bool) → a ≡ true → b ≡ true → (a && b) ≡ true
-both true true p q = refl
-both true false p q = q
-both false b p q = p
-
-pub parts : (a b : Bool) → (a && b) ≡ true → (a ≡ true) × (b ≡ true)
-parts true b e = (refl, e)
-parts false b e = absurd cc
 
 put_step : (n : ℕ) (k : Key) (d : Declaration) (p : Key × Declaration) (ps : Pairs) (same : Bool) → is_held n d ≡ true → pairs_held n (p ∷ ps) ≡ true → pairs_held n (put k d ps) ≡ true
     → pairs_held n (cond same ((p.0, d) ∷ ps) (p ∷ put k d ps)) ≡ true

@@ -9,8 +9,9 @@ use Rattle.rhd_module.specs.Lazy.{with_registered, registered_subs, registered_t
 use Rattle.rhd_module.specs.Manifests.{lazy, registered, registered_pairs}
 use Rattle.rhd_table.specs.Pairs.{put_back, put_all, put, Pairs}
 use Rattle.rhd_module.specs.Tree.{ModuleTree, Subs, no_subs, sub}
+use Rattle.rhd_layers.proofs.Bools.{both, parts}
 use Rattle.rhd_engine.specs.Held.{own_held, below_held, names_held}
-use Rattle.rhd_engine.proofs.HeldLaws.{both, parts, is_held, listed_held, pairs_held, put_held}
+use Rattle.rhd_engine.proofs.HeldLaws.{is_held, listed_held, pairs_held, put_held}
 use Rattle.rhd_engine.proofs.HeldTrees.{three}
 
 pub put_back_held : (n : ℕ) (ps qs : Pairs) → pairs_held n ps ≡ true → pairs_held n qs ≡ true → pairs_held n (put_back ps qs) ≡ true

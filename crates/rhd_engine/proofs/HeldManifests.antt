@@ -21,8 +21,9 @@ use Rattle.rhd_module.specs.Made.{with_subs, own_made, made_to, made}
 use Rattle.rhd_module.specs.Manifests.{combined}
 use Rattle.rhd_module.specs.Contents.{with_sub}
 use Rattle.rhd_module.specs.Tree.{ModuleTree}
+use Rattle.rhd_layers.proofs.Bools.{both, parts}
 use Rattle.rhd_engine.specs.Held.{own_held, below_held, names_held, table_held}
-use Rattle.rhd_engine.proofs.HeldLaws.{both, parts, listed_held, pairs_held, infos_count}
+use Rattle.rhd_engine.proofs.HeldLaws.{listed_held, pairs_held, infos_count}
 use Rattle.rhd_engine.proofs.HeldTrees.{sub_held}
 
 -- Lists.

@@ -19,10 +19,11 @@ use Rattle.rhd_module.specs.Shown.{shown}
 use Rattle.rhd_module.specs.Contents.{with_sub, put_sub, find_sub}
 use Rattle.rhd_table.specs.Paths.{unpathed, pathed, pairs_at}
 use Rattle.rhd_module.specs.Walk.{below as pairs_below, tree}
+use Rattle.rhd_layers.specs.Lists.{Imports, module_of, put_module, second}
+use Rattle.rhd_layers.proofs.Bools.{both, parts}
+use Rattle.rhd_layers.proofs.Indexed.{all_put, all_found}
 use Rattle.rhd_engine.specs.Held.{func_held, own_held, below_held, names_held, all_held, named_held}
-use Rattle.rhd_engine.specs.Lists.{Imports, module_of, put_module, second}
-use Rattle.rhd_engine.proofs.HeldLaws.{is_held, pairs_held, both, parts, found_held, shown_held}
-use Rattle.rhd_engine.proofs.Indexed.{all_put, all_found}
+use Rattle.rhd_engine.proofs.HeldLaws.{is_held, pairs_held, found_held, shown_held}
 
 pub three : (a b c : Bool) → a ≡ true → b ≡ true → c ≡ true → (a && (b && c)) ≡ true
 three a b c p q r = both a (b && c) p (both b c q r)

@@ -2,11 +2,8 @@ pub mod HeldLaws
 pub mod HeldTrees
 pub mod HeldManifests
 pub mod HeldLazy
-pub mod Indexed
-pub mod PathLaws
-pub mod Placed
+pub mod HeldStatics
 pub mod Tables
-pub mod Registers
 pub mod NativeSays
 pub mod Unfound
 pub mod NotFoundSamples

@@ -5,10 +5,10 @@ use Rattle.std.specs.List.{AllZip}
 use Rattle.std.specs.Map.{lookup}
 use Rattle.rhd_value.specs.declared.tag.FnId.{FnId}
 use Rattle.indexmap.specs.IndexMap.{insert_entry}
+use Rattle.rhd_layers.proofs.Bools.{parts}
 use Rattle.rhd_engine.specs.Engine.{Operator}
 use Rattle.rhd_engine.specs.Held.{builtins_held}
 use Rattle.rhd_engine.specs.Operators.{operator_eq, put_builtin}
-use Rattle.rhd_engine.proofs.HeldLaws.{parts}
 
 pub put_is : (o : Operator) (id : FnId) (bs : List (Operator × FnId)) → insert_entry operator_eq bs o id ≡ put_builtin o id bs
 put_is o id [] = refl

@@ -5,7 +5,7 @@ use Rattle.rhd_hash.specs.declared.mixer.Seeds.{Seeds}
 use Rattle.rhd_func.specs.Natives.{NativeInfo}
 use Rattle.rhd_manifest.specs.Manifest.{ManifestLists}
 use Rattle.rhd_module.specs.Tree.{ModuleTree}
-pub use Rattle.rhd_engine.specs.Lists.{Imports}
+pub use Rattle.rhd_layers.specs.Lists.{Imports}
 pub use Rattle.rhd_engine.specs.declared.builtins.Operator.{Operator}
 use Rattle.rhd_engine.specs.declared.limits.Limits.{Limits}
 use Rattle.rhd_engine.specs.declared.limits.Printers.{Printers}

@@ -6,8 +6,8 @@ use Rattle.rhd_func.specs.declared.func.RhaiFunc.{RhaiFunc}
 use Rattle.rhd_func.specs.declared.func.RhaiFunc.TheVariants.{Pure, Method, Iterator, Plugin, StaticPlugin, Script}
 use Rattle.rhd_manifest.specs.Manifest.{ManifestLists}
 use Rattle.rhd_module.specs.Tree.{ModuleTree, Lists, Subs, no_subs, sub}
+use Rattle.rhd_layers.specs.Lists.{Imports}
 use Rattle.rhd_engine.specs.declared.builtins.Operator.{Operator}
-use Rattle.rhd_engine.specs.Lists.{Imports}
 
 -- the function can be called: its native has a number below this one; a script has a body, and a function that iterates isn't called
 abbrev pub func_held : ℕ → RhaiFunc → Bool

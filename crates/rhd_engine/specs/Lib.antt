@@ -1,10 +1,7 @@
 pub mod Operators
-pub mod Lists
 pub mod Engine
 pub mod Start
 pub mod Held
-pub mod Paths
-pub mod Statics
 pub mod Of
 pub mod Registered
 pub mod Display

@@ -5,10 +5,9 @@ ghost use Rattle.rhd_engine.specs.Held.{all_held, named_held, builtins_held, tab
 
 use crate::builtins::Builtins;
 use crate::limits::{Limits, Printers};
-use crate::lists::ModuleList;
-use crate::statics::ModuleMap;
 use rhd_func::Natives;
 use rhd_hash::Seeds;
+use rhd_layers::{ModuleList, ModuleMap};
 use rhd_manifest::Manifests;
 use rhd_module::{Module, SharedModule};
 use rhd_value::OutOfMemory;

@@ -7,24 +7,17 @@ mod display;
 mod engine;
 mod law;
 mod limits;
-mod lists;
 mod missing;
-mod parts;
-mod paths;
-mod placing;
 mod registering;
 mod state;
-mod statics;
 
 pub use builtins::{Builtins, Operator};
 pub use engine::Engine;
 pub use law::a_builtin_leaves_the_others;
 pub use limits::{Limits, Printers};
-pub use lists::{ImportList, ModuleList};
 pub use missing::path_text;
-pub use paths::path_of;
 pub use registering::{
     RegisterIntoEngine, fn_registration, for_all_calls, raw_func, raw_registration,
 };
+pub use rhd_layers::{ImportList, ModuleList, ModuleMap, path_of};
 pub use state::GlobalRuntimeState;
-pub use statics::ModuleMap;

@@ -6,12 +6,13 @@ ghost use Rattle.rhd_func.specs.Infos.{infos_of};
 ghost use Rattle.rhd_decl.specs.declared.fault.DeclFault.TheVariants.{OutOfMemory as no_memory};
 ghost use Rattle.rhd_module.specs.Contents.{with_type};
 ghost use Rattle.rhd_decl.specs.Registration.{native_at, params_by_type, global_registration, getter_name, setter_name};
+ghost use Rattle.rhd_layers.specs.Lists.{second};
+ghost use Rattle.rhd_layers.specs.Statics.{Places};
+ghost use Rattle.rhd_layers.specs.FirstModule.{in_first, RegistersFirst, RegistersRawFirst, FirstTells};
 ghost use Rattle.rhd_engine.specs.Engine.{GlobalsAlone, StaticsAlone};
 ghost use Rattle.rhd_engine.specs.Held.{names_held};
-ghost use Rattle.rhd_engine.specs.Lists.{second};
 ghost use Rattle.rhd_engine.specs.Of.{lists_of};
-ghost use Rattle.rhd_engine.specs.Statics.{Places};
-ghost use Rattle.rhd_engine.specs.Registered.{fn_registration, for_all_calls, raw_func, custom_name, in_first, RegistersFirst, RegistersPair, RegistersRawFirst, FirstTells};
+ghost use Rattle.rhd_engine.specs.Registered.{fn_registration, for_all_calls, raw_func, custom_name, RegistersPair};
 
 use crate::engine::Engine;
 use rhd_func::{Natives, PluginFunc, RhaiFunc};

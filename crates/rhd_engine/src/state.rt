@@ -2,11 +2,11 @@
 
 ghost use Rattle.std.specs.Prelude.{◌≡◌, ◌++◌, ◌∷◌, [], true, if◌then◌else◌, is_ok, IfOk};
 ghost use Rattle.std.specs.Option.{option_copied};
-ghost use Rattle.rhd_engine.specs.Lists.{Popped, latest_of};
+ghost use Rattle.rhd_layers.specs.Lists.{Popped, latest_of};
 ghost use Rattle.rhd_engine.specs.Start.{start_frame};
 
-use crate::lists::{ImportList, ModuleList};
 use rhd_func::{SharedText, share};
+use rhd_layers::{ImportList, ModuleList};
 use rhd_module::SharedModule;
 use rhd_value::{Dynamic, OutOfMemory, Text, Value};
 use std::alloc::Global;

@@ -9,7 +9,8 @@ use Rattle.rhd_table.specs.Pairs.{put, Pairs}
 use Rattle.rhd_module.specs.Registered.{with_decl}
 use Rattle.rhd_decl.specs.Registration.{script_key, script_decl}
 use Rattle.rhd_module.specs.Tree.{ModuleTree, empty_module}
-use Rattle.rhd_engine.proofs.HeldLaws.{both, parts, stays_held}
+use Rattle.rhd_layers.proofs.Bools.{both, parts}
+use Rattle.rhd_engine.proofs.HeldLaws.{stays_held}
 use Rattle.rhd_resolve.specs.Held.{env_held, own_envs_held, envs_held_below}
 use Rattle.rhd_resolve.specs.Loading.{with_scripts}
 use Rattle.rhd_resolve.specs.Sessions.{Seen, IsMade, IsGiven, AreGiven}

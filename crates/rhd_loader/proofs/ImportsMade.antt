@@ -10,7 +10,7 @@ use Rattle.rhd_decl.specs.declared.fault.DeclFault.{DeclFault}
 use Rattle.rhd_decl.specs.declared.fault.DeclFault.TheVariants.{HashCollision, IndexerNotAllowed, NotCallable, UnknownNumber, OutOfMemory}
 use Rattle.rhd_table.specs.Indexed.{IsClash}
 use Rattle.rhd_module.specs.Walk.{tree}
-use Rattle.rhd_engine.specs.Lists.{Imports}
+use Rattle.rhd_layers.specs.Lists.{Imports}
 use Rattle.rhd_loader.specs.Imports.{ImportedScripts}
 use Rattle.rhd_loader.specs.Loads.{import_of, imports_of}
 use Rattle.rhd_loader.specs.Making.{ToldClash, SomeClash}

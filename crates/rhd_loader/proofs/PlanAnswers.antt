@@ -10,7 +10,7 @@ use Rattle.rhd_hash.specs.declared.key.Key.{Key}
 use Rattle.rhd_hash.specs.declared.mixer.Seeds.{Seeds}
 use Rattle.rhd_func.specs.declared.func.ScriptFuncDef.{ScriptFuncDef}
 use Rattle.rhd_manifest.specs.Manifest.{ManifestLists}
-use Rattle.rhd_engine.specs.Lists.{Imports}
+use Rattle.rhd_layers.specs.Lists.{Imports}
 use Rattle.rhd_table.specs.Indexed.{NoneClash}
 use Rattle.rhd_module.specs.Tree.{empty_module}
 use Rattle.rhd_module.proofs.Fills.{none_clash}

@@ -14,7 +14,7 @@ use Rattle.rhd_table.specs.Indexed.{NoneClash}
 use Rattle.rhd_module.specs.Index.{indexed}
 use Rattle.rhd_module.specs.Tree.{ModuleTree, empty_module}
 use Rattle.rhd_module.specs.Walk.{tree}
-use Rattle.rhd_engine.specs.Lists.{Imports}
+use Rattle.rhd_layers.specs.Lists.{Imports}
 use Rattle.rhd_resolve.specs.declared.fault.ResolveFault.{ResolveFault}
 use Rattle.rhd_resolve.specs.declared.fault.ResolveFault.TheVariants as refusal
 use Rattle.rhd_resolve.specs.declared.loaded.LoadedScript.{LoadedScript}

@@ -11,7 +11,7 @@ use Rattle.rhd_module.specs.Tree.{ModuleTree}
 use Rattle.rhd_call.specs.declared.pick.Pick.{Pick}
 use Rattle.rhd_engine.specs.Engine.{Frame, Imports}
 use Rattle.rhd_engine.specs.Held.{names_held, all_held, named_held}
-use Rattle.rhd_engine.proofs.HeldLaws.{both, parts}
+use Rattle.rhd_layers.proofs.Bools.{both, parts}
 use Rattle.rhd_resolve.specs.declared.environs.EncapsulatedEnviron.{EncapsulatedEnviron}
 use Rattle.rhd_machine.specs.Entered.{with_environ, in_environ, entered_by, entered}
 use Rattle.rhd_machine.specs.Held.{frame_held, environ_held, environs_held}

@@ -13,7 +13,7 @@ use Rattle.rhd_call.specs.declared.pick.Pick.{Pick}
 use Rattle.rhd_call.specs.End.{End, failed}
 use Rattle.rhd_engine.specs.Engine.{EngineLists, Frame}
 use Rattle.rhd_engine.specs.Held.{func_held, all_held, named_held, builtins_held}
-use Rattle.rhd_engine.proofs.HeldLaws.{parts}
+use Rattle.rhd_layers.proofs.Bools.{parts}
 use Rattle.rhd_engine.specs.NotFound.{path_text}
 use Rattle.rhd_dispatch.specs.Picks.{root_of}
 use Rattle.rhd_dispatch.specs.Races.{data_race, locked_text}

@@ -6,7 +6,7 @@ use Rattle.rhd_module.specs.Contents.{put_sub}
 use Rattle.rhd_module.specs.Manifests.{with_contents}
 use Rattle.rhd_module.specs.Tree.{ModuleTree, Subs}
 use Rattle.rhd_module.proofs.Combined.{vars_append}
-use Rattle.rhd_engine.specs.Lists.{Imports}
+use Rattle.rhd_layers.specs.Lists.{Imports}
 use Rattle.rhd_resolve.specs.declared.loaded.ScopeEntry.{ScopeEntry}
 use Rattle.rhd_resolve.specs.Loading.{value_named, named_values, imported}
 

@@ -7,8 +7,8 @@ use Rattle.rhd_func.specs.declared.access.EnvId.{EnvId}
 use Rattle.rhd_func.specs.declared.func.RhaiFunc.{RhaiFunc}
 use Rattle.rhd_func.specs.declared.func.RhaiFunc.TheVariants as funcs
 use Rattle.rhd_module.specs.Tree.{ModuleTree, Lists, Subs, no_subs, sub}
-use Rattle.rhd_engine.specs.Lists.{Imports}
-use Rattle.rhd_engine.proofs.HeldLaws.{both, parts}
+use Rattle.rhd_layers.specs.Lists.{Imports}
+use Rattle.rhd_layers.proofs.Bools.{both, parts}
 use Rattle.rhd_engine.proofs.HeldTrees.{three}
 use Rattle.rhd_resolve.specs.Held.{env_below, env_held, own_envs_held, envs_held_below, envs_held}
 use Rattle.rhd_resolve.specs.Sessions.{Seen, with_envs, IsMade, IsGiven, AreGiven}

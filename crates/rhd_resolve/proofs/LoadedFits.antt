@@ -22,8 +22,9 @@ use Rattle.rhd_module.specs.Registered.{with_decl}
 use Rattle.rhd_decl.specs.Registration.{script_key, script_decl}
 use Rattle.rhd_module.specs.Tree.{ModuleTree, Lists, Subs, no_subs, sub}
 use Rattle.rhd_engine.specs.Held.{own_held, below_held}
-use Rattle.rhd_engine.specs.Lists.{Imports}
-use Rattle.rhd_engine.proofs.HeldLaws.{both, parts, stays_held}
+use Rattle.rhd_layers.specs.Lists.{Imports}
+use Rattle.rhd_layers.proofs.Bools.{both, parts}
+use Rattle.rhd_engine.proofs.HeldLaws.{stays_held}
 use Rattle.rhd_engine.proofs.HeldTrees.{three, put_sub_held}
 use Rattle.rhd_resolve.specs.declared.loaded.LoadedScript.{LoadedScript}
 use Rattle.rhd_resolve.specs.Environs.{Envs, next_env, with_env}

@@ -18,7 +18,7 @@ use Rattle.rhd_module.specs.Registered.{with_decl}
 use Rattle.rhd_decl.specs.Registration.{script_key, script_decl}
 use Rattle.rhd_module.specs.Tree.{ModuleTree, Subs, no_subs, empty_module}
 use Rattle.rhd_module.specs.Walk.{tree}
-use Rattle.rhd_engine.specs.Lists.{Imports}
+use Rattle.rhd_layers.specs.Lists.{Imports}
 use Rattle.rhd_resolve.specs.declared.environs.EncapsulatedEnviron.{EncapsulatedEnviron}
 use Rattle.rhd_resolve.specs.declared.loaded.LoadedScript.{LoadedScript}
 use Rattle.rhd_resolve.specs.declared.loaded.ScopeEntry.{ScopeEntry}

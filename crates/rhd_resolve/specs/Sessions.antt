@@ -8,7 +8,7 @@ use Rattle.rhd_manifest.specs.Manifest.{ManifestLists}
 use Rattle.rhd_manifest.specs.Rank.{rank}
 use Rattle.rhd_module.specs.Tree.{ModuleTree, Lists, Subs, no_subs, sub}
 use Rattle.rhd_engine.specs.Held.{names_held}
-use Rattle.rhd_engine.specs.Lists.{Imports}
+use Rattle.rhd_layers.specs.Lists.{Imports}
 use Rattle.rhd_resolve.specs.declared.environs.EncapsulatedEnviron.{EncapsulatedEnviron}
 use Rattle.rhd_resolve.specs.declared.loaded.LoadedScript.{LoadedScript}
 use Rattle.rhd_resolve.specs.Environs.{Envs, with_env}

@@ -16,8 +16,8 @@ use Rattle.rhd_module.specs.Walk.{tree}
 use Rattle.rhd_table.specs.Indexed.{NoneClash}
 use Rattle.rhd_module.specs.Index.{Indexes, indexed}
 use Rattle.rhd_engine.specs.Engine.{Frame, Imports}
-use Rattle.rhd_engine.specs.Lists.{second}
-use Rattle.rhd_engine.specs.Statics.{with_static, made_static, Places}
+use Rattle.rhd_layers.specs.Lists.{second}
+use Rattle.rhd_layers.specs.Statics.{with_static, made_static, Places}
 use Rattle.rhd_call.specs.declared.command.Command.{Command}
 use Rattle.rhd_call.specs.declared.command.ModuleId.{ModuleId}
 use Rattle.rhd_call.specs.declared.command.Command.TheVariants as commands

@@ -24,7 +24,8 @@ use Rattle.rhd_table.specs.Pairs.{put}
 use Rattle.rhd_module.specs.Registered.{with_decl, Puts}
 use Rattle.rhd_decl.specs.Registration.{unheld, native_at, native_decl, registered_decl}
 use Rattle.rhd_engine.specs.Engine.{Frame}
-use Rattle.rhd_engine.specs.Registered.{in_first, InFirst, RegistersFirst, RegistersRawFirst, fn_registration, raw_func}
+use Rattle.rhd_layers.specs.FirstModule.{in_first, InFirst, RegistersFirst, RegistersRawFirst}
+use Rattle.rhd_engine.specs.Registered.{fn_registration, raw_func}
 use Rattle.rhd_call.specs.declared.command.Command.{Command}
 use Rattle.rhd_call.specs.declared.command.ModuleId.{ModuleId}
 use Rattle.rhd_call.specs.declared.command.Command.TheVariants as commands

@@ -10,9 +10,9 @@ use Rattle.rhd_manifest.specs.Manifest.{ManifestLists}
 use Rattle.rhd_module.specs.Tree.{ModuleTree}
 use Rattle.rhd_engine.specs.Engine.{Frame, Imports}
 use Rattle.rhd_engine.specs.Held.{names_held, all_held, named_held}
-use Rattle.rhd_engine.specs.Lists.{with_last, Popped}
-use Rattle.rhd_engine.proofs.HeldLaws.{both, parts}
-use Rattle.rhd_engine.proofs.Indexed.{all_last}
+use Rattle.rhd_layers.specs.Lists.{with_last, Popped}
+use Rattle.rhd_layers.proofs.Bools.{both, parts}
+use Rattle.rhd_layers.proofs.Indexed.{all_last}
 use Rattle.rhd_call.specs.declared.reply.Reply.{Reply}
 use Rattle.rhd_call.specs.declared.reply.Reply.TheVariants.{Done, Fault, Refused}
 use Rattle.rhd_decl.specs.declared.fault.DeclFault.TheVariants.{HashCollision}

@@ -15,7 +15,8 @@ use Rattle.rhd_table.specs.Pairs.{put_all, put_back, without, Pairs}
 use Rattle.rhd_module.specs.Shown.{shown}
 use Rattle.rhd_module.specs.Tree.{ModuleTree, Lists, Subs, no_subs, sub, empty_module}
 use Rattle.rhd_engine.specs.Held.{own_held, below_held, names_held}
-use Rattle.rhd_engine.proofs.HeldLaws.{both, parts, is_held, kept_held, listed_held, pairs_held}
+use Rattle.rhd_layers.proofs.Bools.{both, parts}
+use Rattle.rhd_engine.proofs.HeldLaws.{is_held, kept_held, listed_held, pairs_held}
 use Rattle.rhd_engine.proofs.HeldLazy.{put_all_held, put_back_held}
 use Rattle.rhd_engine.proofs.HeldTrees.{put_sub_held}
 use Rattle.rhd_session.specs.declared.joining.Join.{Join}

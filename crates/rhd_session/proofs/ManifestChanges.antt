@@ -30,7 +30,7 @@ use Rattle.rhd_module.proofs.Fills.{none_clash}
 use Rattle.rhd_module.proofs.LazyParts.{all_append}
 use Rattle.rhd_engine.specs.Engine.{Frame}
 use Rattle.rhd_engine.specs.Held.{names_held, all_held}
-use Rattle.rhd_engine.proofs.HeldLaws.{both, parts}
+use Rattle.rhd_layers.proofs.Bools.{both, parts}
 use Rattle.rhd_call.specs.declared.command.Command.{Command}
 use Rattle.rhd_call.specs.declared.command.Command.TheVariants as commands
 use Rattle.rhd_call.specs.declared.command.ModuleId.{ModuleId}

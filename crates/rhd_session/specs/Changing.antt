@@ -16,7 +16,7 @@ use Rattle.rhd_module.specs.Tree.{ModuleTree}
 use Rattle.rhd_module.specs.Algebra.{combined_with, flattened_with, filled_with, merged_with, merged_all}
 use Rattle.rhd_decl.specs.Registration.{unheld}
 use Rattle.rhd_engine.specs.Engine.{Frame}
-use Rattle.rhd_engine.specs.Lists.{with_last}
+use Rattle.rhd_layers.specs.Lists.{with_last}
 use Rattle.rhd_call.specs.declared.command.Command.{Command}
 use Rattle.rhd_call.specs.declared.command.Command.TheVariants as commands
 use Rattle.rhd_call.specs.declared.command.ModuleId.{ModuleId}

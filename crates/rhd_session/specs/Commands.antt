@@ -35,10 +35,11 @@ use Rattle.rhd_module.specs.Contents.{with_id, with_doc, with_var, with_type, wi
 use Rattle.rhd_decl.specs.NativeKeys.{native_key}
 use Rattle.rhd_module.specs.Registered.{with_decl}
 use Rattle.rhd_decl.specs.Registration.{native_at, native_decl, registered_decl, new_registration, script_key, script_decl, banned}
-use Rattle.rhd_engine.specs.Registered.{in_first, fn_registration, raw_func}
+use Rattle.rhd_layers.specs.FirstModule.{in_first}
+use Rattle.rhd_engine.specs.Registered.{fn_registration, raw_func}
 use Rattle.rhd_engine.specs.Engine.{Frame, Imports}
-use Rattle.rhd_engine.specs.Lists.{second}
-use Rattle.rhd_engine.specs.Statics.{with_static, made_static}
+use Rattle.rhd_layers.specs.Lists.{second}
+use Rattle.rhd_layers.specs.Statics.{with_static, made_static}
 use Rattle.rhd_call.specs.declared.command.Command.{Command}
 use Rattle.rhd_call.specs.declared.command.Command.TheVariants as commands
 use Rattle.rhd_call.specs.declared.command.ModuleId.{ModuleId}

@@ -2,7 +2,7 @@
 use Rattle.std.proofs.Common.{◌≡◌, ℕ, Bool, true, false, cond, ◌&&◌, eqb, List, [], ◌∷◌, ◌++◌, refl, sym, ap, ◌∙◌}
 use Rattle.std.specs.List.{flat_map}
 use Rattle.std.proofs.lemmas.Bool.{eqb-true}
-use Rattle.rhd_engine.specs.Paths.{with_byte, path_of}
+use Rattle.rhd_layers.specs.Paths.{with_byte, path_of}
 use Rattle.rhd_syntax.proofs.Agrees.{and_parts}
 use Rattle.rhd_print.specs.PrintedKeys.{path_name}
 

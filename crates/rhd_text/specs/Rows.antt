@@ -26,12 +26,12 @@ use Rattle.rhd_text.specs.declared.place.Place.{Place}
 use Rattle.rhd_syntax.specs.declared.arguments.Argument.{Argument}
 use Rattle.rhd_syntax.specs.declared.arguments.Argument.TheVariants as argument
 use Rattle.rhd_syntax.specs.declared.arguments.Arguments.{Arguments}
-use Rattle.rhd_text.specs.declared.body.BodyEnd.{BodyEnd}
-use Rattle.rhd_text.specs.declared.body.BodyEnd.TheVariants.{Ret, RetGiven, Fail}
-use Rattle.rhd_text.specs.declared.body.CallPlan.{CallPlan}
+use Rattle.rhd_plan.specs.declared.body.BodyEnd.{BodyEnd}
+use Rattle.rhd_plan.specs.declared.body.BodyEnd.TheVariants.{Ret, RetGiven, Fail}
+use Rattle.rhd_plan.specs.declared.body.CallPlan.{CallPlan}
 use Rattle.rhd_syntax.specs.declared.printers.Printer.{Printer}
-use Rattle.rhd_text.specs.declared.part.Part.{Part}
-use Rattle.rhd_text.specs.declared.part.Part.TheVariants as parts
+use Rattle.rhd_plan.specs.declared.part.Part.{Part}
+use Rattle.rhd_plan.specs.declared.part.Part.TheVariants as parts
 use Rattle.rhd_text.specs.declared.keyword.CallWord.{CallWord}
 use Rattle.rhd_text.specs.declared.keyword.CallWord.TheVariants as words
 use Rattle.rhd_text.specs.declared.keyword.ManifestWord.{ManifestWord}
@@ -44,7 +44,7 @@ use Rattle.rhd_text.specs.declared.requests.Handing.{Handing}
 use Rattle.rhd_text.specs.declared.requests.Handing.TheVariants as handings
 use Rattle.rhd_syntax.specs.Arguments.{no_arguments, with_argument, joined}
 use Rattle.rhd_syntax.specs.Operators.{operator_of}
-use Rattle.rhd_engine.specs.Paths.{path_of}
+use Rattle.rhd_layers.specs.Paths.{path_of}
 
 -- an operand of a line: the name of a call; a text, quoted or not; texts between brackets; a number of 32 or of 64 bits;
 -- one argument, or arguments up to the end of the line, which may be given ones or not; a word that may be left out; the

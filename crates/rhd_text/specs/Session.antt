@@ -19,14 +19,14 @@ use Rattle.rhd_engine.specs.declared.limits.Limits.{Limits}
 use Rattle.rhd_engine.specs.declared.limits.Printers.{Printers}
 use Rattle.rhd_text.specs.declared.fault.TextFault.{TextFault}
 use Rattle.rhd_text.specs.declared.fault.TextFault.TheVariants.{BadLine, OutOfMemory}
-use Rattle.rhd_text.specs.declared.session.SessionText.{SessionText}
-use Rattle.rhd_text.specs.declared.body.CallPlan.{CallPlan}
-use Rattle.rhd_text.specs.declared.body.BodyEnd.{BodyEnd}
-use Rattle.rhd_text.specs.declared.body.BodyPlan.{BodyPlan}
+use Rattle.rhd_plan.specs.declared.session.SessionText.{SessionText}
+use Rattle.rhd_plan.specs.declared.body.CallPlan.{CallPlan}
+use Rattle.rhd_plan.specs.declared.body.BodyEnd.{BodyEnd}
+use Rattle.rhd_plan.specs.declared.body.BodyPlan.{BodyPlan}
 use Rattle.rhd_syntax.specs.declared.printers.Printer.{Printer}
 use Rattle.rhd_syntax.specs.declared.printers.Printer.TheVariants as printers
-use Rattle.rhd_text.specs.declared.part.Part.{Part}
-use Rattle.rhd_text.specs.declared.part.Part.TheVariants as parts
+use Rattle.rhd_plan.specs.declared.part.Part.{Part}
+use Rattle.rhd_plan.specs.declared.part.Part.TheVariants as parts
 use Rattle.rhd_syntax.specs.Reading.{◌>>=◌}
 use Rattle.rhd_text.specs.Grammar.{IsLine}
 

@@ -1,7 +1,7 @@
 //! One call line by itself.
 
 ghost use Rattle.std.specs.Prelude.{◌≡◌, IfOk, Some};
-ghost use Rattle.rhd_text.specs.declared.part.Part.TheVariants as parts;
+ghost use Rattle.rhd_plan.specs.declared.part.Part.TheVariants as parts;
 ghost use Rattle.rhd_text.specs.Grammar.{IsCallOrNone};
 ghost use Rattle.rhd_text.specs.ReadRows.{request_in};
 

@@ -2,7 +2,7 @@ use Rattle.std.proofs.Common.{◌≡◌, ◌+◌, true, length}
 use Rattle.std.specs.List.{enumerate_from}
 use Rattle.rhd_value.specs.Firsts.{first_of}
 use Rattle.rhd_call.specs.declared.pick.Layer.TheVariants.{Static}
-use Rattle.rhd_engine.specs.Lists.{all_indexed}
+use Rattle.rhd_layers.specs.Lists.{all_indexed}
 use Rattle.rhd_dispatch.specs.Walks.{named_at, numbered}
 use Rattle.rhd_dispatch.proofs.root.static_root.Given as goal
 

@@ -1,7 +1,7 @@
 use Rattle.std.proofs.Common.{◌≡◌, ◌+◌, true, length}
 use Rattle.std.specs.List.{enumerate_from}
 use Rattle.rhd_call.specs.declared.pick.Layer.TheVariants.{Static}
-use Rattle.rhd_engine.specs.Lists.{all_indexed}
+use Rattle.rhd_layers.specs.Lists.{all_indexed}
 use Rattle.rhd_dispatch.specs.Walks.{in_tree, numbered}
 use Rattle.rhd_dispatch.proofs.Passes.{Passed}
 use Rattle.rhd_dispatch.proofs.search.find_static.Given as goal

@@ -1,6 +1,6 @@
 use Rattle.std.proofs.Common.{◌≡◌, Bool, List, length, ap, sym, ◌∙◌}
 use Rattle.rhd_engine.specs.Engine.{Imports}
-use Rattle.rhd_engine.specs.Lists.{all_indexed}
+use Rattle.rhd_layers.specs.Lists.{all_indexed}
 use Rattle.rhd_module.specs.Tree.{ModuleTree}
 use Rattle.rhd_dispatch.specs.Walks.{any_may_have, any_may_show}
 use Rattle.rhd_dispatch.proofs.NativeLooks.{not_found}

@@ -1,6 +1,6 @@
 use Rattle.std.proofs.Common.{length, refl}
 use Rattle.rhd_engine.specs.Of.{lists_of}
-use Rattle.rhd_engine.proofs.Placed.{places_held}
+use Rattle.rhd_engine.proofs.HeldStatics.{places_held}
 use Rattle.rhd_engine.proofs.engine.Engine.register_static_module.Goals as goal
 
 pub invariant_of-self : goal.invariant_of-self

@@ -3,7 +3,7 @@ use Rattle.rhd_module.specs.Tree.{ModuleTree}
 use Rattle.rhd_call.specs.declared.command.Command.TheVariants as commands
 use Rattle.rhd_session.specs.Of.{world_of, frame_of}
 use Rattle.rhd_engine.specs.Of.{lists_of}
-use Rattle.rhd_engine.specs.Lists.{second}
+use Rattle.rhd_layers.specs.Lists.{second}
 use Rattle.rhd_session.proofs.Declared.{goes_refused, refused_first, global_goes, at_place}
 use Rattle.rhd_session.proofs.GlobalChanges.{globals_left}
 use Rattle.rhd_session.proofs.session_core.SessionCore.global_module.Goals as goal

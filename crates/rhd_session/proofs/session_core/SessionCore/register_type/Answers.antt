@@ -1,7 +1,7 @@
 use Rattle.std.proofs.Common.{[], refl, ◌∙◌}
 use Rattle.rhd_module.specs.Contents.{with_type}
 use Rattle.rhd_engine.specs.Of.{lists_of}
-use Rattle.rhd_engine.specs.Registered.{in_first}
+use Rattle.rhd_layers.specs.FirstModule.{in_first}
 use Rattle.rhd_session.specs.Of.{world_of, frame_of}
 use Rattle.rhd_session.proofs.GlobalChanges.{type_goes, globals_left}
 use Rattle.rhd_session.proofs.session_core.SessionCore.register_type.Goals as goal

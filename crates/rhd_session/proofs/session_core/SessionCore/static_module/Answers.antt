@@ -4,9 +4,9 @@ use Rattle.rhd_module.specs.Tree.{ModuleTree}
 use Rattle.rhd_call.specs.declared.command.Command.TheVariants as commands
 use Rattle.rhd_session.specs.Of.{world_of, frame_of}
 use Rattle.rhd_engine.specs.Of.{lists_of}
-use Rattle.rhd_engine.specs.Statics.{Places}
+use Rattle.rhd_layers.specs.Statics.{Places}
 use Rattle.rhd_engine.proofs.HeldLaws.{all_at}
-use Rattle.rhd_engine.proofs.Placed.{places_held}
+use Rattle.rhd_engine.proofs.HeldStatics.{places_held}
 use Rattle.rhd_session.proofs.Declared.{goes_refused, refused_first, static_goes, at_place}
 use Rattle.rhd_session.proofs.session_core.SessionCore.static_module.Goals as goal
 

@@ -1,5 +1,0 @@
-use Rattle.std.proofs.Common.{◌≡◌, take}
-use Rattle.rhd_engine.proofs.lists.ModuleList.dup.Given as goal
-
-abbrev pub invariant-loop-module : goal.invariant-loop-module
-invariant-loop-module l = l.modules ≡ take l.module-index l.module-items

@@ -1,5 +1,0 @@
-use Rattle.std.proofs.Common.{length}
-use Rattle.rhd_engine.proofs.placing.+placed.Given as goal
-
-abbrev pub decreases-placed : goal.decreases-placed
-decreases-placed l = length l.more.now

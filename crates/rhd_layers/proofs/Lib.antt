@@ -1,0 +1,5 @@
+pub mod Bools
+pub mod Indexed
+pub mod PathLaws
+pub mod Placed
+pub mod Registers

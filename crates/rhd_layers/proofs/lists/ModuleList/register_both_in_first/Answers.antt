@@ -1,0 +1,7 @@
+use Rattle.rhd_func.specs.Infos.{infos_of}
+use Rattle.rhd_layers.proofs.Registers.{registers_both_first}
+use Rattle.rhd_layers.proofs.lists.ModuleList.register_both_in_first.Goals as goal
+
+pub returns : goal.returns
+returns g c =
+    registers_both_first (infos_of (λ z. (goal.PluginFunc-dyn g z).info z.1) c.args.natives.now) c.args.get_reg c.args.get c.args.set_reg c.args.set c.register_both.result c.self.inside.items.items c.args.self.now c.index_mut.result.now c.register_both.new.self c.self.view_is c.requires c.index_mut.ensures.value c.register_both.ensures

@@ -1,0 +1,4 @@
+pub mod Lists
+pub mod Paths
+pub mod Statics
+pub mod FirstModule

@@ -1,0 +1,321 @@
+//! Lists of modules.
+
+ghost use Rattle.std.specs.Prelude.{◌≡◌, ◌++◌, ◌∷◌, [], true, if◌then◌else◌, is_ok, IfOk, OnOk, OnErr, None, length, take, ◌<◌, ◌≤◌};
+ghost use Rattle.std.specs.List.{insert};
+ghost use Rattle.std.specs.Option.{option_copied};
+ghost use Rattle.rhd_func.specs.Infos.{infos_of};
+ghost use Rattle.rhd_module.specs.Contents.{with_type};
+ghost use Rattle.rhd_layers.specs.FirstModule.{in_first, RegistersFirst, RegistersBothFirst, RegistersRawFirst, FirstTells};
+ghost use Rattle.rhd_layers.specs.Lists.{Popped, all_indexed, latest_of, second, with_last};
+
+use rhd_func::{Natives, RhaiFunc};
+use rhd_module::{DeclFault, FuncMetadata, FuncRegistration, SharedModule};
+use rhd_value::{FnId, OutOfMemory, Text, TypeTag};
+use std::alloc::Global;
+use std::marker::Model;
+
+/// Modules in order. Contracts see the list of them.
+#[derive(Drop)]
+pub struct ModuleList {
+    items: Vec<SharedModule>,
+}
+
+impl Model for ModuleList {
+    ghost use Rattle.std.specs.Prelude.{List};
+    ghost use Rattle.std.specs.Coded.{coded_list};
+    ghost use Rattle.rhd_module.specs.Tree.{ModuleTree};
+    ghost use Rattle.rhd_module.specs.Codes.{tree_code};
+
+    ghost Value = { List ModuleTree };
+
+    ghost coded = { coded_list tree_code };
+
+    ghost view = { λ a. a.items.items };
+}
+
+impl ModuleList {
+    pub fn new(alloc: Global) -> ModuleList
+        ensures { result ≡ [] }
+    {
+        ModuleList {
+            items: Vec::new(alloc),
+        }
+    }
+
+    /// An equal list, of the same modules.
+    pub fn dup(&self, alloc: Global) -> Result<ModuleList, OutOfMemory>
+        ensures { IfOk result (λ modules. modules ≡ self.now) }
+    {
+        let mut modules = ModuleList::new(alloc);
+        for module in &self.items {
+            modules.push(module.dup(alloc)?)?;
+        }
+        Ok(modules)
+    }
+
+    /// Puts a module last.
+    pub fn push(&mut self, added: SharedModule) -> Result<(), OutOfMemory>
+        ensures { self.new ≡ (if is_ok result then self.old ++ added ∷ [] else self.old) }
+    {
+        self.items.push(added)?;
+        Ok(())
+    }
+
+    /// Puts a module at a place, before the one that stood there.
+    pub fn insert(&mut self, place: usize, added: SharedModule) -> Result<(), OutOfMemory>
+        requires { place ≤ length self.old }
+        ensures { self.new ≡ (if is_ok result then insert self.old place added else self.old) }
+    {
+        self.items.insert(place, added)?;
+        Ok(())
+    }
+
+    /// Puts a module behind the first one.
+    #[tactic(auto, using(crate::proofs::Indexed::second_is))]
+    pub fn insert_second(&mut self, added: SharedModule) -> Result<(), OutOfMemory>
+        ensures ok { OnOk result (self.new ≡ second added self.old) }
+        ensures err { OnErr result (self.new ≡ self.old) }
+    {
+        if self.items.len() == 0 {
+            return self.push(added);
+        }
+        self.insert(1, added)
+    }
+
+    /// Takes the last module off, if there is one.
+    pub fn pop(&mut self) -> Option<SharedModule>
+        ensures { Popped self.old result self.new }
+    {
+        self.items.pop()
+    }
+
+    /// Takes all modules off but so many, the oldest.
+    pub fn truncate(&mut self, len: usize)
+        ensures { self.new ≡ take len self.old }
+    {
+        self.items.truncate(len);
+    }
+
+    /// Registers the native of a number in the first module, as `FuncRegistration::set_into_module` does.
+    /// The module is copied first where it has other owners.
+    pub fn register_in_first(
+        &mut self,
+        alloc: Global,
+        reg: FuncRegistration,
+        natives: &Natives,
+        id: FnId,
+    ) -> Result<(), DeclFault>
+        requires { 0 < length self.old }
+        ensures { RegistersFirst (infos_of info natives.now) reg id self.old result self.new }
+    {
+        self.items[0].register(alloc, reg, natives, id)
+    }
+
+    /// The same, and answers what is said of the native.
+    pub fn register_in_first_told(
+        &mut self,
+        alloc: Global,
+        reg: FuncRegistration,
+        natives: &Natives,
+        id: FnId,
+    ) -> Result<FuncMetadata, DeclFault>
+        requires { 0 < length self.old }
+        ensures registers { RegistersFirst (infos_of info natives.now) reg id self.old result self.new }
+        ensures metadata { IfOk result (FirstTells (infos_of info natives.now) reg id self.old) }
+    {
+        self.items[0].register_told(alloc, reg, natives, id)
+    }
+
+    /// Registers the natives of two numbers in the first module, both or none. The module is copied first
+    /// where it has other owners.
+    pub fn register_both_in_first(
+        &mut self,
+        alloc: Global,
+        natives: &Natives,
+        get_reg: FuncRegistration,
+        get: FnId,
+        set_reg: FuncRegistration,
+        set: FnId,
+    ) -> Result<(), DeclFault>
+        requires { 0 < length self.old }
+        ensures { RegistersBothFirst (infos_of info natives.now) get_reg get set_reg set self.old result self.new }
+    {
+        self.items[0].register_both(alloc, natives, get_reg, get, set_reg, set)
+    }
+
+    /// Registers a function in the first module, as `FuncRegistration::set_into_module_raw` does. The
+    /// module is copied first where it has other owners.
+    pub fn register_raw_in_first(
+        &mut self,
+        alloc: Global,
+        reg: FuncRegistration,
+        natives: &Natives,
+        types: &[TypeTag],
+        func: RhaiFunc,
+    ) -> Result<(), DeclFault>
+        requires first { 0 < length self.old }
+        requires purity { reg.purity ≡ None }
+        requires volatility { reg.volatility ≡ None }
+        ensures { RegistersRawFirst (infos_of info natives.now) reg types.now func self.old result self.new }
+    {
+        self.items[0].register_raw(alloc, reg, natives, types, func)
+    }
+
+    /// The type of this type name is shown by this name in the first module, which is copied first where
+    /// it has other owners.
+    pub fn set_type_in_first(
+        &mut self,
+        alloc: Global,
+        type_name: Text,
+        display: Text,
+    ) -> Result<(), OutOfMemory>
+        requires { 0 < length self.old }
+        ensures ok { OnOk result (self.new ≡ in_first (with_type type_name display []) self.old) }
+        ensures err { OnErr result (self.new ≡ self.old) }
+    {
+        self.items[0].set_custom_type_raw(alloc, type_name, display)
+    }
+
+    pub fn len(&self) -> usize
+        ensures { result ≡ length self.now }
+    {
+        self.items.len()
+    }
+
+    pub fn as_slice(&self) -> &[SharedModule]
+        ensures { result.now ≡ self.now }
+    {
+        self.items.as_slice()
+    }
+}
+
+/// Indexed modules with their names, in order. Contracts see the list of them.
+#[derive(Drop)]
+pub struct ImportList {
+    items: Vec<(Text, SharedModule)>,
+}
+
+impl Model for ImportList {
+    ghost use Rattle.std.specs.Prelude.{◌≡◌, true};
+    ghost use Rattle.std.specs.Coded.{coded×, coded_ℕ, coded_list};
+    ghost use Rattle.rhd_module.specs.Codes.{tree_code};
+    ghost use Rattle.rhd_layers.specs.Lists.{Imports, all_indexed};
+
+    ghost Value = { Imports };
+
+    ghost coded = { coded_list (coded× (coded_list coded_ℕ) tree_code) };
+
+    ghost view = { λ a. a.items.items };
+
+    ghost invariant = { λ a. all_indexed a.items.items ≡ true };
+}
+
+impl ImportList {
+    pub fn new(alloc: Global) -> ImportList
+        ensures { result ≡ [] }
+    {
+        ImportList {
+            items: Vec::new(alloc),
+        }
+    }
+
+    /// An equal list, of the same modules.
+    pub fn dup(&self, alloc: Global) -> Result<ImportList, OutOfMemory>
+        ensures { IfOk result (λ imports. imports ≡ self.now) }
+    {
+        let mut items = Vec::new(alloc);
+        for (name, module) in &self.items {
+            items.push((name.dup(alloc)?, module.dup(alloc)?))?;
+        }
+        Ok(ImportList { items })
+    }
+
+    /// Puts an indexed module with a name last.
+    #[tactic(auto, using(crate::proofs::Indexed::pushed))]
+    pub fn push(&mut self, name: Text, added: SharedModule) -> Result<(), OutOfMemory>
+        requires { added.own.indexed ≡ true }
+        ensures { self.new ≡ (if is_ok result then self.old ++ (name, added) ∷ [] else self.old) }
+    {
+        self.items.push((name, added))?;
+        Ok(())
+    }
+
+    /// Takes the last module off with its name, if there is one.
+    pub fn pop(&mut self) -> Option<(Text, SharedModule)>
+        ensures { Popped self.old result self.new }
+    {
+        self.items.pop()
+    }
+
+    /// Puts an indexed module in the place of the last one, if there is one, under its name.
+    #[tactic(auto, using(crate::proofs::Indexed::last_set, crate::proofs::Indexed::last_indexed))]
+    pub fn set_last(&mut self, added: SharedModule)
+        requires { added.own.indexed ≡ true }
+        ensures { self.new ≡ with_last added self.old }
+    {
+        let len = self.items.len();
+        if len == 0 {
+            return;
+        }
+        self.items[len - 1].1 = added;
+    }
+
+    /// Puts all modules of another list last, with their names. Where memory runs out, some of them may
+    /// stand there.
+    pub fn extend(&mut self, alloc: Global, added: &ImportList) -> Result<(), OutOfMemory>
+        ensures ok { OnOk result (self.new ≡ self.old ++ added.now) }
+        ensures kept { take (length self.old) self.new ≡ self.old }
+    {
+        push_all(self, alloc, added.as_slice())
+    }
+
+    /// Takes all modules off but so many, the oldest.
+    #[tactic(auto, using(crate::proofs::Indexed::taken))]
+    pub fn truncate(&mut self, len: usize)
+        ensures { self.new ≡ take len self.old }
+    {
+        self.items.truncate(len);
+    }
+
+    /// The latest module of a name.
+    pub fn find(&self, name: &Text) -> Option<&SharedModule>
+        ensures { option_copied result ≡ latest_of name.now self.now }
+    {
+        for (known, module) in self.items.iter().rev() {
+            if name == known {
+                return Some(module);
+            }
+        }
+        None
+    }
+
+    pub fn len(&self) -> usize
+        ensures { result ≡ length self.now }
+    {
+        self.items.len()
+    }
+
+    /// The modules with their names, in order. Each is indexed.
+    pub fn as_slice(&self) -> &[(Text, SharedModule)]
+        ensures items { result.now ≡ self.now }
+        ensures indexed { all_indexed self.now ≡ true }
+    {
+        self.items.as_slice()
+    }
+}
+
+/// Puts indexed modules last, with their names.
+fn push_all(
+    imports: &mut ImportList,
+    alloc: Global,
+    added: &[(Text, SharedModule)],
+) -> Result<(), OutOfMemory>
+    requires { all_indexed added.now ≡ true }
+    ensures ok { OnOk result (imports.new ≡ imports.old ++ added.now) }
+    ensures kept { take (length imports.old) imports.new ≡ imports.old }
+{
+    for (name, module) in added {
+        imports.push(name.dup(alloc)?, module.dup(alloc)?)?;
+    }
+    Ok(())
+}
