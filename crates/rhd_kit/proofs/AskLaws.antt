@@ -10,8 +10,8 @@ use Rattle.rhd_func.specs.declared.request.Carry.{Carry}
 use Rattle.rhd_func.specs.declared.request.NativeCallContext.{NativeCallContext}
 use Rattle.rhd_func.specs.declared.request.NativeStep.{NativeStep}
 use Rattle.rhd_func.specs.declared.request.NativeStep.TheVariants.{Done}
-use Rattle.rhd_text.specs.declared.body.BodyPlan.{BodyPlan}
-use Rattle.rhd_text.specs.declared.body.CallPlan.{CallPlan}
+use Rattle.rhd_plan.specs.declared.body.BodyPlan.{BodyPlan}
+use Rattle.rhd_plan.specs.declared.body.CallPlan.{CallPlan}
 use Rattle.rhd_kit.specs.Asks.{AsksTimes, AsksInOrder, name_and_times}
 use Rattle.rhd_kit.specs.Kit.{kit_info, kit_does, kit_takes, kit_step, kit_next, arguments, call_of, asks_with_left, asks_often, with_left, goes_on}
 use Rattle.rhd_kit.specs.PlanBodies.{step_after, with_count, body_step, body_next}

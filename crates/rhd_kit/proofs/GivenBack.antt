@@ -12,10 +12,10 @@ use Rattle.rhd_func.specs.declared.request.Carry.{Carry}
 use Rattle.rhd_func.specs.declared.request.NativeStep.{NativeStep}
 use Rattle.rhd_func.specs.declared.request.NativeStep.TheVariants.{Done}
 use Rattle.rhd_func.specs.declared.request.NativeCallContext.{NativeCallContext}
-use Rattle.rhd_text.specs.declared.body.BodyEnd.{BodyEnd}
-use Rattle.rhd_text.specs.declared.body.BodyEnd.TheVariants.{Ret, RetGiven, Fail}
-use Rattle.rhd_text.specs.declared.body.BodyPlan.{BodyPlan}
-use Rattle.rhd_text.specs.declared.body.CallPlan.{CallPlan}
+use Rattle.rhd_plan.specs.declared.body.BodyEnd.{BodyEnd}
+use Rattle.rhd_plan.specs.declared.body.BodyEnd.TheVariants.{Ret, RetGiven, Fail}
+use Rattle.rhd_plan.specs.declared.body.BodyPlan.{BodyPlan}
+use Rattle.rhd_plan.specs.declared.body.CallPlan.{CallPlan}
 use Rattle.rhd_kit.specs.Kit.{kit_info, is_built, arguments, first_unfit, int_at, text_at, answers, bytes_in, sum_of, changed_to, elements, last_of, without_last, payload_in, asks_once, asks_with_left, asks_often, kit_does, kit_fits, kit_takes, kit_step, kit_next, passes_on, is_unit, is_name_with_left, goes_on}
 use Rattle.rhd_kit.specs.Values.{argument_at, values_in, own_fault, bad_carry}
 use Rattle.rhd_kit.specs.PlanBodies.{Scope, asks_or_ends, ends, next_after, body_step, body_next}

@@ -7,8 +7,8 @@ use Rattle.rhd_func.specs.declared.request.Carry.{Carry}
 use Rattle.rhd_func.specs.declared.request.CallRequest.{CallRequest}
 use Rattle.rhd_func.specs.declared.request.NativeStep.{NativeStep}
 use Rattle.rhd_func.specs.declared.request.NativeStep.TheVariants.{Done, Ask}
-use Rattle.rhd_text.specs.declared.body.BodyEnd.{BodyEnd}
-use Rattle.rhd_text.specs.declared.body.CallPlan.{CallPlan}
+use Rattle.rhd_plan.specs.declared.body.BodyEnd.{BodyEnd}
+use Rattle.rhd_plan.specs.declared.body.CallPlan.{CallPlan}
 use Rattle.rhd_kit.specs.PlanBodies.{Scope, call_with, ends}
 
 -- the step after a call that was asked, by what was kept and what came of it

@@ -14,10 +14,10 @@ use Rattle.rhd_func.specs.declared.request.CallShape.TheVariants.{Plain, ByRef, 
 use Rattle.rhd_func.specs.Shapes.{all_args}
 use Rattle.rhd_func.specs.declared.request.NativeStep.{NativeStep}
 use Rattle.rhd_func.specs.declared.request.NativeStep.TheVariants.{Done, Failed, Ask}
-use Rattle.rhd_text.specs.declared.body.BodyEnd.{BodyEnd}
-use Rattle.rhd_text.specs.declared.body.BodyEnd.TheVariants.{Ret, RetGiven, Fail}
-use Rattle.rhd_text.specs.declared.body.BodyPlan.{BodyPlan}
-use Rattle.rhd_text.specs.declared.body.CallPlan.{CallPlan}
+use Rattle.rhd_plan.specs.declared.body.BodyEnd.{BodyEnd}
+use Rattle.rhd_plan.specs.declared.body.BodyEnd.TheVariants.{Ret, RetGiven, Fail}
+use Rattle.rhd_plan.specs.declared.body.BodyPlan.{BodyPlan}
+use Rattle.rhd_plan.specs.declared.body.CallPlan.{CallPlan}
 use Rattle.rhd_syntax.specs.declared.given.Given.{Given}
 use Rattle.rhd_syntax.specs.declared.given.Given.TheVariants.{This, Last, Arg}
 use Rattle.rhd_syntax.specs.declared.given.GivenAt.{GivenAt}

@@ -5,7 +5,7 @@ ghost use Rattle.rhd_value.specs.Tree.{Bytes, Tree};
 ghost use Rattle.rhd_value.specs.declared.tag.Marks.{Marks};
 ghost use Rattle.rhd_func.specs.declared.func.ScriptFuncDef.{ScriptFuncDef};
 ghost use Rattle.rhd_func.specs.declared.request.NativeCallContext.{NativeCallContext};
-ghost use Rattle.rhd_text.specs.declared.body.BodyPlan.{BodyPlan};
+ghost use Rattle.rhd_plan.specs.declared.body.BodyPlan.{BodyPlan};
 ghost use Rattle.rhd_kit.specs.Asks.{AsksTimes, AsksInOrder, name_and_times};
 ghost use Rattle.rhd_kit.specs.Kit.{arguments, call_of, kit_step, kit_next};
 ghost use Rattle.rhd_kit.specs.PlanBodies.{body_step, body_next};

@@ -23,8 +23,8 @@ pub struct PlanBodies {
 impl Model for PlanBodies {
     ghost use Rattle.std.specs.Prelude.{List};
     ghost use Rattle.std.specs.Coded.{coded_list};
-    ghost use Rattle.rhd_text.specs.declared.body.BodyPlan.{BodyPlan};
-    ghost use Rattle.rhd_text.specs.contracts.body.BodyPlan as body;
+    ghost use Rattle.rhd_plan.specs.declared.body.BodyPlan.{BodyPlan};
+    ghost use Rattle.rhd_plan.specs.contracts.body.BodyPlan as body;
 
     ghost Value = { List BodyPlan };
 

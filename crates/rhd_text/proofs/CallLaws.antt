@@ -3,8 +3,8 @@ use Rattle.std.proofs.Common.{◌≡◌, ℕ, List, Option, Some, None, refl, sy
 use Rattle.rhd_func.specs.declared.request.CallRequest.{CallRequest}
 use Rattle.rhd_call.specs.declared.command.Command.{Command}
 use Rattle.rhd_call.specs.declared.command.Command.TheVariants as commands
-use Rattle.rhd_text.specs.declared.part.Part.{Part}
-use Rattle.rhd_text.specs.declared.part.Part.TheVariants as parts
+use Rattle.rhd_plan.specs.declared.part.Part.{Part}
+use Rattle.rhd_plan.specs.declared.part.Part.TheVariants as parts
 use Rattle.rhd_text.specs.Grammar.{IsCallOrNone}
 use Rattle.rhd_text.specs.ReadRows.{line_of, request_in}
 use Rattle.rhd_text.proofs.TableLaws.{line_sound, line_complete}

@@ -9,7 +9,7 @@ use Rattle.rhd_text.specs.declared.keyword.Keyword.TheVariants as keywords
 use Rattle.rhd_text.specs.declared.keyword.CallWord.{CallWord}
 use Rattle.rhd_text.specs.declared.keyword.CallWord.TheVariants as words
 use Rattle.rhd_text.specs.declared.requests.Handing.TheVariants as handings
-use Rattle.rhd_text.specs.declared.part.Part.TheVariants as parts
+use Rattle.rhd_plan.specs.declared.part.Part.TheVariants as parts
 use Rattle.rhd_text.specs.declared.place.Place.{Place}
 use Rattle.rhd_text.specs.Rows.{Operand, From, from_then, position, nowhere, script_operands, as_script, definition, defined, call_form, planned, called, step, form}
 use Rattle.rhd_syntax.specs.Reading.{◌>>=◌, is_end, num_at}

@@ -3,10 +3,11 @@ use Rattle.std.proofs.Common.{◌≡◌, ◌⊎◌, inl, inr, ℕ, ◌+◌, List
 use Rattle.rhd_func.specs.Natives.{NativeInfo}
 use Rattle.rhd_text.specs.declared.fault.TextFault.{TextFault}
 use Rattle.rhd_text.specs.declared.fault.TextFault.TheVariants.{BadLine, OutOfMemory}
-use Rattle.rhd_text.specs.declared.session.SessionText.{SessionText}
-use Rattle.rhd_text.specs.declared.part.Part.{Part}
+use Rattle.rhd_plan.specs.declared.session.SessionText.{SessionText}
+use Rattle.rhd_plan.specs.declared.part.Part.{Part}
 use Rattle.rhd_text.specs.Grammar.{IsLine}
-use Rattle.rhd_text.specs.Session.{empty_text, with_line, IsText, IsSession, IsBadAfter, IsFirstBad, ReadsText, ReadsNoOther, NamesNoOther}
+use Rattle.rhd_plan.specs.Session.{empty_text}
+use Rattle.rhd_text.specs.Session.{with_line, IsText, IsSession, IsBadAfter, IsFirstBad, ReadsText, ReadsNoOther, NamesNoOther}
 use Rattle.rhd_text.specs.ReadRows.{line_of}
 use Rattle.rhd_text.specs.ReadSession.{after_line, next, text_from, session_of}
 use Rattle.rhd_text.specs.Answers.{Reads}

@@ -3,7 +3,7 @@ use Rattle.std.proofs.Common.{◌≡◌, ℕ, Bool, true, false, cond, List, ◌
 use Rattle.std.specs.Prelude.{codes}
 use Rattle.std.specs.Str.{bytes_eq}
 use Rattle.std.proofs.lemmas.Slice.Eq.{bytes_eq-Decides}
-use Rattle.rhd_text.specs.declared.part.Part.{Part}
+use Rattle.rhd_plan.specs.declared.part.Part.{Part}
 use Rattle.rhd_text.specs.declared.place.Place.{Place}
 use Rattle.rhd_text.specs.declared.keyword.Keyword.{Keyword}
 use Rattle.rhd_text.specs.declared.keyword.Keyword.TheVariants.{Seeds, Limits, Printer, Builtin, Host, File, Body, Ret, Fail, Register, RegisterRaw, RegisterType, Module}

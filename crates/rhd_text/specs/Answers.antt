@@ -2,7 +2,7 @@
 use Rattle.std.specs.Prelude.{◌≡◌, ℕ, Result, Ok, Err}
 use Rattle.rhd_text.specs.declared.fault.TextFault.{TextFault}
 use Rattle.rhd_text.specs.declared.fault.TextFault.TheVariants.{BadLine, OutOfMemory}
-use Rattle.rhd_text.specs.declared.session.SessionText.{SessionText}
+use Rattle.rhd_plan.specs.declared.session.SessionText.{SessionText}
 
 -- the reader's answer is what the lines say, unless memory ran out
 abbrev pub Reads : Result SessionText TextFault → Result SessionText ℕ → Type 0

@@ -3,8 +3,8 @@ use Rattle.std.specs.Prelude.{◌≡◌, ◌⊎◌, ℕ, true, List, [], ◌∷�
 use Rattle.std.specs.Str.{is_utf8}
 use Rattle.rhd_func.specs.declared.request.CallRequest.{CallRequest}
 use Rattle.rhd_call.specs.declared.command.Command.TheVariants.{Call}
-use Rattle.rhd_text.specs.declared.part.Part.{Part}
-use Rattle.rhd_text.specs.declared.part.Part.TheVariants.{Command}
+use Rattle.rhd_plan.specs.declared.part.Part.{Part}
+use Rattle.rhd_plan.specs.declared.part.Part.TheVariants.{Command}
 use Rattle.rhd_text.specs.declared.place.Place.{Place}
 use Rattle.rhd_text.specs.Rows.{Operand, NAME, WORD, WORDS, NUM, LONG, ARG, ARGS, OPTIONAL, WANT, THIS, PURITY, VALUE, KIND, KINDS, PRINTER, Meaning, From, Table, line_forms, step_forms}
 use Rattle.rhd_syntax.specs.Spans.{Span, blanks, bare, name, word, words, optional, number, want, this, purity, value, value_kind, kinds, printer, argument, arguments}

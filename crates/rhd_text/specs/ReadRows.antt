@@ -5,10 +5,10 @@ use Rattle.rhd_value.specs.declared.tag.Position.{Position}
 use Rattle.rhd_func.specs.declared.request.CallRequest.{CallRequest}
 use Rattle.rhd_func.specs.declared.func.ScriptFuncDef.{ScriptFuncDef}
 use Rattle.rhd_call.specs.declared.command.Command.TheVariants as commands
-use Rattle.rhd_text.specs.declared.body.CallPlan.{CallPlan}
+use Rattle.rhd_plan.specs.declared.body.CallPlan.{CallPlan}
 use Rattle.rhd_text.specs.declared.requests.Handing.{Handing}
-use Rattle.rhd_text.specs.declared.part.Part.{Part}
-use Rattle.rhd_text.specs.declared.part.Part.TheVariants as parts
+use Rattle.rhd_plan.specs.declared.part.Part.{Part}
+use Rattle.rhd_plan.specs.declared.part.Part.TheVariants as parts
 use Rattle.rhd_text.specs.declared.place.Place.{Place}
 use Rattle.rhd_text.specs.declared.keyword.CallWord.{CallWord}
 use Rattle.rhd_text.specs.Rows.{Operand, NAME, WORD, WORDS, NUM, LONG, ARG, ARGS, OPTIONAL, WANT, THIS, PURITY, VALUE, KIND, KINDS, PRINTER}

@@ -1,10 +1,11 @@
 -- How a text is read, line by line.
 use Rattle.std.specs.Prelude.{ℕ, ◌+◌, List, [], ◌∷◌, Option, Some, None, Result, Ok, Err}
 use Rattle.rhd_func.specs.Natives.{NativeInfo}
-use Rattle.rhd_text.specs.declared.session.SessionText.{SessionText}
+use Rattle.rhd_plan.specs.declared.session.SessionText.{SessionText}
 use Rattle.rhd_syntax.specs.Reading.{◌>>=◌}
 use Rattle.rhd_text.specs.ReadRows.{line_of}
-use Rattle.rhd_text.specs.Session.{empty_text, with_line}
+use Rattle.rhd_plan.specs.Session.{empty_text}
+use Rattle.rhd_text.specs.Session.{with_line}
 
 -- what is said after line n, where it is a line that may stand there
 unfoldable pub after_line : List NativeInfo → ℕ → SessionText → List ℕ → Option SessionText

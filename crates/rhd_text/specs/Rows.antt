@@ -26,12 +26,12 @@ use Rattle.rhd_text.specs.declared.place.Place.{Place}
 use Rattle.rhd_syntax.specs.declared.arguments.Argument.{Argument}
 use Rattle.rhd_syntax.specs.declared.arguments.Argument.TheVariants as argument
 use Rattle.rhd_syntax.specs.declared.arguments.Arguments.{Arguments}
-use Rattle.rhd_text.specs.declared.body.BodyEnd.{BodyEnd}
-use Rattle.rhd_text.specs.declared.body.BodyEnd.TheVariants.{Ret, RetGiven, Fail}
-use Rattle.rhd_text.specs.declared.body.CallPlan.{CallPlan}
+use Rattle.rhd_plan.specs.declared.body.BodyEnd.{BodyEnd}
+use Rattle.rhd_plan.specs.declared.body.BodyEnd.TheVariants.{Ret, RetGiven, Fail}
+use Rattle.rhd_plan.specs.declared.body.CallPlan.{CallPlan}
 use Rattle.rhd_syntax.specs.declared.printers.Printer.{Printer}
-use Rattle.rhd_text.specs.declared.part.Part.{Part}
-use Rattle.rhd_text.specs.declared.part.Part.TheVariants as parts
+use Rattle.rhd_plan.specs.declared.part.Part.{Part}
+use Rattle.rhd_plan.specs.declared.part.Part.TheVariants as parts
 use Rattle.rhd_text.specs.declared.keyword.CallWord.{CallWord}
 use Rattle.rhd_text.specs.declared.keyword.CallWord.TheVariants as words
 use Rattle.rhd_text.specs.declared.keyword.ManifestWord.{ManifestWord}

@@ -1,15 +1,15 @@
 //! One call line by itself.
 
 ghost use Rattle.std.specs.Prelude.{◌≡◌, IfOk, Some};
-ghost use Rattle.rhd_text.specs.declared.part.Part.TheVariants as parts;
+ghost use Rattle.rhd_plan.specs.declared.part.Part.TheVariants as parts;
 ghost use Rattle.rhd_text.specs.Grammar.{IsCallOrNone};
 ghost use Rattle.rhd_text.specs.ReadRows.{request_in};
 
 use crate::line::line_at;
-use crate::part::Part;
 use crate::place::Place;
 use rhd_call::Command;
 use rhd_func::CallRequest;
+use rhd_plan::Part;
 use rhd_syntax::Stop;
 use rhd_value::OutOfMemory;
 use std::alloc::Global;

@@ -3,8 +3,8 @@
 ghost use Rattle.std.specs.Prelude.{◌≡◌, ◌≤◌, ◌↔◌, ◌⊎◌, Option, List, ◌++◌, ℕ, Some, true, codes};
 ghost use Rattle.std.specs.List.{flat_map};
 ghost use Rattle.rhd_func.specs.Natives.{NativeInfo};
-ghost use Rattle.rhd_text.specs.declared.part.Part.{Part};
-ghost use Rattle.rhd_text.specs.declared.session.SessionText.{SessionText};
+ghost use Rattle.rhd_plan.specs.declared.part.Part.{Part};
+ghost use Rattle.rhd_plan.specs.declared.session.SessionText.{SessionText};
 ghost use Rattle.rhd_syntax.specs.Bytes.{may_end};
 ghost use Rattle.rhd_syntax.specs.Spans.{value, IsValue};
 ghost use Rattle.rhd_text.specs.Proper.{IsProper, depth};

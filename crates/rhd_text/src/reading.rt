@@ -6,7 +6,7 @@ ghost use Rattle.std.specs.Str.Lines.{lines};
 ghost use Rattle.rhd_func.specs.Infos.{infos_of};
 ghost use Rattle.rhd_manifest.specs.Fits.{fits};
 ghost use Rattle.rhd_engine.specs.Held.{builtins_held};
-ghost use Rattle.rhd_text.specs.declared.session.SessionText.{SessionText};
+ghost use Rattle.rhd_plan.specs.declared.session.SessionText.{SessionText};
 ghost use Rattle.rhd_text.specs.Session.{IsSession, IsFirstBad, ReadsText, ReadsNoOther, NamesNoOther};
 ghost use Rattle.rhd_text.specs.ReadSession.{after_line, session_of};
 ghost use Rattle.rhd_syntax.specs.Answers.{StepGives};
@@ -17,8 +17,8 @@ use crate::forms::part_at;
 use crate::line::is_skipped;
 use crate::lines::first_line;
 use crate::place::Place;
-use crate::session::SessionText;
 use rhd_func::Natives;
+use rhd_plan::SessionText;
 use rhd_syntax::{Stop, is_text};
 use std::alloc::Global;
 

@@ -13,7 +13,7 @@ use Rattle.rhd_resolve.specs.File.{FileState}
 use Rattle.rhd_session.specs.Start.{start_world, start_state, start_files, start_moment}
 use Rattle.rhd_session.specs.State.{SessionState, SessionObjects}
 use Rattle.rhd_session.specs.Answered.{Answered, RunGives}
-use Rattle.rhd_text.specs.declared.session.SessionText.{SessionText}
+use Rattle.rhd_plan.specs.declared.session.SessionText.{SessionText}
 use Rattle.rhd_tool.specs.Handed.{Handed, Hosts, Bodies}
 use Rattle.rhd_tool.specs.Ends.{default_limits, limits_of, seeds_of, start_of, IsAnswered}
 

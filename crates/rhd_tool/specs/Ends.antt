@@ -13,7 +13,7 @@ use Rattle.rhd_hash.specs.declared.mixer.Seeds.{Seeds}
 use Rattle.rhd_session.specs.Start.{start_world, start_state, start_files, start_moment}
 use Rattle.rhd_session.specs.State.{SessionState}
 use Rattle.rhd_session.specs.Answered.{Answered}
-use Rattle.rhd_text.specs.declared.session.SessionText.{SessionText}
+use Rattle.rhd_plan.specs.declared.session.SessionText.{SessionText}
 use Rattle.rhd_text.specs.Session.{IsSession, IsFirstBad}
 use Rattle.rhd_print.specs.PrintedReplies.{all_printed}
 use Rattle.rhd_tool.specs.Handed.{Handed, Hosts, Bodies}

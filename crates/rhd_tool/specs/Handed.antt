@@ -11,7 +11,7 @@ use Rattle.rhd_func.specs.Infos.{infos_of}
 use Rattle.rhd_loader.specs.Loads.{PlanLoads}
 use Rattle.rhd_machine.specs.Objects.{objects_of}
 use Rattle.rhd_session.specs.State.{SessionObjects}
-use Rattle.rhd_text.specs.declared.body.BodyPlan.{BodyPlan}
+use Rattle.rhd_plan.specs.declared.body.BodyPlan.{BodyPlan}
 use Rattle.rhd_kit.specs.PlanBodies.{plan_starts, plan_resumes}
 use Rattle.rhd_kit.specs.TableHost.{table_answers}
 

@@ -6,7 +6,7 @@ ghost use Rattle.std.specs.Str.Lines.{lines};
 ghost use Rattle.rhd_func.specs.Infos.{infos_of};
 ghost use Rattle.rhd_manifest.specs.Fits.{fits};
 ghost use Rattle.rhd_engine.specs.Held.{builtins_held};
-ghost use Rattle.rhd_text.specs.declared.session.SessionText.{SessionText};
+ghost use Rattle.rhd_plan.specs.declared.session.SessionText.{SessionText};
 ghost use Rattle.rhd_text.specs.Session.{IsSession, IsFirstBad};
 ghost use Rattle.rhd_print.specs.PrintedReplies.{all_printed};
 ghost use Rattle.rhd_streams.specs.Causes.{Rose};

@@ -1,7 +1,7 @@
 use Rattle.std.proofs.Common.{length}
 use Rattle.std.specs.Str.Lines.{lines}
 use Rattle.rhd_func.specs.Infos.{infos_of}
-use Rattle.rhd_text.proofs.HeldNatives.{count_infos}
+use Rattle.rhd_plan.proofs.HeldNatives.{count_infos}
 use Rattle.rhd_text.proofs.SessionLaws.{reads, reads_no_other, names_no_other}
 use Rattle.rhd_text.proofs.TextHolds.{read_holds, limits_allowed, natives_held, manifests_fit, commands_few}
 use Rattle.rhd_text.proofs.reading.read_text.Goals as goal

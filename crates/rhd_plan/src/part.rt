@@ -1,7 +1,7 @@
 //! Parts of a session text.
 
 ghost use Rattle.std.specs.Prelude.{◌≡◌};
-ghost use Rattle.rhd_text.specs.Session.{is_header};
+ghost use Rattle.rhd_plan.specs.Session.{is_header};
 
 use crate::body::{BodyEnd, CallPlan};
 use rhd_call::Command;

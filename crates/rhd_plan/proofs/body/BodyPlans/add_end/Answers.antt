@@ -1,7 +1,7 @@
 use Rattle.std.proofs.Common.{◌≡◌, length, vec_len, refl, rules}
-use Rattle.rhd_text.specs.Session.{ended}
-use Rattle.rhd_text.proofs.BodyLaws.{latest_changed}
-use Rattle.rhd_text.proofs.body.BodyPlans.add_end.Goals as goal
+use Rattle.rhd_plan.specs.Session.{ended}
+use Rattle.rhd_plan.proofs.BodyLaws.{latest_changed}
+use Rattle.rhd_plan.proofs.body.BodyPlans.add_end.Goals as goal
 
 pub returns : goal.returns
 returns c =

@@ -1,5 +1,5 @@
 use Rattle.std.proofs.Common.{◌≡◌, take}
-use Rattle.rhd_text.proofs.body.BodyPlans.dup.Given as goal
+use Rattle.rhd_plan.proofs.body.BodyPlans.dup.Given as goal
 
 abbrev pub invariant-loop-body : goal.invariant-loop-body
 invariant-loop-body l = l.bodies ≡ take l.body-index l.body-items

@@ -2,7 +2,7 @@
 
 ghost use Rattle.std.specs.Prelude.{◌≡◌, ◌++◌, ◌∷◌, [], IfOk, length, if◌then◌else◌, is_ok, slice_get};
 ghost use Rattle.std.specs.Option.{option_copied};
-ghost use Rattle.rhd_text.specs.Session.{new_body, stepped, ended, in_latest};
+ghost use Rattle.rhd_plan.specs.Session.{new_body, stepped, ended, in_latest};
 ghost use Rattle.rhd_syntax.specs.Answers.{StepGives};
 
 use rhd_func::CallRequest;
@@ -41,8 +41,8 @@ pub struct CallPlans {
 impl Model for CallPlans {
     ghost use Rattle.std.specs.Prelude.{List};
     ghost use Rattle.std.specs.Coded.{coded_list};
-    ghost use Rattle.rhd_text.specs.declared.body.CallPlan.{CallPlan};
-    ghost use Rattle.rhd_text.specs.contracts.body.CallPlan as plan;
+    ghost use Rattle.rhd_plan.specs.declared.body.CallPlan.{CallPlan};
+    ghost use Rattle.rhd_plan.specs.contracts.body.CallPlan as plan;
 
     ghost Value = { List CallPlan };
 
@@ -198,8 +198,8 @@ pub struct BodyPlans {
 impl Model for BodyPlans {
     ghost use Rattle.std.specs.Prelude.{List};
     ghost use Rattle.std.specs.Coded.{coded_list};
-    ghost use Rattle.rhd_text.specs.declared.body.BodyPlan.{BodyPlan};
-    ghost use Rattle.rhd_text.specs.contracts.body.BodyPlan as body;
+    ghost use Rattle.rhd_plan.specs.declared.body.BodyPlan.{BodyPlan};
+    ghost use Rattle.rhd_plan.specs.contracts.body.BodyPlan as body;
 
     ghost Value = { List BodyPlan };
 

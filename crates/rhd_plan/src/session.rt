@@ -2,8 +2,8 @@
 
 ghost use Rattle.std.specs.Prelude.{◌≡◌, ◌+◌, ◌<◌, ◌^◌, length, IfOk, IfSome, Some};
 ghost use Rattle.rhd_func.specs.Infos.{infos_of};
-ghost use Rattle.rhd_text.specs.Session.{empty_text, takes_headers, is_held, with_seeds, with_limits, with_printer, with_builtin, with_host, with_file, with_body, with_call, with_end, with_command, added, with_part};
-ghost use Rattle.rhd_text.specs.Session.{latest_manifest, with_new_manifest, with_manifest_entry, with_manifest_sub, with_manifest_var, with_manifest_type};
+ghost use Rattle.rhd_plan.specs.Session.{empty_text, takes_headers, is_held, with_seeds, with_limits, with_printer, with_builtin, with_host, with_file, with_body, with_call, with_end, with_command, added, with_part};
+ghost use Rattle.rhd_plan.specs.Session.{latest_manifest, with_new_manifest, with_manifest_entry, with_manifest_sub, with_manifest_var, with_manifest_type};
 ghost use Rattle.rhd_syntax.specs.Answers.{StepGives};
 
 use crate::body::{BodyEnd, BodyPlans, CallPlan};

@@ -3,10 +3,10 @@ use Rattle.std.proofs.Common.{◌≡◌, ℕ, ◌-◌, ◌<◌, List, length, ge
 use Rattle.std.specs.List.{slice_get}
 use Rattle.std.proofs.lemmas.List.{set-get_or}
 use Rattle.std.proofs.lemmas.Option.{slice_get_read, get_or_from_slice_get}
-use Rattle.rhd_text.specs.declared.body.BodyPlan.{BodyPlan}
+use Rattle.rhd_plan.specs.declared.body.BodyPlan.{BodyPlan}
 use Rattle.rhd_syntax.specs.declared.fault.Stop.{Stop}
 use Rattle.rhd_syntax.specs.declared.fault.Stop.TheVariants as stops
-use Rattle.rhd_text.specs.Session.{in_latest}
+use Rattle.rhd_plan.specs.Session.{in_latest}
 use Rattle.rhd_syntax.specs.Answers.{StepGives}
 
 -- what is put in its own place changes nothing

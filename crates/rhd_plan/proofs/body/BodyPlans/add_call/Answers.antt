@@ -1,7 +1,7 @@
 use Rattle.std.proofs.Common.{◌≡◌, length, vec_len, refl, rules}
-use Rattle.rhd_text.specs.Session.{stepped}
-use Rattle.rhd_text.proofs.BodyLaws.{latest_changed}
-use Rattle.rhd_text.proofs.body.BodyPlans.add_call.Goals as goal
+use Rattle.rhd_plan.specs.Session.{stepped}
+use Rattle.rhd_plan.proofs.BodyLaws.{latest_changed}
+use Rattle.rhd_plan.proofs.body.BodyPlans.add_call.Goals as goal
 
 pub returns : goal.returns
 returns c =
