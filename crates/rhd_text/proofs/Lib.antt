@@ -11,9 +11,7 @@ pub mod RowLaws
 pub mod PathsPrinted
 pub mod TableLaws
 pub mod PlanLaws
-pub mod HeldNatives
 pub mod CallLaws
 pub mod SessionLaws
-pub mod BodyLaws
 pub mod ManifestFits
 pub mod TextHolds

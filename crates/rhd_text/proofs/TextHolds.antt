@@ -25,9 +25,9 @@ use Rattle.rhd_plan.specs.declared.session.SessionText.{SessionText}
 use Rattle.rhd_plan.specs.declared.part.Part.{Part}
 use Rattle.rhd_plan.specs.declared.part.Part.TheVariants as parts
 use Rattle.rhd_text.specs.declared.fault.TextFault.{TextFault}
-use Rattle.rhd_plan.specs.Session.{empty_text, takes_headers, is_held, stepped, ended, in_latest, with_seeds, with_limits, with_printer, with_builtin, with_host, with_file, with_body, with_call, with_end, with_command, added, is_header, with_part}
+use Rattle.rhd_plan.specs.Session.{empty_text, takes_headers, is_held, stepped, ended, in_latest, with_seeds, with_limits, with_printer, with_builtin, with_host, with_file, with_body, with_call, with_end, with_command, added}
+use Rattle.rhd_plan.specs.Session.{is_header, with_part, latest_manifest, in_manifest, with_new_manifest, with_manifest_entry, with_manifest_sub, with_manifest_var, with_manifest_type}
 use Rattle.rhd_text.specs.Session.{with_line, IsText, ReadsText}
-use Rattle.rhd_plan.specs.Session.{latest_manifest, in_manifest, with_new_manifest, with_manifest_entry, with_manifest_sub, with_manifest_var, with_manifest_type}
 use Rattle.rhd_text.specs.ReadRows.{line_of}
 use Rattle.rhd_text.specs.ReadSession.{after_line}
 use Rattle.rhd_syntax.specs.Reading.{◌>>=◌}

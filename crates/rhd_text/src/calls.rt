@@ -6,10 +6,10 @@ ghost use Rattle.rhd_text.specs.Grammar.{IsCallOrNone};
 ghost use Rattle.rhd_text.specs.ReadRows.{request_in};
 
 use crate::line::line_at;
-use crate::part::Part;
 use crate::place::Place;
 use rhd_call::Command;
 use rhd_func::CallRequest;
+use rhd_plan::Part;
 use rhd_syntax::Stop;
 use rhd_value::OutOfMemory;
 use std::alloc::Global;

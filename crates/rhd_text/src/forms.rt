@@ -6,7 +6,6 @@ ghost use Rattle.rhd_text.specs.Rows.{answered, built_in, called, step, form, st
 ghost use Rattle.rhd_text.specs.ReadRows.{row_at, form_at, part_at};
 ghost use Rattle.rhd_syntax.specs.Answers.{Gives};
 
-use crate::body::BodyEnd;
 use crate::join_forms::join_at;
 use crate::keyword::{CallWord, Keyword, call_of, keyword_of};
 use crate::manifest_forms::manifest_row_at;
@@ -15,12 +14,12 @@ use crate::module_forms::{
     raw_iter_at, raw_script_at, register_at, register_raw_at, register_type_at, script_at,
     submodule_at, type_line_at, var_at,
 };
-use crate::part::Part;
 use crate::place::Place;
 use crate::requests::plan_at;
 use rhd_call::{Command, ModuleId};
 use rhd_engine::Limits;
 use rhd_hash::Seeds;
+use rhd_plan::{BodyEnd, Part};
 use rhd_syntax::{
     Argument, Stop, argument_at, is_end, long_at, num_at, operator_of, printer_at, value_at,
     value_kind_at, word_at, wording_at,

@@ -6,9 +6,9 @@ ghost use Rattle.rhd_text.specs.ReadRows.{row_at};
 ghost use Rattle.rhd_syntax.specs.Answers.{Gives};
 
 use crate::keyword::JoinWord;
-use crate::part::Part;
 use crate::place::Place;
 use rhd_call::{Command, ModuleId};
+use rhd_plan::Part;
 use rhd_syntax::{Stop, is_end, num_at};
 
 /// The command of a word.

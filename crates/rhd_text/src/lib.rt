@@ -1,7 +1,6 @@
 //! Session texts: what their lines say, and reading them.
 #![tactic(auto)]
 
-mod body;
 mod calls;
 mod fault;
 mod forms;
@@ -12,13 +11,10 @@ mod line;
 mod lines;
 mod manifest_forms;
 mod module_forms;
-mod part;
 mod place;
 mod reading;
 mod requests;
-mod session;
 
-pub use body::{BodyEnd, BodyPlan, BodyPlans, CallPlan, CallPlans};
 pub use calls::read_call;
 pub use fault::TextFault;
 pub use laws::{
@@ -31,8 +27,8 @@ pub use lines::first_line;
 pub use module_forms::scripted_at;
 pub use place::Place;
 pub use reading::read_text;
+pub use rhd_plan::{BodyEnd, BodyPlan, BodyPlans, CallPlan, CallPlans, SessionText};
 pub use rhd_print::{print_replies, print_reply, print_value, printed_trees_tell_every_call};
 pub use rhd_syntax::{
     Given, GivenAt, Places, read_value, texts_of_lines_are_utf8, values_say_one_thing,
 };
-pub use session::SessionText;

@@ -5,8 +5,8 @@ ghost use Rattle.rhd_text.specs.ReadRows.{is_skipped, part_at, line_by};
 ghost use Rattle.rhd_syntax.specs.Answers.{Gives};
 
 use crate::forms::part_at;
-use crate::part::Part;
 use crate::place::Place;
+use rhd_plan::Part;
 use rhd_syntax::{Stop, is_text, skip_blanks};
 use std::alloc::Global;
 

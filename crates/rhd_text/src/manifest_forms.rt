@@ -8,10 +8,10 @@ ghost use Rattle.rhd_syntax.specs.Answers.{Gives};
 
 use crate::keyword::ManifestWord;
 use crate::module_forms::found_in;
-use crate::part::Part;
 use crate::place::Place;
 use rhd_call::{Command, ModuleId};
 use rhd_func::ManifestId;
+use rhd_plan::Part;
 use rhd_syntax::{Stop, flag_at, is_end, num_at, value_at, wording_at};
 use rhd_value::FnId;
 use std::alloc::Global;

@@ -6,12 +6,12 @@ ghost use Rattle.rhd_text.specs.Rows.{form, access, found_in, registration, raw_
 ghost use Rattle.rhd_text.specs.ReadRows.{row_at, scripted_at, definition_at};
 ghost use Rattle.rhd_syntax.specs.Answers.{Gives};
 
-use crate::part::Part;
 use crate::place::Place;
 use rhd_call::{Command, ModuleId};
 use rhd_func::{BodyId, FnAccess, FnNamespace, IterId, RhaiFunc, ScriptFuncDef, SharedDef};
 use rhd_hash::Key;
 use rhd_module::FuncRegistration;
+use rhd_plan::Part;
 use rhd_syntax::{
     Stop, flag_at, is_end, kinds_at, long_at, num_at, purity_at, texts_at, this_at, value_at,
     wording_at,

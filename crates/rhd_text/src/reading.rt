@@ -17,8 +17,8 @@ use crate::forms::part_at;
 use crate::line::is_skipped;
 use crate::lines::first_line;
 use crate::place::Place;
-use crate::session::SessionText;
 use rhd_func::Natives;
+use rhd_plan::SessionText;
 use rhd_syntax::{Stop, is_text};
 use std::alloc::Global;
 

@@ -6,11 +6,11 @@ ghost use Rattle.rhd_text.specs.Rows.{first_apart, shape_of, request_of};
 ghost use Rattle.rhd_text.specs.ReadRows.{named_at, qualified_at, plan_at};
 ghost use Rattle.rhd_syntax.specs.Answers.{Gives};
 
-use crate::body::CallPlan;
 use crate::keyword::CallWord;
 use rhd_engine::path_of;
 use rhd_func::{CallRequest, CallShape};
 use rhd_names::lookup_symbol_from_syntax;
+use rhd_plan::CallPlan;
 use rhd_syntax::{Arguments, Stop, arguments_at, is_end, name_at, want_at, wording_at};
 use rhd_value::{Position, Text, TypeTag, Values};
 use std::alloc::Global;

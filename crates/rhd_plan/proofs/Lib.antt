@@ -1,0 +1,2 @@
+pub mod HeldNatives
+pub mod BodyLaws
