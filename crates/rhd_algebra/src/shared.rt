@@ -9,8 +9,9 @@ use crate::algebra::ModuleAlgebra;
 use crate::manifests::ModuleManifests;
 use rhd_decl::DeclFault;
 use rhd_func::ManifestId;
+use rhd_layers::SharedModule;
 use rhd_manifest::Manifests;
-use rhd_module::{Module, SharedModule};
+use rhd_module::Module;
 use std::alloc::Global;
 
 /// A module with several owners, which can be joined with others: what one owner changes, the others don't

@@ -6,7 +6,8 @@ ghost use Rattle.rhd_dispatch.specs.Walks.{may_have, any_may_have};
 
 use rhd_engine::ModuleMap;
 use rhd_hash::{HashedName, calc_untyped_fn_hash};
-use rhd_module::{Module, SharedModule};
+use rhd_layers::SharedModule;
+use rhd_module::Module;
 use rhd_value::Text;
 
 /// Whether the tree of a module may have a native of this name with so many parameters, one of which is

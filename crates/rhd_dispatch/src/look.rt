@@ -12,7 +12,7 @@ use crate::search::{find, pick_found};
 use rhd_call::Pick;
 use rhd_engine::{Engine, GlobalRuntimeState};
 use rhd_hash::{HashedName, Steps};
-use rhd_module::SharedModule;
+use rhd_layers::SharedModule;
 use rhd_value::{OutOfMemory, TypeTag, Types};
 use std::alloc::Global;
 

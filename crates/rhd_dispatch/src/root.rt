@@ -13,7 +13,8 @@ ghost use Rattle.rhd_dispatch.specs.Walks.{numbered, latest, rooted, named_at};
 
 use rhd_call::Layer;
 use rhd_engine::{Engine, GlobalRuntimeState, ModuleMap};
-use rhd_module::{Module, SharedModule};
+use rhd_layers::SharedModule;
+use rhd_module::Module;
 use rhd_value::Text;
 
 /// The root of a tree, at its layer. It is indexed.

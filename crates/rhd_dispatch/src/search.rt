@@ -13,7 +13,8 @@ use rhd_call::{Layer, Pick};
 use rhd_engine::{Engine, GlobalRuntimeState, ModuleMap};
 use rhd_func::RhaiFunc;
 use rhd_hash::{HashedKey, Key, Steps};
-use rhd_module::{Module, SharedModule};
+use rhd_layers::SharedModule;
+use rhd_module::Module;
 use rhd_value::{OutOfMemory, Text};
 use std::alloc::Global;
 

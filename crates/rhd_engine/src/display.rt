@@ -11,7 +11,7 @@ ghost use Rattle.rhd_engine.specs.Of.{lists_of};
 
 use crate::engine::Engine;
 use rhd_func::CallShape;
-use rhd_module::SharedModule;
+use rhd_layers::SharedModule;
 use rhd_value::{Dynamic, OutOfMemory, Text, Value, Values};
 use std::alloc::Global;
 

@@ -7,9 +7,9 @@ use crate::builtins::Builtins;
 use crate::limits::{Limits, Printers};
 use rhd_func::Natives;
 use rhd_hash::Seeds;
-use rhd_layers::{ModuleList, ModuleMap};
+use rhd_layers::{ModuleList, ModuleMap, SharedModule};
 use rhd_manifest::Manifests;
-use rhd_module::{Module, SharedModule};
+use rhd_module::Module;
 use rhd_value::OutOfMemory;
 use std::alloc::Global;
 

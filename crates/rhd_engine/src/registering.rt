@@ -16,7 +16,8 @@ ghost use Rattle.rhd_engine.specs.Registered.{fn_registration, for_all_calls, ra
 
 use crate::engine::Engine;
 use rhd_func::{Natives, PluginFunc, RhaiFunc};
-use rhd_module::{DeclFault, FuncMetadata, FuncRegistration, SharedModule, is_pure_by_name};
+use rhd_layers::SharedModule;
+use rhd_module::{DeclFault, FuncMetadata, FuncRegistration, is_pure_by_name};
 use rhd_value::{FnId, OutOfMemory, Text, Texts, TypeTag};
 use std::alloc::Global;
 

@@ -6,8 +6,7 @@ ghost use Rattle.rhd_layers.specs.Lists.{Popped, latest_of};
 ghost use Rattle.rhd_engine.specs.Start.{start_frame};
 
 use rhd_func::{SharedText, share};
-use rhd_layers::{ImportList, ModuleList};
-use rhd_module::SharedModule;
+use rhd_layers::{ImportList, ModuleList, SharedModule};
 use rhd_value::{Dynamic, OutOfMemory, Text, Value};
 use std::alloc::Global;
 

@@ -1,3 +1,4 @@
+pub mod Lends
 pub mod Lists
 pub mod Paths
 pub mod Statics

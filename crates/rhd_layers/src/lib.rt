@@ -1,12 +1,14 @@
-//! Modules in layers: lists of modules, modules by name, and the names of paths.
+//! Modules in layers: modules with several owners, lists of them, modules by name, and the names of paths.
 #![tactic(auto)]
 
 mod lists;
 mod parts;
 mod paths;
 mod placing;
+mod shared;
 mod statics;
 
 pub use lists::{ImportList, ModuleList};
 pub use paths::path_of;
+pub use shared::SharedModule;
 pub use statics::ModuleMap;

@@ -8,8 +8,9 @@ ghost use Rattle.rhd_module.specs.Contents.{with_type};
 ghost use Rattle.rhd_layers.specs.FirstModule.{in_first, RegistersFirst, RegistersBothFirst, RegistersRawFirst, FirstTells};
 ghost use Rattle.rhd_layers.specs.Lists.{Popped, all_indexed, latest_of, second, with_last};
 
+use crate::shared::SharedModule;
 use rhd_func::{Natives, RhaiFunc};
-use rhd_module::{DeclFault, FuncMetadata, FuncRegistration, SharedModule};
+use rhd_module::{DeclFault, FuncMetadata, FuncRegistration};
 use rhd_value::{FnId, OutOfMemory, Text, TypeTag};
 use std::alloc::Global;
 use std::marker::Model;

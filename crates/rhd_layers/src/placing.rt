@@ -8,8 +8,9 @@ ghost use Rattle.rhd_module.specs.Index.{indexed};
 ghost use Rattle.rhd_module.specs.Tree.{empty_module};
 ghost use Rattle.rhd_layers.specs.Statics.{placed, made, TreeClear, IsTreeRefusal};
 
+use crate::shared::SharedModule;
 use rhd_hash::Seeds;
-use rhd_module::{DeclFault, Module, SharedModule};
+use rhd_module::{DeclFault, Module};
 use rhd_value::{OutOfMemory, Text};
 use std::alloc::Global;
 use std::rc::Rc;

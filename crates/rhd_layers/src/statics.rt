@@ -12,8 +12,9 @@ ghost use Rattle.rhd_layers.specs.Statics.{placed, made, put_static, made_by, Tr
 
 use crate::parts::parts_of;
 use crate::placing::placed;
+use crate::shared::SharedModule;
 use rhd_hash::Seeds;
-use rhd_module::{DeclFault, Module, SharedModule};
+use rhd_module::{DeclFault, Module};
 use rhd_value::{OutOfMemory, Text};
 use std::alloc::Global;
 use std::collections::BTreeMap;

@@ -1,5 +1,4 @@
 pub mod Puts
-pub mod Scripts
 pub mod Refusals
 pub mod SubModules
 pub mod Both

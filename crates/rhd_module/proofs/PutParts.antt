@@ -6,40 +6,26 @@ use Rattle.std.specs.Option.{option_or}
 use Rattle.rhd_hash.specs.declared.key.Key.{Key}
 use Rattle.rhd_hash.specs.declared.mixer.Seeds.{Seeds}
 use Rattle.rhd_hash.specs.Filter.{is_marked}
-use Rattle.rhd_hash.specs.Keys.{key_eq, is_script_key}
+use Rattle.rhd_hash.specs.Keys.{key_eq}
 use Rattle.rhd_hash.specs.Table.{HasOwnHashes}
 use Rattle.rhd_decl.specs.declared.declaration.Declaration.{Declaration}
 use Rattle.rhd_manifest.specs.Entry.{Entry}
 use Rattle.rhd_table.specs.Marks.{may_be_dynamic, lists_dynamic}
-use Rattle.rhd_table.specs.Scripts.{has_script, AreNoted}
 use Rattle.rhd_module.specs.Manifests.{lazy}
 use Rattle.rhd_table.specs.Pairs.{put_all, put, Pairs}
 use Rattle.rhd_module.specs.Shown.{shown}
 use Rattle.rhd_module.specs.Tree.{Lists}
 use Rattle.rhd_module.proofs.JoinLaws.{put_past}
-use Rattle.rhd_table.proofs.Kept.{any_put, any_put_there}
+use Rattle.rhd_table.proofs.Kept.{any_put_there}
 use Rattle.rhd_table.proofs.Lookups.{first, one_key, first_put}
 use Rattle.rhd_module.proofs.Lookups.{first_filter, first_shown}
 use Rattle.rhd_table.proofs.Puts.{there, distinct_own}
 use Rattle.rhd_module.proofs.SamePairs.{other_way, Alone, alone_distinct}
-use Rattle.rhd_table.proofs.PutParts.{all_still, none_is}
+use Rattle.rhd_table.proofs.PutParts.{all_still, any_all, none_is}
 
 not_there : {A : Type 0} (o : Option A) → is_some o ≡ false → is_none o ≡ true
 not_there None h = refl
 not_there (Some x) h = absurd (true≢false h)
-
-or_assoc : (a b c : Bool) → ((a || b) || c) ≡ (a || (b || c))
-or_assoc true b c = refl
-or_assoc false b c = refl
-
-or_false : (a : Bool) → (a || false) ≡ a
-or_false true = refl
-or_false false = refl
-
--- a test of keys
-pub any_all : (test : Key → Bool) (ps x : Pairs) → list_any (λ p. test p.0) (put_all ps x) ≡ (list_any (λ p. test p.0) x || list_any (λ p. test p.0) ps)
-any_all test [] x = sym (or_false (list_any (λ p. test p.0) x))
-any_all test (p ∷ ps) x = any_all test ps (put p.0 p.1 x) ∙ ap (λ b. b || list_any (λ q. test q.0) ps) (any_put test p.0 p.1 x) ∙ or_assoc (list_any (λ q. test q.0) x) (test p.0) (list_any (λ q. test q.0) ps)
 
 -- of keys that are there, nothing is told anew
 pub any_there : (test : Key → Bool) (ps x : Pairs) → AllByRecursion (λ p. is_some (first p.0 x) ≡ true) ps → list_any (λ p. test p.0) (put_all ps x) ≡ list_any (λ p. test p.0) x
@@ -163,28 +149,6 @@ filter_grown marks marks2 s t there new old grown es right more held same is v =
     more v ∙ ap (λ b. b || list_any (λ p. may_be_dynamic s v p.0) new) (right v) ∙ or_between (list_any (λ p. may_be_dynamic s v p.0) old) (lists_dynamic s v es) (list_any (λ p. may_be_dynamic s v p.0) new)
     ∙ ap (λ b. b || lists_dynamic s v es) (sym (any_there (may_be_dynamic s v) there (put_all new old) (all_still there new old held) ∙ any_all (may_be_dynamic s v) new old))
     ∙ (λ i. list_any (λ p. may_be_dynamic (sym same i) v p.0) (sym is i) || lists_dynamic (sym same i) v es)
-
-first_false : (a b : Bool) → (a || b) ≡ false → a ≡ false
-first_false true b e = e
-first_false false b e = refl
-
-second_false : (a b : Bool) → (a || b) ≡ false → b ≡ false
-second_false true b e = absurd (true≢false e)
-second_false false b e = e
-
--- and the note of scripts, where it takes in what is known of those that are put in
-pub scripts_grown : (noted more : Bool) (there new old grown : Pairs) → AreNoted noted old → AreNoted more there → AreNoted more new → grown ≡ put_all there (put_all new old) → AreNoted (noted || more) grown
-scripts_grown noted more there new old grown had a b is none =
-    ap has_script is ∙ any_all is_script_key there (put_all new old) ∙ (λ i. (any_all is_script_key new old ∙ (λ j. had (first_false noted more none) j || b (second_false noted more none) j)) i || a (second_false noted more none) i)
-
--- of some that are no scripts, none is one
-pub none_kept : (test : Key → Bool) (ps : Pairs) → has_script ps ≡ false → has_script (filter (λ p. test p.0) ps) ≡ false
-none_kept test [] none = refl
-none_kept test (p ∷ ps) none = by (test p.0) (none_kept test ps (second_false (is_script_key p.0) (has_script ps) none))
-  where
-    by : (b : Bool) → has_script (filter (λ q. test q.0) ps) ≡ false → has_script (cond b (p ∷ filter (λ q. test q.0) ps) (filter (λ q. test q.0) ps)) ≡ false
-    by true more = (λ i. first_false (is_script_key p.0) (has_script ps) none i || more i)
-    by false more = more
 
 pub not_is : {A : Type 0} (o : Option A) → not (is_some o) ≡ is_none o
 not_is None = refl

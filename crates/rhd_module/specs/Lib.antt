@@ -7,7 +7,6 @@ pub mod Walk
 pub mod Below
 pub mod OwnKeys
 pub mod Index
-pub mod Lends
 pub mod Matching
 pub mod Manifests
 pub mod Made

@@ -139,8 +139,16 @@ impl Module {
         ensures clash { IfErr result (IsClash self.old.own.seeds (keys_of (put_all other.now.own.eager self.old.own.eager))) }
         ensures err { OnErr result (self.new ≡ self.old) }
     {
-        let there = copies_that(alloc, &other.eager, &|key: &Key| self.eager.get(key).is_some())?;
-        let new = copies_that(alloc, &other.eager, &|key: &Key| self.eager.get(key).is_none())?;
+        let there = copies_that(
+            alloc,
+            &other.eager,
+            &|key: &Key| self.eager.get(key).is_some(),
+        )?;
+        let new = copies_that(
+            alloc,
+            &other.eager,
+            &|key: &Key| self.eager.get(key).is_none(),
+        )?;
         let _apart = other.iter_fn();
         self.put_copies(alloc, there, new, named)
     }

@@ -11,7 +11,6 @@ mod module;
 mod parts;
 mod qualified;
 mod setters;
-mod shared;
 
 pub use declaring::{put_entry, register_declared, register_declared_that};
 pub use in_place::Named;
@@ -23,4 +22,3 @@ pub use rhd_decl::{
     is_banned, is_pure_by_name, native_key, script_declaration, script_key,
 };
 pub use setters::RegisterIntoModule;
-pub use shared::SharedModule;

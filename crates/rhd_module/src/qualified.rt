@@ -18,7 +18,7 @@ use std::alloc::Global;
 
 impl Module {
     /// Whether it is indexed. No two keys of its tree clash then.
-    pub(crate) fn has_index(&self) -> bool
+    pub fn has_index(&self) -> bool
         ensures indexed { result ≡ self.now.own.indexed }
         ensures apart { self.now.own.indexed ≡ true → NoneClash self.now.own.seeds (keys_of (tree self.now)) }
     {

@@ -232,7 +232,7 @@ impl Module {
     }
 
     /// Registers the natives of two numbers, both or none. Answers the hashes of their keys.
-    pub(crate) fn put_both(
+    pub fn put_both(
         &mut self,
         alloc: Global,
         natives: &Natives,

@@ -8,7 +8,7 @@ ghost use Rattle.rhd_resolve.specs.Environs.{next_env, with_env};
 use rhd_engine::ImportList;
 use rhd_func::EnvId;
 use rhd_hash::Seeds;
-use rhd_module::SharedModule;
+use rhd_layers::SharedModule;
 use rhd_value::OutOfMemory;
 use std::alloc::Global;
 use std::marker::Model;

@@ -15,8 +15,9 @@ use crate::loader::Loader;
 use crate::loading::ModuleLoading;
 use crate::resolver::ModuleResolver;
 use rhd_files::{FileAnswer, Files, file_path, parent};
+use rhd_layers::SharedModule;
 use rhd_manifest::Manifests;
-use rhd_module::{Module, SharedModule};
+use rhd_module::Module;
 use rhd_value::{BoxedFault, EvalAltResult, OutOfMemory, Position, Text};
 use std::alloc::Global;
 

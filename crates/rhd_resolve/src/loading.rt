@@ -17,7 +17,8 @@ use rhd_decl::DeclFault;
 use rhd_engine::ImportList;
 use rhd_func::{EnvId, FnAccess, SharedDef};
 use rhd_hash::Seeds;
-use rhd_module::{Module, SharedModule};
+use rhd_layers::SharedModule;
+use rhd_module::Module;
 use rhd_value::{OutOfMemory, Text};
 use std::alloc::Global;
 

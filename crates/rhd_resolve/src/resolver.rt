@@ -8,8 +8,8 @@ ghost use Rattle.rhd_resolve.specs.Sessions.{seen, IsGiven, IsLoaded, Adds};
 use crate::environs::Environs;
 use crate::fault::ResolveFault;
 use crate::loaded::LoadedScript;
+use rhd_layers::SharedModule;
 use rhd_manifest::Manifests;
-use rhd_module::SharedModule;
 use rhd_value::{Position, Text};
 use std::alloc::Global;
 

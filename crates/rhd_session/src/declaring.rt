@@ -18,8 +18,9 @@ use rhd_call::{Command, ModuleId, Reply};
 use rhd_engine::{fn_registration, raw_func};
 use rhd_func::{FnNamespace, IterId, ManifestId, Natives, RhaiFunc, SharedText};
 use rhd_hash::Key;
+use rhd_layers::SharedModule;
 use rhd_manifest::Manifests;
-use rhd_module::{DeclFault, FuncRegistration, Module, SharedModule};
+use rhd_module::{DeclFault, FuncRegistration, Module};
 use rhd_value::{Dynamic, FnId, OutOfMemory, Text, TypeTag, Types};
 use std::alloc::Global;
 

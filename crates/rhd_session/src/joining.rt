@@ -8,7 +8,8 @@ use crate::declaring::unknown;
 use crate::session_core::SessionCore;
 use rhd_algebra::SharedAlgebra;
 use rhd_call::ModuleId;
-use rhd_module::{DeclFault, Module, SharedModule};
+use rhd_layers::SharedModule;
+use rhd_module::{DeclFault, Module};
 use std::alloc::Global;
 
 /// How one module is joined with another.

@@ -222,7 +222,7 @@ impl Declarations {
         ensures clash { IfErr result (IsClash self.old.seeds (keys_of (put_all new.items self.old.pairs))) }
         ensures err { OnErr result (self.new ≡ self.old) }
     {
-        let scripts = has_script(there.as_slice()) || has_script(new.as_slice());
+        let scripts = has_script(there.as_slice()) | has_script(new.as_slice());
         self.scripts |= scripts;
         grow(&mut self.table, &mut self.natives, alloc, there, new)
     }

@@ -42,7 +42,7 @@ fn is_typed(key: &Key, name: &Text, params: u64) -> bool
 }
 
 /// The first untyped script of this name and number of parameters.
-fn untyped_script<'a>(
+pub(crate) fn untyped_script<'a>(
     table: &'a KeyTable<Declaration>,
     name: &Text,
     params: u64,
@@ -60,7 +60,7 @@ fn untyped_script<'a>(
 }
 
 /// The first typed script of this name and number of parameters.
-fn typed_script<'a>(
+pub(crate) fn typed_script<'a>(
     table: &'a KeyTable<Declaration>,
     name: &Text,
     params: u64,

@@ -5,8 +5,8 @@ use crate::must::{holds, must};
 use crate::resolve::{environs, has};
 use rhd_engine::ImportList;
 use rhd_func::SharedDef;
+use rhd_layers::SharedModule;
 use rhd_manifest::Manifests;
-use rhd_module::SharedModule;
 use rhd_resolve::{
     Environs, FileModuleResolver, FileTable, LoadedScript, Loader, MemFiles, ModuleResolver,
     ResolveFault,

@@ -10,7 +10,8 @@ use crate::given::{SEEDS, int, script, text};
 use rhd_decl::DeclFault;
 use rhd_func::SharedDef;
 use rhd_hash::Seeds;
-use rhd_module::{FuncRegistration, Module, SharedModule};
+use rhd_layers::SharedModule;
+use rhd_module::{FuncRegistration, Module};
 use std::alloc::Global;
 use std::process::Abort;
 

@@ -12,9 +12,10 @@ use rhd_func::{
     BodyId, CallRequest, CallShape, FnAccess, HostAnswer, NativeCallContext, Natives, PluginFunc,
     RhaiFunc, ScriptFuncDef, SharedDef,
 };
+use rhd_layers::SharedModule;
 use rhd_loader::PlanLoader;
 use rhd_manifest::Manifests;
-use rhd_module::{Module, SharedModule};
+use rhd_module::Module;
 use rhd_names::OpToken;
 use rhd_session::Session;
 use rhd_text::{BodyPlans, print_replies, print_reply, read_call};

@@ -11,4 +11,4 @@ returns-then-has_index c =
 
 pub invariant_of-self : goal.invariant_of-self
 invariant_of-self c =
-    (c.self.invariant.0, c.self.invariant.1, c.self.invariant.2, λ _. subst (λ (m : ModuleTree). IsIndexOf c.in_ok-index.index.value m) (sym c.self.view_is) c.in_ok-index.ensures.index)
+    (c.self.invariant.0, λ _. subst (λ (m : ModuleTree). IsIndexOf c.in_ok-index.index.value m) (sym c.self.view_is) c.in_ok-index.ensures.index)

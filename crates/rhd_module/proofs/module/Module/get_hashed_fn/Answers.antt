@@ -1,25 +1,13 @@
-use Rattle.std.proofs.Common.{rules, ◌≡◌, true, false, sym, ap, ◌∙◌}
+use Rattle.std.proofs.Common.{sym, ap, ◌∙◌}
 use Rattle.std.specs.Option.{option_map}
 use Rattle.std.specs.Map.{lookup}
-use Rattle.rhd_hash.specs.Keys.{key_eq, is_script_key}
+use Rattle.rhd_hash.specs.Keys.{key_eq}
 use Rattle.rhd_manifest.specs.Entry.{entry_decl}
 use Rattle.rhd_manifest.specs.Rank.{find_entry}
 use Rattle.rhd_module.specs.Tree.{ModuleTree}
 use Rattle.rhd_module.specs.Shown.{own_decl}
-use Rattle.rhd_module.proofs.Scripts.{none_found}
-use Rattle.rhd_module.proofs.Listed.{func_found, func_past, func_none}
+use Rattle.rhd_module.proofs.Listed.{func_found, func_past}
 use Rattle.rhd_module.proofs.module.Module.get_hashed_fn.Goals as goal
-
--- a script's key finds nothing where none was declared
-pub returns-then-is_script-clause-found : goal.returns-then-is_script-clause-found
-unfolding own_decl
-returns-then-is_script-clause-found c =
-    let m = c.args.self.now in
-    let key = c.args.key.now in
-    let script : is_script_key key ≡ true = search rules in
-    let none_noted : c.self.inside.scripts ≡ false = search rules in
-    let found = none_found key c.self.inside.eager.pairs script (c.self.invariant.1 none_noted) in
-    func_none m.own.seeds m.own.eager m.own.listed key (ap (λ (m : ModuleTree). lookup (key_eq key) m.own.eager) (sym c.self.view_is) ∙ found) script
 
 pub returns-in-Some-clause-found : goal.returns-in-Some-clause-found
 unfolding own_decl

@@ -11,6 +11,6 @@ pub returns : goal.returns
 returns c =
     let hash = c.args.hash in
     let m = the_view c.self.inside in
-    ap not c.is_absent.ensures ∙ twice _ ∙ c.self.invariant.2 hash ∙ sym (any_shown (may_be_dynamic m.own.seeds hash) m.own.seeds m.own.eager m.own.listed)
+    ap not c.is_absent.ensures ∙ twice _ ∙ c.self.invariant.0 hash ∙ sym (any_shown (may_be_dynamic m.own.seeds hash) m.own.seeds m.own.eager m.own.listed)
     ∙ ap (λ b. if b then some_in (declares_dynamic m.own.seeds hash) m else declares_dynamic m.own.seeds hash m.own) c.if-is_indexed.ensures
     ∙ ap (λ (t : ModuleTree). may_contain t hash) c.self.view_is

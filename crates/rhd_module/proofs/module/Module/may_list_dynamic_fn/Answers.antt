@@ -12,5 +12,5 @@ returns-then-not-is_empty c =
     let hash = c.args.hash in
     let m = the_view c.self.inside in
     let some : is_none_of m.own.listed ≡ false = sym c.is_empty.ensures ∙ c.if-not-is_empty.true in
-    ap not c.is_absent.ensures ∙ twice _ ∙ c.self.invariant.2 hash ∙ sym (any_shown (may_be_dynamic m.own.seeds hash) m.own.seeds m.own.eager m.own.listed)
+    ap not c.is_absent.ensures ∙ twice _ ∙ c.self.invariant.0 hash ∙ sym (any_shown (may_be_dynamic m.own.seeds hash) m.own.seeds m.own.eager m.own.listed)
     ∙ ap (λ (b : Bool). not b && declares_dynamic m.own.seeds hash m.own) (sym some) ∙ ap (λ (t : ModuleTree). may_list_dynamic t.own.seeds hash t.own) c.self.view_is

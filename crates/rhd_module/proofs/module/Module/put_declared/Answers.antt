@@ -1,4 +1,4 @@
-use Rattle.std.proofs.Common.{◌≡◌, true, false, is_some, None, OnOk, rules, sym, ap, subst, ◌∙◌}
+use Rattle.std.proofs.Common.{◌≡◌, true, is_some, None, OnOk, rules, sym, ap, subst, ◌∙◌}
 use Rattle.std.specs.List.{AllByRecursion, filter}
 use Rattle.std.specs.Map.{keys_of}
 use Rattle.rhd_hash.specs.Table.{HasOwnHashes}
@@ -6,12 +6,11 @@ use Rattle.rhd_module.specs.Algebra.{with_named}
 use Rattle.rhd_table.specs.Indexed.{IsClash}
 use Rattle.rhd_table.specs.Pairs.{put_all, Pairs}
 use Rattle.rhd_module.specs.Manifests.{with_pairs}
-use Rattle.rhd_table.specs.Scripts.{has_script}
 use Rattle.rhd_module.specs.Tree.{ModuleTree, subs_of}
 use Rattle.rhd_table.proofs.Fills.{if_more}
 use Rattle.rhd_table.proofs.Lookups.{first}
 use Rattle.rhd_table.proofs.Registers.{clash_all}
-use Rattle.rhd_module.proofs.PutParts.{present, absent, all_present, all_absent, is_nothing, none_kept, alone_own, split_all}
+use Rattle.rhd_module.proofs.PutParts.{present, absent, all_present, all_absent, is_nothing, alone_own, split_all}
 use Rattle.rhd_module.proofs.module.Module.put_declared.Goals as goal
 use Rattle.rhd_module.proofs.module.Module.put_declared.Goals.{After-put_copies}
 
@@ -19,38 +18,22 @@ pub put_copies-requires-clause-there : goal.put_copies-requires-clause-there
 put_copies-requires-clause-there c =
     let own = c.args.self.now.own.eager in
     let other = c.args.other.now.own.eager in
-    let items : c.in_ok-there.there.items ≡ filter (λ p. present own p.0) other = c.in_ok-there.ensures (present own) (λ k r h. search rules) in
+    let items : c.in_ok-there.there.items ≡ filter (λ p. present own p.0) other = c.in_ok-there.ensures (present own) (λ k r h. search rules) ∙ ap (λ (m : ModuleTree). filter (λ p. present own p.0) m.own.eager) c.other.view_is in
     subst (AllByRecursion (λ p. is_some (first p.0 own) ≡ true)) (sym items) (all_present own other)
 
 pub put_copies-requires-clause-new : goal.put_copies-requires-clause-new
 put_copies-requires-clause-new c =
     let own = c.args.self.now.own.eager in
     let other = c.args.other.now.own.eager in
-    let items : c.in_ok-new.new.items ≡ filter (λ p. absent own p.0) other = c.in_ok-new.ensures (absent own) (λ k r h. search rules) in
+    let items : c.in_ok-new.new.items ≡ filter (λ p. absent own p.0) other = c.in_ok-new.ensures (absent own) (λ k r h. search rules) ∙ ap (λ (m : ModuleTree). filter (λ p. absent own p.0) m.own.eager) c.other.view_is in
     subst (AllByRecursion (λ p. first p.0 own ≡ None)) (sym items) (all_absent own (absent own) other (λ k h. is_nothing (first k own) h))
-
-pub put_copies-requires-clause-scripts_there : goal.put_copies-requires-clause-scripts_there
-put_copies-requires-clause-scripts_there c = λ none.
-    let own = c.args.self.now.own.eager in
-    let other = c.args.other.now.own.eager in
-    let items : c.in_ok-there.there.items ≡ filter (λ p. present own p.0) other = c.in_ok-there.ensures (present own) (λ k r h. search rules) in
-    let noted : has_script other ≡ false = ap (λ (m : ModuleTree). has_script m.own.eager) (sym c.other.view_is) ∙ c.other.invariant.1 none in
-    ap has_script items ∙ none_kept (present own) other noted
-
-pub put_copies-requires-clause-scripts_new : goal.put_copies-requires-clause-scripts_new
-put_copies-requires-clause-scripts_new c = λ none.
-    let own = c.args.self.now.own.eager in
-    let other = c.args.other.now.own.eager in
-    let items : c.in_ok-new.new.items ≡ filter (λ p. absent own p.0) other = c.in_ok-new.ensures (absent own) (λ k r h. search rules) in
-    let noted : has_script other ≡ false = ap (λ (m : ModuleTree). has_script m.own.eager) (sym c.other.view_is) ∙ c.other.invariant.1 none in
-    ap has_script items ∙ none_kept (absent own) other noted
 
 whole : (c : After-put_copies) → put_all c.in_ok-there.there.items (put_all c.in_ok-new.new.items c.args.self.now.own.eager) ≡ put_all c.args.other.now.own.eager c.args.self.now.own.eager
 whole c =
     let own = c.args.self.now.own.eager in
     let other = c.args.other.now.own in
-    let here : c.in_ok-there.there.items ≡ filter (λ p. present own p.0) other.eager = c.in_ok-there.ensures (present own) (λ k r h. search rules) in
-    let new : c.in_ok-new.new.items ≡ filter (λ p. absent own p.0) other.eager = c.in_ok-new.ensures (absent own) (λ k r h. search rules) in
+    let here : c.in_ok-there.there.items ≡ filter (λ p. present own p.0) other.eager = c.in_ok-there.ensures (present own) (λ k r h. search rules) ∙ ap (λ (m : ModuleTree). filter (λ p. present own p.0) m.own.eager) c.other.view_is in
+    let new : c.in_ok-new.new.items ≡ filter (λ p. absent own p.0) other.eager = c.in_ok-new.ensures (absent own) (λ k r h. search rules) ∙ ap (λ (m : ModuleTree). filter (λ p. absent own p.0) m.own.eager) c.other.view_is in
     (λ i. put_all (here i) (put_all (new i) own)) ∙ split_all other.eager own (alone_own other.seeds other.eager c.iter_fn-apart.ensures.apart)
 
 pub returns-clause-ok : goal.returns-clause-ok

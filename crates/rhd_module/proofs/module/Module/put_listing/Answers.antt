@@ -14,5 +14,5 @@ invariant_of-self-in-Err c =
     let before = popped inside.manifests.items c.push.new.self.items c.pop.new.self.items c.args.manifest c.pop.result c.in_ok-push.ensures.items c.pop.ensures.items (c.pop.ensures.variant.1 (omega (arith, c.in_ok-push.ensures.len))) in
     let own : List (ManifestId × Bool) × List Entry → Lists = λ p. record (the_view inside).own { manifests = p.0; listed = p.1 } in
     let P : List (ManifestId × Bool) × List Entry → Type 0 = λ p. IsFilter inside.filter (own p) × IsKept inside.index.value (record { own = own p; subs = (the_view inside).subs }) in
-    let kept = subst P (λ i. (sym before i, sym c.in-Err.ensures.err i)) (c.self.invariant.2, c.self.invariant.3) in
-    (c.self.invariant.0, c.self.invariant.1, kept.0, kept.1)
+    let kept = subst P (λ i. (sym before i, sym c.in-Err.ensures.err i)) c.self.invariant in
+    kept

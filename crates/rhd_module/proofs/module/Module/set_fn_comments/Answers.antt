@@ -5,9 +5,6 @@ use Rattle.rhd_module.specs.Tree.{ModuleTree}
 use Rattle.rhd_module.specs.contracts.module.Module.{the_view, the_invariant}
 use Rattle.rhd_module.proofs.Kept.{filter_commented, index_commented}
 use Rattle.rhd_table.specs.Found.{comment_on}
-use Rattle.rhd_table.specs.NativeIndex.{places_from}
-use Rattle.rhd_table.specs.Scripts.{has_script}
-use Rattle.rhd_table.proofs.Commented.{places_commented, scripts_commented}
 use Rattle.rhd_module.proofs.module.Module.set_fn_comments.Goals as goal
 
 pub invariant_of-self-2 : goal.invariant_of-self-2
@@ -15,13 +12,11 @@ invariant_of-self-2 c =
     let es = c.self.inside.eager.pairs in
     let key = c.args.key.now in
     let comments = c.args.comments in
-    let is : c.comment_pair.new.table.pairs ≡ comment_on key comments es = ap (λ (t : Table Declaration). t.pairs) c.in_ok-found.ensures.ok in
+    let is : c.set_comments.new.self.pairs ≡ comment_on key comments es = ap (λ (t : Table Declaration). t.pairs) c.in_ok-found.ensures.ok in
     let same = ap (λ (t : Table Declaration). t.seeds) c.in_ok-found.ensures.ok in
-    let new : ModuleTree = the_view (record c.self.inside { eager = c.comment_pair.new.table }) in (
-      λ name. c.self.invariant.0 name ∙ sym (places_commented key comments 0 name es) ∙ ap (places_from 0 name) (sym is),
-      λ none. ap has_script is ∙ scripts_commented key comments es ∙ c.self.invariant.1 none,
-      filter_commented key comments c.self.inside.filter (the_view c.self.inside).own new.own is same refl c.self.invariant.2,
-      λ indexed. index_commented key comments c.self.inside.index.value (the_view c.self.inside) new is same refl refl (c.self.invariant.3 indexed),
+    let new : ModuleTree = the_view (record c.self.inside { eager = c.set_comments.new.self }) in (
+      filter_commented key comments c.self.inside.filter (the_view c.self.inside).own new.own is same refl c.self.invariant.0,
+      λ indexed. index_commented key comments c.self.inside.index.value (the_view c.self.inside) new is same refl refl (c.self.invariant.1 indexed),
     )
 
 -- where memory runs out, all is as before

@@ -4,4 +4,4 @@ use Rattle.rhd_module.proofs.module.Module.set_internal.Goals as goal
 
 pub invariant_of-self : goal.invariant_of-self
 invariant_of-self c =
-    (c.self.invariant.0, c.self.invariant.1, c.self.invariant.2, λ is. c.self.invariant.3 (sym (ap (λ (f : Flagged). f.indexed) c.set_internal.ensures) ∙ is))
+    (c.self.invariant.0, λ is. c.self.invariant.1 (sym (ap (λ (f : Flagged). f.indexed) c.set_internal.ensures) ∙ is))

@@ -18,4 +18,4 @@ returns-clause-ok c =
 pub invariant_of-self : goal.invariant_of-self
 invariant_of-self c =
     let P : List (Bytes × Rc ModuleTree Global) → Type 0 = λ es. IsKept c.self.inside.index.value (record { own = (the_view c.self.inside).own; subs = subs_of es }) in
-    (c.self.invariant.0, c.self.invariant.1, c.self.invariant.2, subst P (sym c.in_err-insert.ensures.err) c.self.invariant.3)
+    (c.self.invariant.0, subst P (sym c.in_err-insert.ensures.err) c.self.invariant.1)

@@ -18,8 +18,6 @@ invariant_of-self c =
     let all = subst P (λ i. (sym c.self.view_is i, sym c.other.view_is i)) c.requires.listed in
     let marked : (v : ℕ) → is_marked 8 c.mark_parts.new.filter v ≡ (is_marked 8 inside.filter v || lists_dynamic own.seeds v other.listed) =
     λ v. c.mark_parts.ensures v ∙ (λ i. is_marked 8 inside.filter v || lists_dynamic (c.seeds.ensures i) v (c.parts.ensures i)) in (
-      c.self.invariant.0,
-      c.self.invariant.1,
-      filters_listed inside.filter c.mark_parts.new.filter own listed other.listed c.self.invariant.2 marked all,
+      filters_listed inside.filter c.mark_parts.new.filter own listed other.listed c.self.invariant.0 marked all,
       λ is. absurd (true≢false (sym is ∙ ap (λ (f : Flagged). f.indexed) c.set_indexed.ensures)),
     )

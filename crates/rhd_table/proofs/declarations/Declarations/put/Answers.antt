@@ -1,62 +1,36 @@
-use Rattle.std.proofs.Common.{◌≡◌, ℕ, ◌++◌, None, Err, length, take, sym, ap, subst, ◌∙◌, true≢false}
+use Rattle.std.proofs.Common.{◌≡◌, ℕ, ◌++◌, length, take, sym, ap, subst, ◌∙◌}
 use Rattle.std.specs.Map.{lookup}
 use Rattle.rhd_value.specs.Tree.{Bytes}
 use Rattle.rhd_hash.specs.Keys.{key_eq}
 use Rattle.rhd_hash.specs.Table.{Table}
-use Rattle.rhd_hash.specs.declared.mixer.Seeds.{Seeds}
-use Rattle.rhd_decl.specs.Flags.{Flagged}
-use Rattle.rhd_hash.specs.Parts.{dynamic_hash}
-use Rattle.rhd_module.specs.Index.{IsFilter, IsKept}
-use Rattle.rhd_table.proofs.Kept.{filter_there, filter_last}
 use Rattle.rhd_decl.specs.declared.declaration.Declaration.{Declaration}
 use Rattle.rhd_table.specs.Pairs.{Pairs, put}
-use Rattle.rhd_module.specs.Tree.{ModuleTree}
-use Rattle.rhd_module.specs.Registered.{Puts}
 use Rattle.rhd_table.specs.NativeIndex.{IsIndex, noted, place_at}
-use Rattle.rhd_module.specs.contracts.module.Module.{the_view}
 use Rattle.rhd_table.proofs.Places.{index_put_there, index_put_last, take_put}
-use Rattle.rhd_module.proofs.Puts.{refused}
 use Rattle.rhd_table.proofs.Puts.{is_there, is_absent}
 use Rattle.rhd_table.proofs.Scripts.{noted_put, noted_still}
-use Rattle.rhd_module.proofs.module.Module.put_fn.Goals as goal
-use Rattle.rhd_module.proofs.module.Module.put_fn.Goals.{After-truncate}
-
-pub returns-in-Err : goal.returns-in-Err
-returns-in-Err c =
-    let inside = c.self.inside in
-    let seen : Table Declaration → ModuleTree = λ t. the_view (record inside { eager = t }) in
-    let why = c.in-Err.ensures.refused in
-    let P : ModuleTree → Type 0 = λ m. Puts {A = Unit {0}} None c.args.key c.args.declaration m (Err c.in-Err.fault) (seen c.put_pair.new.table) in
-    subst P c.self.view_is (refused (the_view inside) (seen c.put_pair.new.table) c.args.key c.args.declaration (ap seen c.in-Err.ensures.unchanged) why.0 c.in-Err.fault why.1 why.2)
+use Rattle.rhd_table.proofs.declarations.Declarations.put.Goals as goal
+use Rattle.rhd_table.proofs.declarations.Declarations.put.Goals.{After-truncate}
 
 pub invariant_of-self : goal.invariant_of-self
 invariant_of-self c =
     let same = c.in-Err.ensures.unchanged in
-    let P : Table Declaration → Type 0 =
-    λ t. IsIndex c.self.inside.natives t.pairs × IsFilter c.self.inside.filter (the_view (record c.self.inside { eager = t })).own × IsKept c.self.inside.index.value (the_view (record c.self.inside { eager = t })) in
-    let kept : P c.put_pair.new.table = subst P (sym same) (c.self.invariant.0, c.self.invariant.2, c.self.invariant.3) in
-    let scripts = noted_still c.self.inside.scripts c.is_script.result c.self.inside.eager.pairs c.put_pair.new.table.pairs c.self.invariant.1 (ap (λ (t : Table Declaration). t.pairs) same) in
-    (kept.0, scripts, kept.1, kept.2)
+    let scripts = noted_still c.self.inside.scripts c.is_script.result c.self.inside.table.pairs c.put_pair.new.table.pairs c.self.invariant.1 (ap (λ (t : Table Declaration). t.pairs) same) in
+    (subst (λ (t : Table Declaration). IsIndex c.self.inside.natives t.pairs) (sym same) c.self.invariant.0, scripts)
 
 pub invariant_of-self-in-Ok-true : goal.invariant_of-self-in-Ok-true
 invariant_of-self-in-Ok-true c =
-    let es = c.self.inside.eager.pairs in
+    let es = c.self.inside.table.pairs in
     let key = c.args.key in
     let puts : c.put_pair.new.table.pairs ≡ put key c.args.declaration es = ap (λ (t : Table Declaration). t.pairs) c.in-Ok-true.ensures.pairs in
     let there = is_there (lookup (key_eq key) es) (sym c.in-Ok-true.ensures.replaced ∙ c.in-Ok-true.field-0-test) in
     let index = index_put_there c.self.inside.natives key c.args.declaration es c.self.invariant.0 there in
     let scripts = noted_put c.self.inside.scripts c.is_script.result key c.args.declaration es c.put_pair.new.table.pairs c.self.invariant.1 c.is_script.ensures puts in
-    let seeds = ap (λ (t : Table Declaration). t.seeds) c.in-Ok-true.ensures.pairs in
-    let filter = filter_there c.self.inside.filter c.self.inside.eager.seeds c.put_pair.new.table.seeds key c.args.declaration es c.put_pair.new.table.pairs c.self.inside.listed c.self.invariant.2 there seeds puts in (
-      subst (λ (ps : Pairs). IsIndex c.self.inside.natives ps) (sym puts) index,
-      scripts,
-      filter,
-      λ is. absurd (true≢false (sym is ∙ ap (λ (f : Flagged). f.indexed) c.set_indexed.ensures)),
-    )
+    (subst (λ (ps : Pairs). IsIndex c.self.inside.natives ps) (sym puts) index, scripts)
 
 pub invariant_of-self-in-Ok : goal.invariant_of-self-in-Ok
 invariant_of-self-in-Ok c =
-    let es = c.self.inside.eager.pairs in
+    let es = c.self.inside.table.pairs in
     let key = c.args.key in
     let d = c.args.declaration in
     let old = c.self.inside.natives in
@@ -66,37 +40,25 @@ invariant_of-self-in-Ok c =
     let P : Pairs → ℕ → Type 0 = λ ps place. (name : Bytes) → noted new name ≡ noted old name ++ place_at name ps place in
     let notes : P (put key d es) (length es) = subst (λ (ps : Pairs). P ps (length es)) puts (subst (λ (place : ℕ). P c.put_pair.new.table.pairs place) c.len-place.ensures c.in-Ok.ensures.ok) in
     let scripts = noted_put c.self.inside.scripts c.is_script.result key d es c.put_pair.new.table.pairs c.self.invariant.1 c.is_script.ensures puts in
-    let seeds = ap (λ (t : Table Declaration). t.seeds) c.in-Ok-false.ensures.pairs in
-    let filter = filter_last c.self.inside.filter c.mark_dynamic.new.filter c.self.inside.eager.seeds c.put_pair.new.table.seeds key d es c.put_pair.new.table.pairs c.self.inside.listed c.dynamic_hash-dynamic.result c.self.invariant.2
-    (c.dynamic_hash-dynamic.ensures ∙ ap (λ (s : Seeds). dynamic_hash s key) c.seeds.ensures) c.mark_dynamic.ensures seeds puts in (
-      subst (λ (ps : Pairs). IsIndex new ps) (sym puts) (index_put_last old new key d es c.self.invariant.0 absent notes),
-      scripts,
-      filter,
-      λ is. absurd (true≢false (sym is ∙ ap (λ (f : Flagged). f.indexed) c.set_indexed-in-Ok.ensures)),
-    )
+    (subst (λ (ps : Pairs). IsIndex new ps) (sym puts) (index_put_last old new key d es c.self.invariant.0 absent notes), scripts)
 
 -- what was put last is taken out again
-as_before : (c : After-truncate) → c.truncate.new.self ≡ c.self.inside.eager
+as_before : (c : After-truncate) → c.truncate.new.self ≡ c.self.inside.table
 as_before c =
-    let es = c.self.inside.eager.pairs in
+    let es = c.self.inside.table.pairs in
     let key = c.args.key in
     let absent = is_absent (lookup (key_eq key) es) (sym c.in-Ok-false.ensures.replaced ∙ c.in-Ok-false.field-0-test) in
-    let table : Pairs → Table Declaration = λ ps. record { seeds = c.self.inside.eager.seeds; pairs = ps } in
+    let table : Pairs → Table Declaration = λ ps. record { seeds = c.self.inside.table.seeds; pairs = ps } in
     c.truncate.ensures ∙ (λ i. record (c.in-Ok-false.ensures.pairs i) { pairs = take (c.len-place.ensures i) (c.in-Ok-false.ensures.pairs i).pairs })
     ∙ ap table (take_put key c.args.declaration es absent)
 
 pub invariant_of-self-in-Err-note_place : goal.invariant_of-self-in-Err-note_place
 invariant_of-self-in-Err-note_place c =
-    let es = c.self.inside.eager.pairs in
+    let es = c.self.inside.table.pairs in
     let same = ap (λ (t : Table Declaration). t.pairs) (as_before c) in
     let index : IsIndex c.note_place.new.natives es = λ name. c.in-Err-note_place.ensures.err name ∙ c.self.invariant.0 name in
     let scripts = noted_still c.self.inside.scripts c.is_script.result es c.truncate.new.self.pairs c.self.invariant.1 same in
-    let P : Table Declaration → Type 0 =
-    λ t. IsFilter c.self.inside.filter (the_view (record c.self.inside { eager = t })).own × IsKept c.self.inside.index.value (the_view (record c.self.inside { eager = t })) in
-    let kept : P c.truncate.new.self = subst P (sym (as_before c)) (c.self.invariant.2, c.self.invariant.3) in
-    (subst (λ (ps : Pairs). IsIndex c.note_place.new.natives ps) (sym same) index, scripts, kept.0, kept.1)
+    (subst (λ (ps : Pairs). IsIndex c.note_place.new.natives ps) (sym same) index, scripts)
 
-pub returns-in-Err-note_place : goal.returns-in-Err-note_place
-returns-in-Err-note_place c =
-    let inside = c.self.inside in
-    ap (λ (t : Table Declaration). the_view (record inside { eager = t })) (as_before c) ∙ c.self.view_is
+pub returns-in-Err-note_place-clause-unchanged : goal.returns-in-Err-note_place-clause-unchanged
+returns-in-Err-note_place-clause-unchanged c = as_before c ∙ c.self.view_is

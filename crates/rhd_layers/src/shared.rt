@@ -5,14 +5,13 @@ ghost use Rattle.std.specs.Borrow.{sem};
 ghost use Rattle.rhd_func.specs.Infos.{infos_of};
 ghost use Rattle.rhd_module.specs.Contents.{with_id, named, with_doc, with_var, with_type, cleared, with_sub};
 ghost use Rattle.rhd_module.specs.Index.{Indexes};
-ghost use Rattle.rhd_module.specs.Lends.{LendsModule};
+ghost use Rattle.rhd_layers.specs.Lends.{LendsModule};
 ghost use Rattle.rhd_module.specs.Registered.{Puts, Registers, RegistersBoth, RegistersRaw};
 ghost use Rattle.rhd_decl.specs.Registration.{native_at, registered_decl, script_key, script_decl};
 
-use crate::module::Module;
-use crate::registration::FuncRegistration;
-use rhd_decl::{DeclFault, FuncMetadata};
+use rhd_decl::{DeclFault, FuncMetadata, FuncRegistration};
 use rhd_func::{Natives, RhaiFunc, SharedDef};
+use rhd_module::{Module, RegisterIntoModule};
 use rhd_value::{Dynamic, FnId, OutOfMemory, Text, TypeTag};
 use std::alloc::{AllocError, Global};
 use std::marker::Model;

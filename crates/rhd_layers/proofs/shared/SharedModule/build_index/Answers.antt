@@ -4,7 +4,7 @@ use Rattle.rhd_module.specs.Tree.{ModuleTree}
 use Rattle.rhd_module.specs.Walk.{tree}
 use Rattle.rhd_table.specs.Indexed.{NoneClash}
 use Rattle.rhd_module.specs.Index.{indexed}
-use Rattle.rhd_module.proofs.shared.SharedModule.build_index.Goals as goal
+use Rattle.rhd_layers.proofs.shared.SharedModule.build_index.Goals as goal
 
 pub returns-then-has_index : goal.returns-then-has_index
 returns-then-has_index c =
