@@ -1,17 +1,12 @@
 -- What the calls on a module's contents change and find.
 use Rattle.std.specs.Prelude.{ℕ, Bool, true, false, List, [], ◌∷◌, ◌&&◌, length, if◌then◌else◌, Option, None, Some, is_none}
-use Rattle.std.specs.Option.{option_or}
 use Rattle.std.specs.Ordering.{match_ordering, nat_cmp}
 use Rattle.std.specs.Cmp.Lexicographic.{slice_cmp}
 use Rattle.rhd_value.specs.Tree.{Bytes, Tree}
 use Rattle.rhd_value.specs.Entries.{put}
-use Rattle.rhd_value.specs.Firsts.{first_of}
 use Rattle.rhd_value.specs.Same.{text_eq}
 use Rattle.rhd_hash.specs.declared.key.Key.{Key}
-use Rattle.rhd_hash.specs.declared.key.Key.TheVariants.{Script}
-use Rattle.rhd_hash.specs.Keys.{key_eq}
 use Rattle.rhd_func.specs.declared.func.ScriptFuncDef.{ScriptFuncDef}
-use Rattle.rhd_func.specs.Funcs.{script_def_of}
 use Rattle.rhd_decl.specs.CustomTypes.{type_info, put_type}
 use Rattle.rhd_manifest.specs.Listing.{is_none_of}
 use Rattle.rhd_module.specs.Tree.{ModuleTree, Subs, no_subs, sub}

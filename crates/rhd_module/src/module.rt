@@ -1,6 +1,6 @@
 //! A module.
 
-ghost use Rattle.std.specs.Prelude.{◌≡◌, [], None, is_some, OnOk, OnErr, IfOk};
+ghost use Rattle.std.specs.Prelude.{◌≡◌, [], false, None, is_some, OnOk, OnErr, IfOk};
 ghost use Rattle.std.specs.Map.{lookup, keys_of};
 ghost use Rattle.std.specs.Option.{option_copied, option_map};
 ghost use Rattle.rhd_hash.specs.Keys.{key_eq};
@@ -279,7 +279,10 @@ impl Module {
     fn get_listed(&self, key: &Key) -> Option<&RhaiFunc>
         ensures { option_copied result ≡ option_map (λ e. (entry_decl self.now.own.seeds e).func) (find_entry key.now self.now.own.listed) }
     {
-        if self.listed.is_empty() || key.is_script() {
+        if self.listed.is_empty() {
+            return None;
+        }
+        if key.is_script() {
             return None;
         }
         match self.listed.find(key) {

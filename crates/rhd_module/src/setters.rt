@@ -63,10 +63,7 @@ impl RegisterIntoModule for FuncRegistration {
         natives: &Natives,
         id: FnId,
     ) -> Result<FuncMetadata, DeclFault> {
-        match natives.get(id) {
-            Some(native) => target.put_held(alloc, self, native, id),
-            None => Err(unknown(natives, id)),
-        }
+        target.put_registered(alloc, natives, self, id)
     }
 
     fn set_into_module_raw(
@@ -138,6 +135,23 @@ impl Module {
         let func = reg.func_of(native, id);
         let is_method = native.is_method_call();
         self.put_allowed(alloc, reg, is_method, native.param_types(), func)
+    }
+
+    /// Puts the native of a number under a registration.
+    fn put_registered(
+        &mut self,
+        alloc: Global,
+        natives: &Natives,
+        reg: FuncRegistration,
+        id: FnId,
+    ) -> Result<FuncMetadata, DeclFault>
+        ensures registers { Registers (infos_of info natives.now) reg id self.old result self.new }
+        ensures metadata { IfOk result (λ metadata. metadata ≡ (registered_decl self.old.own.seeds reg (native_at (infos_of info natives.now) id) id).metadata) }
+    {
+        match natives.get(id) {
+            Some(native) => self.put_held(alloc, reg, native, id),
+            None => Err(unknown(natives, id)),
+        }
     }
 
     /// Does what `FuncRegistration::set_into_module_raw` does.
@@ -247,11 +261,11 @@ impl Module {
     {
         refuse_pair(alloc, natives, &get_reg.name, get, &set_reg.name, set)?;
         let mut copy = self.dup(alloc)?;
-        let getter = match get_reg.set_into_module(alloc, &mut copy, natives, get) {
+        let getter = match copy.put_registered(alloc, natives, get_reg, get) {
             Ok(metadata) => metadata.hash,
             Err(fault) => return Err(fault),
         };
-        let setter = match set_reg.set_into_module(alloc, &mut copy, natives, set) {
+        let setter = match copy.put_registered(alloc, natives, set_reg, set) {
             Ok(metadata) => metadata.hash,
             Err(fault) => return Err(fault),
         };

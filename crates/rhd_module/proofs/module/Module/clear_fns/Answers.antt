@@ -1,8 +1,6 @@
 use Rattle.std.proofs.Common.{◌||◌, sym, ap, ◌∙◌, true≢false}
 use Rattle.std.specs.List.{list_any}
-use Rattle.rhd_hash.specs.Table.{Table}
 use Rattle.rhd_decl.specs.Flags.{Flagged}
-use Rattle.rhd_decl.specs.declared.declaration.Declaration.{Declaration}
 use Rattle.rhd_table.specs.Marks.{may_be_dynamic, lists_dynamic}
 use Rattle.rhd_module.proofs.module.Module.clear_fns.Goals as goal
 

@@ -21,5 +21,5 @@ unfolding own_decl
 returns-in-None-clause-found c =
     let m = c.args.self.now in
     let key = c.args.key.now in
-    c.get_listed.ensures ∙ ap (λ k. option_map (λ e. (entry_decl m.own.seeds e).func) (find_entry k m.own.listed)) c.key-in-None.ensures
+    c.get_listed.ensures ∙ ap (λ k. option_map (λ e. (entry_decl m.own.seeds e).func) (find_entry k m.own.listed)) c.key.ensures
     ∙ func_past m.own.seeds m.own.eager m.own.listed key (ap (λ (m : ModuleTree). lookup (key_eq key) m.own.eager) (sym c.self.view_is) ∙ sym c.in-None.ensures)

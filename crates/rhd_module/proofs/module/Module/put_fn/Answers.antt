@@ -8,7 +8,7 @@ use Rattle.rhd_decl.specs.Flags.{Flagged}
 use Rattle.rhd_decl.specs.declared.declaration.Declaration.{Declaration}
 use Rattle.rhd_table.specs.Pairs.{put}
 use Rattle.rhd_table.proofs.Kept.{filter_there, filter_last}
-use Rattle.rhd_table.proofs.Puts.{is_there, is_absent}
+use Rattle.rhd_table.proofs.Puts.{is_there}
 use Rattle.rhd_module.specs.Index.{IsFilter, IsKept}
 use Rattle.rhd_module.specs.Registered.{Puts}
 use Rattle.rhd_module.specs.Tree.{ModuleTree}
@@ -49,6 +49,6 @@ invariant_of-self-in-Ok-false c =
     let puts : c.put.new.self.pairs ≡ put key d es = ap (λ (t : Table Declaration). t.pairs) c.in-Ok-false.ensures.pairs in
     let seeds = ap (λ (t : Table Declaration). t.seeds) c.in-Ok-false.ensures.pairs in (
       filter_last c.self.inside.filter c.mark_dynamic.new.filter c.self.inside.eager.seeds c.put.new.self.seeds key d es c.put.new.self.pairs c.self.inside.listed c.dynamic_hash-dynamic.result c.self.invariant.0
-      (c.dynamic_hash-dynamic.ensures ∙ ap (λ (s : Seeds). dynamic_hash s key) c.seeds.ensures) c.mark_dynamic.ensures seeds puts,
+          (c.dynamic_hash-dynamic.ensures ∙ ap (λ (s : Seeds). dynamic_hash s key) c.seeds.ensures) c.mark_dynamic.ensures seeds puts,
       λ is. absurd (true≢false (sym is ∙ ap (λ (f : Flagged). f.indexed) c.set_indexed-in-Ok-false.ensures)),
     )
