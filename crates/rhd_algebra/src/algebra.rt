@@ -144,7 +144,7 @@ impl ModuleAlgebra for Module {
         );
         match kept {
             Ok(kept) => {
-                self.take_fns(alloc, kept);
+                self.take_fns(kept);
                 Ok(())
             }
             Err(_fault) => Err(OutOfMemory),

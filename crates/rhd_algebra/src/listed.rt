@@ -83,8 +83,7 @@ fn register_entry(
     ensures ok { OnOk result (target.new ≡ with_pairs (put_back (entry_pair target.old.own.seeds entry.now ∷ []) target.old.own.eager) target.new.own.indexed target.old) }
     ensures clash { IfErr result (IsClash target.old.own.seeds (keys_of (put_back (entry_pair target.old.own.seeds entry.now ∷ []) target.old.own.eager))) }
 {
-    let declaration = entry.declaration(alloc, target.seeds())?;
-    put_entry(target, alloc, entry, declaration)
+    put_entry(target, alloc, entry)
 }
 
 /// The same of several, from the first to the last.
@@ -132,7 +131,7 @@ fn register_entry_that<F: Fn(&Declaration) -> bool>(
     if !passes(&declaration) {
         return Ok(());
     }
-    put_entry(made, alloc, entry, declaration)
+    put_entry(made, alloc, entry)
 }
 
 /// The same of several, from the first to the last.

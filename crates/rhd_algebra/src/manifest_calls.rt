@@ -60,7 +60,6 @@ impl EntryCalls for FnManifestEntry {
             let key = self.key().dup(alloc)?;
             return Err(DeclFault::IndexerNotAllowed { key });
         }
-        let declaration = self.declaration(alloc, target.seeds())?;
-        put_entry(target, alloc, self, declaration)
+        put_entry(target, alloc, self)
     }
 }

@@ -110,7 +110,7 @@ impl ModuleManifests for Module {
 
     fn register_listed(&mut self, alloc: Global) -> Result<(), DeclFault> {
         let target = registered(alloc, self)?;
-        self.take_fns(alloc, target);
+        self.take_fns(target);
         Ok(())
     }
 
@@ -119,7 +119,7 @@ impl ModuleManifests for Module {
             return Ok(());
         }
         let (fns, subs) = registered_parts(alloc, self)?;
-        self.take_fns(alloc, fns);
+        self.take_fns(fns);
         self.set_sub_modules(subs);
         Ok(())
     }

@@ -184,33 +184,35 @@ impl Module {
         self.filter = BloomFilterU64::new();
     }
 
-    /// Takes the declarations of another module in the place of its own, and lists nothing any more. The
-    /// module isn't indexed any more.
-    pub fn take_fns(&mut self, alloc: Global, other: Module)
-        requires seeds { other.own.seeds ≡ self.old.own.seeds }
-        requires listed { other.own.listed ≡ [] }
-        ensures { self.new ≡ record self.old { own = record self.old.own { eager = other.own.eager; manifests = []; listed = []; indexed = false } } }
+    /// Takes the functions of another module, declared and listed, in the place of its own, with the seeds of
+    /// their keys. The module isn't indexed any more.
+    pub fn take_fns(&mut self, other: Module)
+        ensures { self.new ≡ record self.old { own = record self.old.own { eager = other.own.eager; manifests = other.own.manifests; listed = other.own.listed; indexed = false; seeds = other.own.seeds } } }
     {
-        let Module { eager, filter, .. } = other;
+        let Module {
+            eager,
+            manifests,
+            listed,
+            filter,
+            ..
+        } = other;
         self.flags.set_indexed(false);
         self.eager = eager;
+        self.manifests = manifests;
+        self.listed = listed;
         self.filter = filter;
-        self.manifests = Vec::new(alloc);
-        self.listed = Listing::new(alloc);
     }
 
-    /// A copy with the declarations of another module in the place of its own and with other sub-modules,
-    /// which lists nothing. It isn't indexed.
+    /// A copy with the functions of another module, declared and listed, in the place of its own, with the
+    /// seeds of their keys, and with other sub-modules. It isn't indexed.
     pub fn dup_with(
         &self,
         alloc: Global,
         other: Module,
         subs: BTreeMap<Text, Rc<Module>>,
     ) -> Result<Module, OutOfMemory>
-        requires seeds { other.own.seeds ≡ self.now.own.seeds }
-        requires listed { other.own.listed ≡ [] }
         ensures { IfOk result (λ copy. copy ≡ record {
-          own = record self.now.own { eager = other.own.eager; manifests = []; listed = []; indexed = false };
+          own = record self.now.own { eager = other.own.eager; manifests = other.own.manifests; listed = other.own.listed; indexed = false; seeds = other.own.seeds };
           subs = subs_of subs.entries;
         }) }
     {
@@ -221,15 +223,21 @@ impl Module {
         let index = self.index.clone()?;
         let mut flags = self.flags.dup();
         flags.set_indexed(false);
-        let Module { eager, filter, .. } = other;
+        let Module {
+            eager,
+            manifests,
+            listed,
+            filter,
+            ..
+        } = other;
         Ok(Module {
             id,
             doc,
             types,
             vars,
             eager,
-            manifests: Vec::new(alloc),
-            listed: Listing::new(alloc),
+            manifests,
+            listed,
             subs,
             flags,
             filter,

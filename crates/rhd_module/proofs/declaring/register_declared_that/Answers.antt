@@ -8,6 +8,7 @@ use Rattle.rhd_module.specs.Algebra.{that_pass}
 use Rattle.rhd_table.specs.Indexed.{IsClash}
 use Rattle.rhd_module.specs.Manifests.{with_pairs}
 use Rattle.rhd_table.proofs.Fills.{if_err}
+use Rattle.rhd_table.proofs.Noted.{on_err}
 use Rattle.rhd_module.proofs.JoinParts.{passed_next, clash_passed}
 use Rattle.rhd_module.proofs.declaring.register_declared_that.Goals as goal
 
@@ -40,3 +41,14 @@ returns-in_err-register_pair_that-clause-clash g c =
     let P : ModuleTree → Type 0 = λ t. IsClash t.own.seeds (keys_of (put_all (that_pass tells (p ∷ [])) t.own.eager)) fault in
     if_err c.from_residual.result fault _ c.from_residual.ensures
     (clash_passed (λ q. tells q.1) old.own.seeds front later c.args.other.now.own.eager p old.own.eager fault all (subst P (c.loop-key.invariant.2 tells h) (c.in_err-register_pair_that.ensures.clash tells h)))
+
+pub returns-in_err-register_pair_that-clause-front : goal.returns-in_err-register_pair_that-clause-front
+returns-in_err-register_pair_that-clause-front g c =
+    let p : Key × Declaration = c.in-Some.field-0.now in
+    let front = c.loop-key.invariant.0 in
+    let later = c.next.new.self in
+    let old = c.args.made.now in
+    let source = c.into_iter-key-iterator.ensures.into_iter_gives ∙ c.iter_fn-key-items.ensures.pairs in
+    let all : c.args.other.now.own.eager ≡ front ++ p ∷ later = sym source ∙ c.loop-key.invariant.1 ∙ ap (λ (t : Pairs). front ++ t) c.in-Some.ensures.steps in
+    let same = c.in_err-register_pair_that.ensures.err in
+    on_err c.from_residual.result (front, p ∷ later, all, λ tells h. same ∙ c.loop-key.invariant.2 tells h ∙ (λ i. with_pairs (put_all (that_pass tells front) old.own.eager) (sym same i).own.indexed old))
