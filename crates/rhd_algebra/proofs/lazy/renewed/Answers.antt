@@ -1,4 +1,4 @@
-use Rattle.std.proofs.Common.{◌≡◌, [], false, ap, subst, ◌∙◌}
+use Rattle.std.proofs.Common.{◌≡◌, false, subst, ◌∙◌}
 use Rattle.std.specs.Map.{keys_of}
 use Rattle.rhd_table.specs.Indexed.{NoneClash}
 use Rattle.rhd_module.specs.Lazy.{with_registered}
@@ -9,7 +9,11 @@ use Rattle.rhd_algebra.proofs.lazy.renewed.Goals as goal
 pub returns-clause-tree : goal.returns-clause-tree
 returns-clause-tree c =
     let child = c.args.child.now in
-    let pairs = ap (λ (f : ModuleTree). f.own.eager) c.in_ok-fns.ensures.ok in
+    let fns = c.in_ok-fns.ensures.ok in
     let made : c.in_ok-made.made ≡ with_registered child (subs_of c.args.below.entries) =
-    c.in_ok-made.ensures ∙ (λ k. record { own = record child.own { eager = pairs k; manifests = []; listed = []; indexed = false }; subs = subs_of c.args.below.entries }) in
+    c.in_ok-made.ensures
+    ∙ (λ k. record {
+      own = record child.own { eager = (fns k).own.eager; manifests = (fns k).own.manifests; listed = (fns k).own.listed; indexed = false; seeds = (fns k).own.seeds };
+      subs = subs_of c.args.below.entries;
+    }) in
     subst (λ (m : ModuleTree). NoneClash m.own.seeds (keys_of (tree m))) made c.in_ok-build_index.ensures.0
