@@ -111,7 +111,8 @@ pub fn register_declared_that<F: Fn(&Declaration) -> bool>(
     ensures ok { (tells : Decl → Bool) → Tells (FnReturnsAt F.Fn passes.now) tells → OnOk result (made.new ≡ with_pairs (declared_over tells other.now.own.eager made.old.own) made.new.own.indexed made.old) }
     ensures clash { (tells : Decl → Bool) → Tells (FnReturnsAt F.Fn passes.now) tells → IfErr result (IsClash made.old.own.seeds (keys_of (declared_over tells other.now.own.eager made.old.own))) }
     ensures others { OnOk result ((made.new.own.seeds ≡ made.old.own.seeds) × (made.new.own.listed ≡ made.old.own.listed)) }
-    ensures front { OnErr result ((front : Pairs) × (later : Pairs) × (other.now.own.eager ≡ front ++ later) × ((tells : Decl → Bool) → Tells (FnReturnsAt F.Fn passes.now) tells → made.new ≡ with_pairs (declared_over tells front made.old.own) made.new.own.indexed made.old)) }
+    ensures front { OnErr result ((front : Pairs) × (later : Pairs) × (other.now.own.eager ≡ front ++ later)
+        × ((tells : Decl → Bool) → Tells (FnReturnsAt F.Fn passes.now) tells → made.new ≡ with_pairs (declared_over tells front made.old.own) made.new.own.indexed made.old)) }
 {
     for (key, declaration) in other.iter_fn() {
         register_pair_that(made, alloc, key, declaration, passes)?;
