@@ -25,7 +25,7 @@ some_in has m = has m.own || some_below has m.subs
 abbrev pub declares_global : Lists → Bool
 declares_global own = list_any (λ p. is_global_namespace p.1.metadata.namespace) (shown own)
 
--- the key of some declaration is such a one
+-- some declaration has a key with a parameter of any type, and this hash, as filters go by it
 abbrev pub declares_dynamic : Seeds → ℕ → Lists → Bool
 declares_dynamic seeds hash own = list_any (λ p. may_be_dynamic seeds hash p.0) (shown own)
 

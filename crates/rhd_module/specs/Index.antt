@@ -15,7 +15,7 @@ use Rattle.rhd_module.specs.Below.{some_in, declares_global, declares_dynamic}
 use Rattle.rhd_table.specs.Marks.{may_be_dynamic, lists_dynamic}
 use Rattle.rhd_table.specs.Indexed.{Indexed, NoneClash}
 
--- it has the module's seeds, and no two keys of the tree clash; it finds under each key what the tree has first, and tells of the tree what is asked
+-- the index of a module has its seeds, and no two keys of the tree clash; it finds under each key what the tree has first, and tells of the tree what is asked
 abbrev pub IsIndexOf : Indexed → ModuleTree → Type 0
 IsIndexOf index m =
     (index.seeds ≡ m.own.seeds)

@@ -10,7 +10,7 @@ use Rattle.rhd_table.specs.Pairs.{Pairs}
 use Rattle.rhd_module.specs.Shown.{shown}
 use Rattle.rhd_table.specs.Paths.{pairs_at}
 
--- those of the sub-modules under a path, in descending order of name; a module's own come before those of its sub-modules
+-- the pairs of the sub-modules under a path, in descending order of name; a module's own come before those of its sub-modules
 abbrev pub below : List Bytes → Subs → Pairs
 below path no_subs = []
 below path (sub name own subs later) = below path later ++ (pairs_at (path ++ name ∷ []) (shown own) ++ below (path ++ name ∷ []) subs)

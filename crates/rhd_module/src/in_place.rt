@@ -92,8 +92,8 @@ fn put_named(
 }
 
 impl Module {
-    /// The same in a module, into which variables and sub-modules are put as well. It isn't indexed any
-    /// more.
+    /// Puts declarations in, some in the place of those of equal keys, and others under keys that aren't
+    /// there, with variables and sub-modules. The module isn't indexed any more. A refusal changes nothing.
     fn put_copies(
         &mut self,
         alloc: Global,
