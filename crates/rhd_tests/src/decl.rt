@@ -122,7 +122,7 @@ fn flags_are_bits(rt: HostRuntime) {
 }
 
 /// A native without parameters, and what is said of it.
-fn declaration(alloc: Global) -> Declaration {
+pub fn declaration(alloc: Global) -> Declaration {
     Declaration {
         func: RhaiFunc::plugin(FnId(0)),
         metadata: FuncMetadata {

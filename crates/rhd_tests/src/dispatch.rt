@@ -1,13 +1,19 @@
 //! Which function a call means, and which call has a locked argument.
 
-ghost use Rattle.std.specs.Prelude.{◌≡◌, true, length};
-ghost use Rattle.rhd_engine.specs.Held.{names_held};
+ghost use Rattle.std.specs.Prelude.{◌≡◌, ℕ, true};
+ghost use Rattle.rhd_engine.specs.Held.{names_held, named_held};
 
-use crate::given::{int, one, plain, text};
-use crate::must::{holds, must};
-use rhd_dispatch::ensure_no_data_race;
+use crate::given::{SEEDS, int, one, plain, text, texts};
+use crate::must::{holds, must, shared, shared_script};
+use crate::registering::engine;
+use rhd_dispatch::{Layer, Pick, ensure_no_data_race, has_root, resolve_qualified};
+use rhd_engine::GlobalRuntimeState;
 use rhd_func::CallShape;
-use rhd_value::{EvalAltResult, Position};
+use rhd_hash::Steps;
+use rhd_layers::SharedModule;
+use rhd_value::{EvalAltResult, Position, Values};
+use std::alloc::Global;
+use std::process::Abort;
 
 /// Whether a fault tells that an argument of a call of `f` is locked.
 fn is_race(fault: &Option<EvalAltResult>) -> bool {
@@ -33,4 +39,63 @@ fn locked_arguments_are_found(rt: HostRuntime) {
     let found = ensure_no_data_race(alloc, &f, &shape, Position::NONE);
     let fault = must(&rt, found, "an answer");
     holds(&rt, is_race(&fault), "a lock");
+}
+
+/// An indexed module with a script `s` without parameters.
+fn with_script(rt: &impl Abort, alloc: Global) -> SharedModule
+    ensures held { (natives : ℕ) → names_held natives result ≡ true }
+    ensures indexed { result.own.indexed ≡ true }
+{
+    let mut made = shared(rt, alloc, SEEDS);
+    let def = shared_script(rt, alloc, "s");
+    must(rt, made.set_script_fn(alloc, def), "a script");
+    must(rt, made.build_index(alloc), "its index");
+    made
+}
+
+/// A state whose import `a` has a script `s` without parameters.
+fn importing(rt: &impl Abort, alloc: Global) -> GlobalRuntimeState
+    ensures { (natives : ℕ) → named_held natives result.imports ≡ true }
+{
+    let mut state = GlobalRuntimeState::new(alloc);
+    let put = state.push_import(text(alloc, "a"), with_script(rt, alloc));
+    must(rt, put, "an import");
+    state
+}
+
+/// Whether a call means a script of the first import.
+fn is_imported(pick: Option<&Pick>) -> bool {
+    match pick {
+        Some(pick) => pick.layer == Layer::Import(0) && pick.func.is_script(),
+        None => false,
+    }
+}
+
+#[test]
+fn paths_begin_in_modules(rt: HostRuntime) {
+    let alloc = rt.alloc();
+    let (engine, state) = (engine(&rt, alloc), importing(&rt, alloc));
+    let (path, other) = (texts(alloc, "a"), texts(alloc, "b"));
+    holds(&rt, has_root(&engine, &state, path.as_slice()), "an import");
+    let found = has_root(&engine, &state, other.as_slice());
+    holds(&rt, !found, "no other");
+    drop(state);
+    drop(engine);
+}
+
+#[test]
+fn a_path_leads_to_a_script(rt: HostRuntime) {
+    let alloc = rt.alloc();
+    let (engine, state) = (engine(&rt, alloc), importing(&rt, alloc));
+    let (path, name) = (texts(alloc, "a"), text(alloc, "s"));
+    let shape = CallShape::Plain(Values::new(alloc));
+    let mut steps = Steps::new();
+    let found = resolve_qualified(alloc, &engine, &state, &path, &name, &shape, &mut steps);
+    let pick = must(&rt, found, "an answer");
+    holds(&rt, is_imported(pick.as_ref()), "the script");
+    holds(&rt, steps.count() == 1, "one look-up");
+    drop(pick);
+    drop(shape);
+    drop(state);
+    drop(engine);
 }

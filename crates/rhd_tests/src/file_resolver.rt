@@ -163,6 +163,32 @@ fn a_resolver_is_set(rt: HostRuntime) {
     drop(resolver);
 }
 
+/// The files of a resolver, none of whose reads is to fail.
+fn files(rt: &impl Abort, alloc: Global) -> MemFiles {
+    MemFiles::new(table(rt, alloc), Vec::new(alloc))
+}
+
+#[test]
+fn resolvers_have_extensions(rt: HostRuntime) {
+    let alloc = rt.alloc();
+    let (files, txt) = (files(&rt, alloc), text(alloc, "txt"));
+    let made = FileModuleResolver::new_with_extension(alloc, files, Named, txt);
+    holds(&rt, made.base_path().is_none(), "no base");
+    holds(&rt, made.extension().as_str() == "txt", "txt");
+    drop(made);
+}
+
+#[test]
+fn resolvers_have_paths(rt: HostRuntime) {
+    let alloc = rt.alloc();
+    let files = files(&rt, alloc);
+    let (lib, txt) = (text(alloc, "lib"), text(alloc, "txt"));
+    let made = FileModuleResolver::new_with_path_and_extension(alloc, files, Named, lib, txt);
+    holds(&rt, is_text(made.base_path(), "lib"), "a base");
+    holds(&rt, made.extension().as_str() == "txt", "txt");
+    drop(made);
+}
+
 #[test]
 fn no_file_is_no_module(rt: HostRuntime) {
     let alloc = rt.alloc();

@@ -1,8 +1,10 @@
 //! Functions, natives, requests and what calls are answered: how they are made, read, copied and shown.
 
 use crate::given::{script, text, texts};
-use crate::must::{holds, must};
-use rhd_func::{BodyId, FnAccess, FnNamespace, IterId, RhaiFunc, ScriptFuncDef, SharedDef};
+use crate::must::{holds, must, shared_script};
+use rhd_func::{
+    BodyId, FnAccess, FnNamespace, IterId, RhaiFunc, ScriptFuncDef, SharedDef, SharedText, share,
+};
 use rhd_value::FnId;
 use std::alloc::Global;
 
@@ -88,4 +90,62 @@ fn access_is_told(rt: HostRuntime) {
         !global.is_module_namespace(),
         "not in its module alone",
     );
+}
+
+#[test]
+fn numbers_are_told(rt: HostRuntime) {
+    let pure = by_value();
+    holds(&rt, pure.get_native_fn() == Some(FnId(0)), "get_native_fn");
+    holds(&rt, !pure.is_iter(), "it doesn't iterate");
+    let plugin = RhaiFunc::plugin(FnId(2));
+    holds(
+        &rt,
+        plugin.get_plugin_fn() == Some(FnId(2)),
+        "get_plugin_fn",
+    );
+    let iterator = RhaiFunc::Iterator { func: IterId(3) };
+    holds(
+        &rt,
+        iterator.get_iter_fn() == Some(IterId(3)),
+        "get_iter_fn",
+    );
+    holds(&rt, iterator.is_iter(), "it iterates");
+    drop(iterator);
+    drop(plugin);
+    drop(pure);
+}
+
+/// Whether a definition is there, and has this name.
+fn is_named(def: Option<&SharedDef>, name: &str) -> bool {
+    match def {
+        Some(shared) => shared.def().name.as_str() == name,
+        None => false,
+    }
+}
+
+#[test]
+fn definitions_are_told(rt: HostRuntime) {
+    let script = RhaiFunc::from(shared_script(&rt, rt.alloc(), "f"));
+    let named = is_named(script.get_script_fn_def(), "f");
+    holds(&rt, named, "get_script_fn_def");
+    drop(script);
+}
+
+/// Whether a shared text is there, and which.
+fn is_shared(shared: Option<&SharedText>, word: &str) -> bool {
+    match shared {
+        Some(shared) => shared.text().as_str() == word,
+        None => false,
+    }
+}
+
+#[test]
+fn texts_are_shared(rt: HostRuntime) {
+    let alloc = rt.alloc();
+    let made = SharedText::new(alloc, text(alloc, "a"));
+    let made = Some(must(&rt, made, "a shared text"));
+    let shared = must(&rt, share(alloc, &made), "share");
+    holds(&rt, is_shared(shared.as_ref(), "a"), "the same text");
+    drop(shared);
+    drop(made);
 }

@@ -30,4 +30,12 @@ mod must;
 #[cfg(test)]
 mod names;
 #[cfg(test)]
+mod registering;
+#[cfg(test)]
 mod resolve;
+#[cfg(test)]
+mod setters;
+#[cfg(test)]
+mod table;
+#[cfg(test)]
+mod value;

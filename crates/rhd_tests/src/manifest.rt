@@ -182,7 +182,7 @@ fn f(alloc: Global) -> Key {
 }
 
 /// Whether a function is this native.
-fn is_native(func: Option<&RhaiFunc>, number: u32) -> bool {
+pub fn is_native(func: Option<&RhaiFunc>, number: u32) -> bool {
     match func {
         Some(func) => func.native_id() == Some(FnId(number)),
         None => false,
@@ -257,6 +257,56 @@ fn entries_are_read(rt: HostRuntime) {
     let hash = HashedKey::new(&key, SEEDS).hash_under(SEEDS);
     drop(key);
     holds(&rt, entry.calc_hash(SEEDS, &[]) == hash, "its hash");
+    drop(manifests);
+}
+
+#[test]
+fn entries_have_types(rt: HostRuntime) {
+    let manifests = two(&rt, rt.alloc());
+    let entry = first(&rt, held(&rt, &manifests, HIGH));
+    let count = entry.with_param_types(|types| types.len());
+    holds(&rt, count == 1, "with_param_types");
+    let same = entry.has_param_types(&[TypeTag::Int]);
+    holds(&rt, same, "has_param_types");
+    let internal = entry.namespace() == FnNamespace::Internal;
+    holds(&rt, internal, "namespace");
+    drop(manifests);
+}
+
+#[test]
+fn entries_are_walked(rt: HostRuntime) {
+    let manifests = two(&rt, rt.alloc());
+    let manifest = held(&rt, &manifests, HIGH);
+    let mut order = 0u64;
+    manifest.for_each_fn(
+        &manifests,
+        true,
+        &mut |entry| {
+            order = order
+                .wrapping_mul(10)
+                .wrapping_add(u64::from(entry.func().0));
+        },
+    );
+    holds(&rt, order == 110, "its own, then 1 and 0 of the one below");
+    drop(manifests);
+}
+
+/// Whether an entry is for this native.
+fn is_func(entry: Option<&FnManifestEntry>, number: u32) -> bool {
+    match entry {
+        Some(entry) => entry.func() == FnId(number),
+        None => false,
+    }
+}
+
+#[test]
+fn entries_are_searched(rt: HostRuntime) {
+    let manifests = two(&rt, rt.alloc());
+    let manifest = held(&rt, &manifests, HIGH);
+    let found = manifest.find_fn(&manifests, true, |entry| entry.num_params() == 1);
+    holds(&rt, is_func(found, 0), "the last below");
+    let found = manifest.find_fn(&manifests, false, |entry| entry.num_params() == 1);
+    holds(&rt, is_func(found, 1), "its own");
     drop(manifests);
 }
 
