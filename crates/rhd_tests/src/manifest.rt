@@ -77,7 +77,7 @@ impl PluginFunc for Nought {
 }
 
 /// A native with these parameters more.
-fn push_native(rt: &impl Abort, alloc: Global, natives: &mut Natives, types: Types) {
+pub fn push_native(rt: &impl Abort, alloc: Global, natives: &mut Natives, types: Types) {
     assert!(rt; natives.len() < 10, "a few natives");
     let made = must(rt, Box::new(alloc, Nought { types }), "a native");
     let native: Box<dyn PluginFunc> = made;

@@ -4,7 +4,8 @@ use crate::given::{SEEDS, int, is_text, one, plain, text, texts};
 use crate::manifest::natives;
 use crate::must::{for_all, holds, must, shared};
 use crate::setters::has;
-use rhd_engine::{Builtins, Engine, Limits, Printers, RegisterIntoEngine};
+use rhd_decl::FuncRegistration;
+use rhd_engine::{Builtins, Engine, Limits, Printers, RegisterIntoEngine, for_all_calls};
 use rhd_func::CallShape;
 use rhd_manifest::Manifests;
 use rhd_value::{Dynamic, EvalAltResult, FnId, OutOfMemory, Position, Text, TypeTag, Value};
@@ -207,4 +208,28 @@ fn functions_are_not_found(rt: HostRuntime) {
     holds(&rt, is_not_found(fault, "a::f (i64)"), "not_found_in");
     drop(shape);
     drop(engine);
+}
+
+#[test]
+fn registrations_are_for_all_calls(rt: HostRuntime) {
+    let alloc = rt.alloc();
+    let natives = natives(&rt, alloc);
+    let reg = must(
+        &rt,
+        FuncRegistration::new(alloc, text(alloc, "f")),
+        "a registration",
+    );
+    let told = must(&rt, for_all_calls(alloc, &natives, reg, FnId(2)), "memory");
+    holds(
+        &rt,
+        told.params_info.len() == 2,
+        "a parameter for each type",
+    );
+    holds(
+        &rt,
+        is_text(told.params_info.get(0), "_: i64"),
+        "by its type",
+    );
+    drop(told);
+    drop(natives);
 }

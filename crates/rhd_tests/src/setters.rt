@@ -1,9 +1,10 @@
 //! Natives that are put into modules: properties, indexers and raw ones, and which calls they may match.
 
 use crate::given::{SEEDS, text, types};
-use crate::manifest::{is_native, natives};
+use crate::manifest::{is_native, natives, push_native};
 use crate::must::{empty, for_all, holds, must};
-use rhd_func::RhaiFunc;
+use rhd_decl::{DeclFault, refuse_banned, refuse_indexer};
+use rhd_func::{Natives, RhaiFunc};
 use rhd_hash::{Key, Steps};
 use rhd_module::Module;
 use rhd_value::{FnId, TypeTag};
@@ -133,5 +134,38 @@ fn natives_may_match(rt: HostRuntime) {
     holds(&rt, !module.may_match(0, &f, &[TypeTag::Bool]), "no other");
     holds(&rt, !module.may_list_dynamic_fn(hash), "nothing is listed");
     drop(module);
+    drop(natives);
+}
+
+/// Whether a native is refused as an indexer that reads.
+fn is_refused(alloc: Global, natives: &Natives, id: FnId) -> bool {
+    let name = text(alloc, "index$get$");
+    match refuse_indexer(alloc, natives, &name, id) {
+        Err(DeclFault::IndexerNotAllowed { key }) => {
+            drop(key);
+            true
+        }
+        _ => false,
+    }
+}
+
+#[test]
+fn indexers_are_refused(rt: HostRuntime) {
+    let alloc = rt.alloc();
+    let mut natives = natives(&rt, alloc);
+    let mut two = types(alloc, TypeTag::Array);
+    let _ = two.push(TypeTag::Int);
+    push_native(&rt, alloc, &mut natives, two);
+    holds(&rt, !is_refused(alloc, &natives, FnId(0)), "of an integer");
+    holds(&rt, is_refused(alloc, &natives, FnId(3)), "of an array");
+    holds(&rt, !is_refused(alloc, &natives, FnId(4)), "not held");
+    let name = text(alloc, "f");
+    if let Some(native) = natives.get(FnId(3)) {
+        holds(
+            &rt,
+            refuse_banned(alloc, native, &name).is_ok(),
+            "no indexer",
+        );
+    }
     drop(natives);
 }

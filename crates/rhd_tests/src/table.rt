@@ -4,8 +4,8 @@ use crate::decl::declaration;
 use crate::given::{SEEDS, script_key, text, texts};
 use crate::must::{holds, must, shared_script};
 use rhd_decl::script_declaration;
-use rhd_hash::Key;
-use rhd_table::Declarations;
+use rhd_hash::{BloomFilterU64, HashedKey, Key};
+use rhd_table::{Declarations, TreeIndex, copies_that, mark_dynamic, mark_pairs, mark_parts};
 use rhd_value::{TypeTag, Types};
 use std::alloc::Global;
 use std::process::Abort;
@@ -61,5 +61,66 @@ fn natives_are_matched(rt: HostRuntime) {
     holds(&rt, table.may_match(0, &f, &[]), "without types");
     let matches = table.may_match(0, &f, &[TypeTag::Int]);
     holds(&rt, !matches, "and with none");
+    drop(table);
+}
+
+#[test]
+fn copies_are_made_of_what_passes(rt: HostRuntime) {
+    let alloc = rt.alloc();
+    let table = with_script(&rt, alloc);
+    let scripts = copies_that(alloc, &table, &|key: &Key| key.is_script());
+    let scripts = must(&rt, scripts, "copies");
+    holds(&rt, scripts.len() == 1, "the script");
+    let natives = copies_that(alloc, &table, &|key: &Key| !key.is_script());
+    let natives = must(&rt, natives, "copies");
+    holds(&rt, natives.is_empty(), "no native");
+    drop(natives);
+    drop(scripts);
+    drop(table);
+}
+
+#[test]
+fn a_tree_is_indexed(rt: HostRuntime) {
+    let alloc = rt.alloc();
+    let mut index = TreeIndex::new(alloc, SEEDS);
+    holds(&rt, index.seeds() == SEEDS, "its seeds");
+    let table = with_script(&rt, alloc);
+    index.mark_all(&table);
+    index.mark_listed(&[]);
+    holds(&rt, !index.may_contain(0), "nothing of any type");
+    holds(&rt, !index.has_global(), "nothing without a path");
+    let filter = BloomFilterU64::new();
+    index.join(&filter);
+    let key = script_key(alloc, "s");
+    let hashed = HashedKey::new(&key, SEEDS);
+    holds(&rt, index.get_hashed(&hashed).is_none(), "nothing yet");
+    drop(hashed);
+    drop(key);
+    drop(table);
+    drop(index);
+}
+
+#[test]
+fn marks_are_made(rt: HostRuntime) {
+    let mut filter = BloomFilterU64::new();
+    mark_dynamic(&mut filter, None);
+    mark_pairs(&mut filter, SEEDS, &[]);
+    mark_parts(&mut filter, SEEDS, &[]);
+    holds(&rt, filter.is_absent(5), "nothing is marked");
+    mark_dynamic(&mut filter, Some(5));
+    holds(
+        &rt,
+        !filter.is_absent(5) && filter.is_absent(6),
+        "one hash is",
+    );
+}
+
+#[test]
+fn a_table_grows_by_nothing(rt: HostRuntime) {
+    let alloc = rt.alloc();
+    let mut table = with_script(&rt, alloc);
+    let done = table.grow(alloc, Vec::new(alloc), Vec::new(alloc));
+    holds(&rt, done.is_ok() && table.len() == 1, "as before");
+    drop(done);
     drop(table);
 }
