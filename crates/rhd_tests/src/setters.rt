@@ -145,7 +145,10 @@ fn is_refused(alloc: Global, natives: &Natives, id: FnId) -> bool {
             drop(key);
             true
         }
-        _ => false,
+        other => {
+            drop(other);
+            false
+        }
     }
 }
 
@@ -160,12 +163,12 @@ fn indexers_are_refused(rt: HostRuntime) {
     holds(&rt, is_refused(alloc, &natives, FnId(3)), "of an array");
     holds(&rt, !is_refused(alloc, &natives, FnId(4)), "not held");
     let name = text(alloc, "f");
-    if let Some(native) = natives.get(FnId(3)) {
-        holds(
-            &rt,
-            refuse_banned(alloc, native, &name).is_ok(),
-            "no indexer",
-        );
+    let native = natives.get(FnId(3));
+    holds(&rt, native.is_some(), "the native itself");
+    if let Some(native) = native {
+        let done = refuse_banned(alloc, native, &name);
+        holds(&rt, done.is_ok(), "as no indexer");
+        drop(done);
     }
     drop(natives);
 }

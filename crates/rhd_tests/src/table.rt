@@ -6,7 +6,7 @@ use crate::must::{holds, must, shared_script};
 use rhd_decl::script_declaration;
 use rhd_hash::{BloomFilterU64, HashedKey, Key};
 use rhd_table::{Declarations, TreeIndex, copies_that, mark_dynamic, mark_pairs, mark_parts};
-use rhd_value::{TypeTag, Types};
+use rhd_value::{Texts, TypeTag, Types};
 use std::alloc::Global;
 use std::process::Abort;
 
@@ -79,23 +79,52 @@ fn copies_are_made_of_what_passes(rt: HostRuntime) {
     drop(table);
 }
 
+/// The key of a script `s` without parameters below a path.
+fn key_below(alloc: Global, path: Texts) -> Key {
+    Key::Script {
+        path: Some(path),
+        name: text(alloc, "s"),
+        params: 0,
+    }
+}
+
 #[test]
 fn a_tree_is_indexed(rt: HostRuntime) {
     let alloc = rt.alloc();
     let mut index = TreeIndex::new(alloc, SEEDS);
     holds(&rt, index.seeds() == SEEDS, "its seeds");
     let table = with_script(&rt, alloc);
+    let path = texts(alloc, "a");
+    must(&rt, index.put_all(alloc, &path, &table), "put_all");
+    must(
+        &rt,
+        index.put_listed(alloc, &path, &table, &[]),
+        "put_listed",
+    );
+    let (below, own) = (key_below(alloc, path), script_key(alloc, "s"));
+    let found = index.get_hashed(&HashedKey::new(&below, SEEDS)).is_some();
+    holds(&rt, found, "below its path");
+    let found = index.get_hashed(&HashedKey::new(&own, SEEDS)).is_some();
+    holds(&rt, !found && !index.has_global(), "and not without it");
+    drop(own);
+    drop(below);
+    drop(table);
+    drop(index);
+}
+
+#[test]
+fn a_tree_is_marked(rt: HostRuntime) {
+    let alloc = rt.alloc();
+    let mut index = TreeIndex::new(alloc, SEEDS);
+    let table = with_script(&rt, alloc);
     index.mark_all(&table);
     index.mark_listed(&[]);
-    holds(&rt, !index.may_contain(0), "nothing of any type");
-    holds(&rt, !index.has_global(), "nothing without a path");
-    let filter = BloomFilterU64::new();
+    holds(&rt, !index.may_contain(5), "nothing takes any type");
+    let mut filter = BloomFilterU64::new();
+    filter.mark(5);
     index.join(&filter);
-    let key = script_key(alloc, "s");
-    let hashed = HashedKey::new(&key, SEEDS);
-    holds(&rt, index.get_hashed(&hashed).is_none(), "nothing yet");
-    drop(hashed);
-    drop(key);
+    holds(&rt, index.may_contain(5), "joined");
+    holds(&rt, !index.may_contain(6), "and nothing else");
     drop(table);
     drop(index);
 }
