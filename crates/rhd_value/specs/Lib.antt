@@ -12,3 +12,4 @@ pub mod Lends
 pub mod Pointers
 pub mod Fault
 pub mod Seen
+pub mod Places

@@ -3,6 +3,7 @@
 ghost use Rattle.std.specs.Prelude.{◌≡◌, ◌++◌, IfOk};
 ghost use Rattle.std.specs.Option.{option_copied};
 ghost use Rattle.rhd_value.specs.Kinds.{tag_of, int_in, bool_in, text_in, type_name, plain};
+ghost use Rattle.rhd_value.specs.Views.{kind_view};
 
 mod copies;
 mod pointer;
@@ -19,10 +20,18 @@ use std::marker::Model;
 
 /// A value with its marks. Contracts see it as a tree.
 #[cycle(dynamic)]
-#[derive(Drop)]
 pub struct Dynamic {
     pub value: Value,
     pub marks: Marks,
+}
+
+/// A function of its own, so that what drops a value doesn't ask of which kind it is.
+impl Drop for Dynamic {
+    #[cycle(drops)]
+    fn drop(self) {
+        let Dynamic { value, marks: _ } = self;
+        drop(value);
+    }
 }
 
 /// A value of one of the nine kinds.
@@ -167,6 +176,14 @@ impl Dynamic {
             Value::FnPtr(_) => TypeTag::FnPtr,
             Value::Custom(number, _) => TypeTag::Custom(*number),
         }
+    }
+
+    /// What the value holds, without its marks.
+    pub fn into_value(self) -> Value
+        ensures { kind_view result ≡ self.kind }
+    {
+        let Dynamic { value, marks: _ } = self;
+        value
     }
 
     /// The integer; none for another kind.

@@ -35,7 +35,6 @@ impl ParseErrorType {
 
 /// Why a call gave no value. Each fault ends with the position of its cause.
 #[cycle(fault)]
-#[derive(Drop)]
 pub enum EvalAltResult {
     /// Fault 1: no function has this signature.
     ErrorFunctionNotFound(Text, Position),
@@ -67,6 +66,38 @@ pub enum EvalAltResult {
     ErrorInModule(Text, BoxedFault, Position),
     /// Fault 15: a function failed with this text.
     ErrorRuntime(Text, Position),
+}
+
+/// A function of its own, so that what drops a fault doesn't ask which one it is.
+impl Drop for EvalAltResult {
+    #[cycle(faults_drop)]
+    fn drop(self) {
+        match self {
+            EvalAltResult::ErrorFunctionNotFound(text, _) => drop(text),
+            EvalAltResult::ErrorDotExpr(text, _) => drop(text),
+            EvalAltResult::ErrorIndexingType(text, _) => drop(text),
+            EvalAltResult::ErrorParsing(error, _) => drop(error),
+            EvalAltResult::ErrorNonPureMethodCallOnConstant(text, _) => drop(text),
+            EvalAltResult::ErrorDataRace(text, _) => drop(text),
+            EvalAltResult::ErrorMismatchOutputType(wanted, got, _) => {
+                drop(wanted);
+                drop(got);
+            }
+            EvalAltResult::ErrorMismatchDataType(wanted, got, _) => {
+                drop(wanted);
+                drop(got);
+            }
+            EvalAltResult::ErrorTooManyOperations(_) => {}
+            EvalAltResult::ErrorStackOverflow(_) => {}
+            EvalAltResult::ErrorDataTooLarge(text, _) => drop(text),
+            EvalAltResult::ErrorModuleNotFound(text, _) => drop(text),
+            EvalAltResult::ErrorInModule(path, fault, _) => {
+                drop(path);
+                drop(fault);
+            }
+            EvalAltResult::ErrorRuntime(text, _) => drop(text),
+        }
+    }
 }
 
 /// A fault inside another one. Contracts see it as plain data.

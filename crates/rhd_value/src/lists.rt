@@ -1,6 +1,6 @@
 //! Lists of texts and of types.
 
-ghost use Rattle.std.specs.Prelude.{◌≡◌, ◌-◌, ◌++◌, ◌∷◌, [], length, take, if◌then◌else◌, is_ok, IfOk, slice_get, nat_eq};
+ghost use Rattle.std.specs.Prelude.{◌≡◌, ◌-◌, ◌++◌, ◌∷◌, [], length, take, if◌then◌else◌, is_ok, IfOk, slice_get, slice_set, nat_eq};
 ghost use Rattle.std.specs.Option.{option_copied};
 ghost use Rattle.std.specs.Cmp.{partial_equiv_from_equiv};
 ghost use Rattle.std.specs.Cmp.Lexicographic.{pointwise, nat_list_eq_equiv};
@@ -10,6 +10,7 @@ ghost use Rattle.rhd_value.specs.Same.{types_eq, types_eq_equiv};
 use crate::memory::OutOfMemory;
 use crate::tag::TypeTag;
 use crate::text::Text;
+use smallvec::SmallVec;
 use std::alloc::{AllocError, Global};
 use std::marker::Model;
 
@@ -72,14 +73,10 @@ impl Texts {
     }
 
     /// An equal list.
-    pub fn dup(&self, alloc: Global) -> Result<Texts, OutOfMemory>
+    pub fn dup(&self, _alloc: Global) -> Result<Texts, OutOfMemory>
         ensures { IfOk result (λ texts. texts ≡ self.now) }
     {
-        let mut texts = Texts::new(alloc);
-        for text in &self.items {
-            texts.push(text.dup(alloc)?)?;
-        }
-        Ok(texts)
+        Ok(self.clone()?)
     }
 }
 
@@ -110,10 +107,20 @@ impl Eq for Texts {
     ghost laws = { lists_equiv nat_list_eq_equiv };
 }
 
-/// Types in order. Contracts see the list of them.
-#[derive(Drop)]
+/// How many types a list holds in itself.
+const FEW: usize = 4;
+
+/// Types in order. A short list takes no memory. Contracts see the list of them.
 pub struct Types {
-    items: Vec<TypeTag>,
+    items: SmallVec<TypeTag, FEW>,
+}
+
+/// A function of its own, so that what drops a list doesn't ask where its types lie.
+impl Drop for Types {
+    fn drop(self) {
+        let Types { items } = self;
+        drop(items);
+    }
 }
 
 impl Model for Types {
@@ -130,7 +137,7 @@ impl Types {
         ensures { result ≡ [] }
     {
         Types {
-            items: Vec::new(alloc),
+            items: SmallVec::new(alloc),
         }
     }
 
@@ -139,7 +146,7 @@ impl Types {
         ensures { IfOk result (λ types. types ≡ tags.now) }
     {
         Ok(Types {
-            items: Vec::from_slice(alloc, tags)?,
+            items: SmallVec::from_slice(alloc, tags)?,
         })
     }
 
@@ -157,11 +164,20 @@ impl Types {
         self.items.len()
     }
 
+    /// Puts another type at a place, counted from 0; nothing changes where there is none.
+    pub fn set(&mut self, at: usize, tag: TypeTag)
+        ensures { self.new ≡ slice_set self.old at tag }
+    {
+        if let Some(place) = self.items.get_mut(at) {
+            *place = tag;
+        }
+    }
+
     /// The type at a place, counted from 0; none where there is nothing.
     pub fn get(&self, at: usize) -> Option<TypeTag>
         ensures { result ≡ slice_get self.now at }
     {
-        self.items.get(at).copied()
+        self.as_slice().get(at).copied()
     }
 
     pub fn as_slice(&self) -> &[TypeTag]
@@ -174,7 +190,7 @@ impl Types {
     pub fn dup(&self, alloc: Global) -> Result<Types, OutOfMemory>
         ensures { IfOk result (λ types. types ≡ self.now) }
     {
-        Types::from_slice(alloc, &self.items)
+        Types::from_slice(alloc, self.as_slice())
     }
 }
 

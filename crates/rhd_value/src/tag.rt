@@ -14,8 +14,9 @@ use std::alloc::Global;
 ///
 /// The first nine are the kinds of values, where a custom type has a number. The last three are
 /// types of parameters alone: any value, and a text in two of Rust's forms.
-#[derive(Clone, Copy, Debug)]
+#[derive(Clone, Copy, Debug, Default)]
 pub enum TypeTag {
+    #[default]
     Unit,
     Bool,
     Int,
@@ -76,7 +77,7 @@ impl TypeTag {
             TypeTag::Map => name.push("map")?,
             TypeTag::FnPtr => name.push("Fn")?,
             TypeTag::Custom(number) => {
-                return Ok(Text::from_string(format!(in alloc; "custom{number}")?));
+                return Text::from_string(alloc, format!(in alloc; "custom{number}")?);
             }
             TypeTag::Dynamic => name.push("Dynamic")?,
             TypeTag::Str => name.push("&str")?,
