@@ -111,7 +111,7 @@ impl ModuleAlgebra for Module {
             alloc,
             other,
             &|declaration: &Declaration| {
-                let metadata = &declaration.metadata;
+                let metadata = declaration.metadata();
                 filter(
                     metadata.namespace,
                     metadata.access,
@@ -132,7 +132,7 @@ impl ModuleAlgebra for Module {
             alloc,
             self,
             &|declaration: &Declaration| {
-                let metadata = &declaration.metadata;
+                let metadata = declaration.metadata();
                 declaration.func.is_script()
                     && filter(
                         metadata.namespace,

@@ -2,7 +2,7 @@
 
 ghost use Rattle.std.specs.Prelude.{◌≡◌, IfOk};
 
-use crate::metadata::FuncMetadata;
+use crate::metadata::{FuncMetadata, SharedMetadata};
 use rhd_func::RhaiFunc;
 use rhd_value::OutOfMemory;
 use std::alloc::Global;
@@ -11,10 +11,17 @@ use std::alloc::Global;
 #[derive(Drop)]
 pub struct Declaration {
     pub func: RhaiFunc,
-    pub metadata: FuncMetadata,
+    pub metadata: SharedMetadata,
 }
 
 impl Declaration {
+    /// What is said of the function.
+    pub fn metadata(&self) -> &FuncMetadata
+        ensures { result.now ≡ self.now.metadata }
+    {
+        self.metadata.metadata()
+    }
+
     /// An equal declaration.
     pub fn dup(&self, alloc: Global) -> Result<Declaration, OutOfMemory>
         ensures { IfOk result (λ declaration. declaration ≡ self.now) }

@@ -15,7 +15,7 @@ pub use custom_types::{CustomTypeInfo, CustomTypesCollection};
 pub use declaration::Declaration;
 pub use fault::DeclFault;
 pub use flags::{ModuleFlags, Switches};
-pub use metadata::FuncMetadata;
+pub use metadata::{FuncMetadata, SharedMetadata};
 pub use native_keys::{mapped_types, native_key};
 pub use refusals::{raw_refusal, refuse_banned, refuse_indexer, refuse_pair, unheld, unknown};
 pub use registration::{

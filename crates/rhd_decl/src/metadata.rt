@@ -5,6 +5,8 @@ ghost use Rattle.std.specs.Prelude.{◌≡◌, IfOk};
 use rhd_func::{FnAccess, FnNamespace};
 use rhd_value::{OutOfMemory, Text, Texts, Types};
 use std::alloc::Global;
+use std::marker::Model;
+use std::rc::Rc;
 
 /// What is said of a function that is declared.
 #[derive(Drop)]
@@ -40,6 +42,45 @@ impl FuncMetadata {
             params_info: self.params_info.dup(alloc)?,
             return_type: self.return_type.dup(alloc)?,
             comments: self.comments.dup(alloc)?,
+        })
+    }
+}
+
+/// What is said of a function, with several owners. Contracts see what is said.
+#[derive(Drop)]
+pub struct SharedMetadata {
+    metadata: Rc<FuncMetadata>,
+}
+
+impl Model for SharedMetadata {
+    ghost use Rattle.rhd_decl.specs.declared.metadata.FuncMetadata.{FuncMetadata};
+
+    ghost Value = { FuncMetadata };
+
+    ghost view = { λ a. a.metadata.value };
+}
+
+impl SharedMetadata {
+    pub fn new(alloc: Global, metadata: FuncMetadata) -> Result<SharedMetadata, OutOfMemory>
+        ensures { IfOk result (λ shared. shared ≡ metadata) }
+    {
+        Ok(SharedMetadata {
+            metadata: Rc::new(alloc, metadata)?,
+        })
+    }
+
+    pub fn metadata(&self) -> &FuncMetadata
+        ensures { result.now ≡ self.now }
+    {
+        &self.metadata
+    }
+
+    /// One more owner of the same.
+    pub fn dup(&self, _alloc: Global) -> Result<SharedMetadata, OutOfMemory>
+        ensures { IfOk result (λ shared. shared ≡ self.now) }
+    {
+        Ok(SharedMetadata {
+            metadata: self.metadata.clone()?,
         })
     }
 }

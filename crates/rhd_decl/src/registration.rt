@@ -13,7 +13,7 @@ ghost use Rattle.rhd_decl.specs.Registration.{native_decl, registered_func, regi
 ghost use Rattle.rhd_decl.specs.Registration.{new_registration, global_registration, setter_registration, getter_name, setter_name};
 
 use crate::declaration::Declaration;
-use crate::metadata::FuncMetadata;
+use crate::metadata::{FuncMetadata, SharedMetadata};
 use crate::native_keys::native_key;
 use rhd_func::{EnvId, FnAccess, FnNamespace, PluginFunc, RhaiFunc, ScriptFuncDef, SharedDef};
 use rhd_hash::{Key, Seeds};
@@ -83,7 +83,7 @@ impl FuncRegistration {
     pub fn new_index_getter(alloc: Global) -> Result<FuncRegistration, OutOfMemory>
         ensures { IfOk result (λ reg. reg ≡ global_registration (codes "index$get$")) }
     {
-        let name = Text::from_string(String::from_str(alloc, "index$get$")?);
+        let name = Text::from_str(alloc, "index$get$")?;
         Ok(FuncRegistration::new(alloc, name)?.in_global_namespace())
     }
 
@@ -91,7 +91,7 @@ impl FuncRegistration {
     pub fn new_index_setter(alloc: Global) -> Result<FuncRegistration, OutOfMemory>
         ensures { IfOk result (λ reg. reg ≡ setter_registration (codes "index$set$")) }
     {
-        let name = Text::from_string(String::from_str(alloc, "index$set$")?);
+        let name = Text::from_str(alloc, "index$set$")?;
         Ok(
             FuncRegistration::new(alloc, name)?
                 .in_global_namespace()
@@ -208,6 +208,7 @@ impl FuncRegistration {
             return_type,
             comments: self.comments,
         };
+        let metadata = SharedMetadata::new(alloc, metadata)?;
         Ok((key, Declaration { func, metadata }))
     }
 }
@@ -342,6 +343,6 @@ pub fn script_declaration(
     };
     Ok(Declaration {
         func: RhaiFunc::Script { fn_def: def, env },
-        metadata,
+        metadata: SharedMetadata::new(alloc, metadata)?,
     })
 }

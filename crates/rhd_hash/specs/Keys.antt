@@ -1,5 +1,5 @@
 -- When two keys are the same: the test that the code makes, and that it decides equality.
-use Rattle.std.specs.Prelude.{◌≡◌, ℕ, Bool, true, false, ◌==◌, ◌&&◌, ◌++◌, List, [], length, is_none, if◌then◌else◌, refl}
+use Rattle.std.specs.Prelude.{◌≡◌, ℕ, Bool, true, false, ◌==◌, ◌&&◌, ◌++◌, List, [], length, is_none, if◌then◌else◌, slice_set, refl}
 use Rattle.std.specs.declared.option.Option.{Option}
 use Rattle.std.specs.declared.option.Option.TheVariants.{None, Some}
 use Rattle.std.specs.Bool.{Decides}
@@ -100,6 +100,12 @@ abbrev pub key_types : Key → List TypeTag
 key_types (Script path name params) = []
 key_types (Typed path name params this_type) = []
 key_types (Native path name types) = types
+
+-- a native's key with another type at a place of its parameters
+abbrev pub with_type : ℕ → TypeTag → Key → Key
+with_type at tag (Script path name params) = Script path name params
+with_type at tag (Typed path name params this_type) = Typed path name params this_type
+with_type at tag (Native path name types) = Native path name (slice_set types at tag)
 
 -- a native's key with a parameter of any type
 abbrev pub has_dynamic : Key → Bool

@@ -7,7 +7,7 @@ ghost use Rattle.std.specs.Hash as fed;
 ghost use Rattle.std.specs.List.{list_any};
 ghost use Rattle.rhd_value.specs.Same.{tag_eq};
 ghost use Rattle.rhd_value.specs.declared.tag.TypeTag.TheVariants.{Dynamic};
-ghost use Rattle.rhd_hash.specs.Keys.{path_eq, key_eq, key_eq_equiv, key_name, key_params, key_input, key_alike, native_name, is_script_key, is_typed_key, with_path, key_types, has_dynamic};
+ghost use Rattle.rhd_hash.specs.Keys.{path_eq, key_eq, key_eq_equiv, key_name, key_params, key_input, key_alike, native_name, is_script_key, is_typed_key, with_path, with_type, key_types, has_dynamic};
 ghost use Rattle.rhd_hash.specs.Matching.{types_match, key_matches};
 
 use rhd_value::{OutOfMemory, Text, Texts, TypeTag, Types};
@@ -218,6 +218,18 @@ impl Key {
             Key::Script { .. } => &[],
             Key::Typed { .. } => &[],
             Key::Native { types, .. } => types.as_slice(),
+        }
+    }
+
+    /// Puts another type at a place of a native's parameters, counted from 0; nothing changes where there
+    /// is none.
+    pub fn set_type(&mut self, at: usize, tag: TypeTag)
+        ensures { self.new ≡ with_type at tag self.old }
+    {
+        match self {
+            Key::Script { .. } => {}
+            Key::Typed { .. } => {}
+            Key::Native { types, .. } => types.set(at, tag),
         }
     }
 

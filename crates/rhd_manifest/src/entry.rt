@@ -7,7 +7,7 @@ ghost use Rattle.rhd_hash.specs.Parts.{mixed, path_of, dynamic_hash};
 ghost use Rattle.rhd_func.specs.declared.func.RhaiFunc.TheVariants.{StaticPlugin};
 ghost use Rattle.rhd_manifest.specs.Entry.{entry_key, entry_key_at, entry_decl};
 
-use rhd_decl::{Declaration, FuncMetadata, mapped_types};
+use rhd_decl::{Declaration, FuncMetadata, SharedMetadata, mapped_types};
 use rhd_func::{FnAccess, FnNamespace, RhaiFunc};
 use rhd_hash::{Key, Seeds, calc_native_fn_hash};
 use rhd_value::{FnId, OutOfMemory, Text, Texts, TypeTag, Types};
@@ -183,19 +183,20 @@ impl FnManifestEntry {
     pub fn declaration(&self, alloc: Global, seeds: Seeds) -> Result<Declaration, OutOfMemory>
         ensures { IfOk result (λ d. d ≡ entry_decl seeds self.now) }
     {
+        let metadata = FuncMetadata {
+            hash: self.key.mixed(seeds),
+            namespace: self.namespace,
+            access: FnAccess::Public,
+            name: self.key.name().dup(alloc)?,
+            num_params: self.param_types.len() as u64,
+            param_types: Types::from_slice(alloc, self.key.types())?,
+            params_info: Texts::new(alloc),
+            return_type: Text::new(alloc),
+            comments: Texts::new(alloc),
+        };
         Ok(Declaration {
             func: RhaiFunc::StaticPlugin { func: self.func },
-            metadata: FuncMetadata {
-                hash: self.key.mixed(seeds),
-                namespace: self.namespace,
-                access: FnAccess::Public,
-                name: self.key.name().dup(alloc)?,
-                num_params: self.param_types.len() as u64,
-                param_types: Types::from_slice(alloc, self.key.types())?,
-                params_info: Texts::new(alloc),
-                return_type: Text::new(alloc),
-                comments: Texts::new(alloc),
-            },
+            metadata: SharedMetadata::new(alloc, metadata)?,
         })
     }
 }

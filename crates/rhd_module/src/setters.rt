@@ -96,7 +96,7 @@ impl Module {
         ensures metadata { IfOk result (λ metadata. metadata ≡ (native_decl self.old.own.seeds reg is_method types.now func).metadata) }
     {
         let (key, declaration) = reg.into_pair(alloc, self.seeds(), is_method, types, func)?;
-        let metadata = declaration.metadata.dup(alloc)?;
+        let metadata = declaration.metadata().dup(alloc)?;
         self.put_fn(alloc, key, declaration)?;
         Ok(metadata)
     }
@@ -343,7 +343,7 @@ impl Module {
     {
         let key = script_key(alloc, def.def())?;
         let declaration = script_declaration(alloc, self.seeds(), def, env)?;
-        let hash = declaration.metadata.hash;
+        let hash = declaration.metadata().hash;
         self.put_fn(alloc, key, declaration)?;
         Ok(hash)
     }

@@ -20,7 +20,7 @@ use crate::growing::grow;
 use crate::native_index::NativeIndex;
 use crate::script_search::{typed_script, untyped_script};
 use indexmap::map::Values;
-use rhd_decl::{DeclFault, Declaration};
+use rhd_decl::{DeclFault, Declaration, SharedMetadata};
 use rhd_func::SharedDef;
 use rhd_hash::{HashedKey, Key, KeyTable, Seeds};
 use rhd_value::{OutOfMemory, Text, Texts, TypeTag};
@@ -274,9 +274,12 @@ fn commented(
 ) -> Result<Declaration, OutOfMemory>
     ensures { IfOk result (λ d. d ≡ commented comments declaration.now) }
 {
-    let mut copy = declaration.dup(alloc)?;
-    copy.metadata.comments = comments;
-    Ok(copy)
+    let mut metadata = declaration.metadata().dup(alloc)?;
+    metadata.comments = comments;
+    Ok(Declaration {
+        func: declaration.func.dup(alloc)?,
+        metadata: SharedMetadata::new(alloc, metadata)?,
+    })
 }
 
 /// Sets the comments of the declaration under a key of a table. Answers whether there is one.

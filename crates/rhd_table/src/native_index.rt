@@ -6,12 +6,16 @@ ghost use Rattle.rhd_table.specs.NativeIndex.{but_last, noted};
 
 use indexmap::IndexMap;
 use rhd_value::{OutOfMemory, Text};
+use smallvec::SmallVec;
 use std::alloc::Global;
+
+/// How many places of natives of one name take no memory of their own.
+const FEW: usize = 2;
 
 /// The places of natives by their names.
 #[derive(Drop)]
 pub(crate) struct NativeIndex {
-    places: IndexMap<String, Vec<usize>>,
+    places: IndexMap<String, SmallVec<usize, FEW>>,
 }
 
 impl NativeIndex {
@@ -76,7 +80,7 @@ impl NativeIndex {
         ensures ok { OnOk result ((other : List ℕ) → noted self.new other ≡ noted self.old other ++ (if text_eq other name.now then place ∷ [] else [])) }
         ensures err { OnErr result ((other : List ℕ) → noted self.new other ≡ noted self.old other) }
     {
-        let mut places = Vec::new(alloc);
+        let mut places = SmallVec::new(alloc);
         places.push(place)?;
         let name = String::from_str(alloc, name.as_str())?;
         self.places.insert(name, places)?;

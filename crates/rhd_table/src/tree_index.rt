@@ -157,7 +157,7 @@ impl TreeIndex {
         ensures fills { OnOk result (Fills self.old self.new (pathed path.now (key.now, declaration.now)) (λ _. false) false) }
         ensures clash { IfErr result (IsClash self.old.seeds (keys_of (pathed path.now (key.now, declaration.now)) ++ keys_of self.old.pairs)) }
     {
-        if declaration.metadata.access.is_private() {
+        if declaration.metadata().access.is_private() {
             return Ok(());
         }
         let func = declaration.func.dup(alloc)?;
@@ -174,11 +174,11 @@ impl TreeIndex {
         ensures fills { OnOk result (Fills self.old self.new (unpathed (key.now, declaration.now)) (λ _. false) (is_global_namespace declaration.now.metadata.namespace)) }
         ensures clash { IfErr result (IsClash self.old.seeds (keys_of (unpathed (key.now, declaration.now)) ++ keys_of self.old.pairs)) }
     {
-        if !declaration.metadata.namespace.is_global_namespace() {
+        if !declaration.metadata().namespace.is_global_namespace() {
             return Ok(());
         }
         self.has_global = true;
-        if declaration.metadata.access.is_private() && !key.is_typed() {
+        if declaration.metadata().access.is_private() && !key.is_typed() {
             return Ok(());
         }
         let func = declaration.func.dup(alloc)?;

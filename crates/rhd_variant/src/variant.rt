@@ -90,7 +90,7 @@ impl Variant for () {
     }
 
     fn from_dynamic(value: Dynamic) -> Option<()> {
-        match value.value {
+        match value.into_value() {
             Value::Unit => Some(()),
             _ => None,
         }
@@ -143,7 +143,7 @@ impl Variant for char {
     }
 
     fn from_dynamic(value: Dynamic) -> Option<char> {
-        match value.value {
+        match value.into_value() {
             Value::Char(inner) => Some(inner),
             _ => None,
         }
@@ -171,7 +171,7 @@ impl Variant for Text {
     }
 
     fn from_dynamic(value: Dynamic) -> Option<Text> {
-        match value.value {
+        match value.into_value() {
             Value::Text(inner) => Some(inner),
             _ => None,
         }
@@ -200,7 +200,7 @@ impl Variant for Values {
 
     #[tactic(auto, using(crate::specs::Takes::list_back))]
     fn from_dynamic(value: Dynamic) -> Option<Values> {
-        match value.value {
+        match value.into_value() {
             Value::Array(inner) => Some(inner),
             _ => None,
         }
@@ -229,7 +229,7 @@ impl Variant for Entries {
 
     #[tactic(auto, using(crate::specs::Takes::entries_back))]
     fn from_dynamic(value: Dynamic) -> Option<Entries> {
-        match value.value {
+        match value.into_value() {
             Value::Map(inner) => Some(inner),
             _ => None,
         }
@@ -283,7 +283,7 @@ impl Variant for FnPtr {
 
     #[tactic(auto, using(crate::specs::Takes::list_back))]
     fn from_dynamic(value: Dynamic) -> Option<FnPtr> {
-        match value.value {
+        match value.into_value() {
             Value::FnPtr(inner) => Some(inner),
             _ => None,
         }
