@@ -44,8 +44,9 @@ fn locked_at(
 ) -> Result<EvalAltResult, OutOfMemory>
     ensures { IfOk result (λ fault. fault ≡ ErrorDataRace (locked_text name.now place) pos) }
 {
-    let text = format!(in alloc; "argument #{place} of function '{}'", name.as_str())?;
-    Ok(EvalAltResult::ErrorDataRace(Text::from_string(text), pos))
+    let written = format!(in alloc; "argument #{place} of function '{}'", name.as_str())?;
+    let text = Text::from_string(alloc, written)?;
+    Ok(EvalAltResult::ErrorDataRace(text, pos))
 }
 
 /// The fault of a call of this name with a locked argument; none where no argument is locked. A first

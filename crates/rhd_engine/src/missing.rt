@@ -23,10 +23,11 @@ fn wrong_number(
     ensures { IfOk result (λ fault. fault ≡ wrong_number pos types.now what.now should) }
 {
     let count = types.len();
-    let text = format!(in alloc;
+    let written = format!(in alloc;
         "System error: {count} argument(s) found for {what} (should be {should})"
     )?;
-    let error = ParseErrorType::MalformedIndexExpr(Text::from_string(text));
+    let text = Text::from_string(alloc, written)?;
+    let error = ParseErrorType::MalformedIndexExpr(text);
     Ok(EvalAltResult::ErrorParsing(error, pos))
 }
 
@@ -36,8 +37,9 @@ fn get_index(alloc: Global, pos: Position, types: &[Text]) -> Result<EvalAltResu
 {
     match types {
         [object, index] => {
-            let text = format!(in alloc; "{} [{}]", object.as_str(), index.as_str())?;
-            Ok(EvalAltResult::ErrorIndexingType(Text::from_string(text), pos))
+            let written = format!(in alloc; "{} [{}]", object.as_str(), index.as_str())?;
+            let text = Text::from_string(alloc, written)?;
+            Ok(EvalAltResult::ErrorIndexingType(text, pos))
         }
         _ => wrong_number(alloc, pos, types, "indexer", 2),
     }
@@ -49,13 +51,14 @@ fn set_index(alloc: Global, pos: Position, types: &[Text]) -> Result<EvalAltResu
 {
     match types {
         [object, index, value] => {
-            let text = format!(in alloc;
+            let written = format!(in alloc;
                 "{} [{}] = {}",
                 object.as_str(),
                 index.as_str(),
                 value.as_str()
             )?;
-            Ok(EvalAltResult::ErrorIndexingType(Text::from_string(text), pos))
+            let text = Text::from_string(alloc, written)?;
+            Ok(EvalAltResult::ErrorIndexingType(text, pos))
         }
         _ => wrong_number(alloc, pos, types, "index setter", 3),
     }
@@ -72,11 +75,12 @@ fn get_property(
 {
     match types {
         [object] => {
-            let text = format!(in alloc;
+            let written = format!(in alloc;
                 "Unknown property '{property}' - a getter is not registered for type '{}'",
                 object.as_str()
             )?;
-            Ok(EvalAltResult::ErrorDotExpr(Text::from_string(text), pos))
+            let text = Text::from_string(alloc, written)?;
+            Ok(EvalAltResult::ErrorDotExpr(text, pos))
         }
         _ => {
             let what = format!(in alloc; "property getter '{property}'")?;
@@ -96,12 +100,13 @@ fn set_property(
 {
     match types {
         [object, value] => {
-            let text = format!(in alloc;
+            let written = format!(in alloc;
                 "No writable property '{property}' - a setter is not registered for type '{}' to handle '{}'",
                 object.as_str(),
                 value.as_str()
             )?;
-            Ok(EvalAltResult::ErrorDotExpr(Text::from_string(text), pos))
+            let text = Text::from_string(alloc, written)?;
+            Ok(EvalAltResult::ErrorDotExpr(text, pos))
         }
         _ => {
             let what = format!(in alloc; "property setter '{property}'")?;

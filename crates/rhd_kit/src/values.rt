@@ -61,8 +61,7 @@ pub fn first_apart(values: Values) -> (Dynamic, Values)
 pub fn values_in(alloc: Global, value: Dynamic) -> Values
     ensures { result ≡ values_in value.kind }
 {
-    let Dynamic { value, marks: _ } = value;
-    match value {
+    match value.into_value() {
         Value::Array(values) => values,
         _ => Values::new(alloc),
     }
@@ -72,7 +71,7 @@ pub fn values_in(alloc: Global, value: Dynamic) -> Values
 pub fn owned(alloc: Global, text: &str) -> Result<Text, OutOfMemory>
     ensures { IfOk result (λ owned. owned ≡ text.now) }
 {
-    Ok(Text::from_string(String::from_str(alloc, text)?))
+    Text::from_str(alloc, text)
 }
 
 /// The fault of a native's own with this text.

@@ -6,13 +6,6 @@ ghost use Rattle.rhd_layers.specs.Paths.{path_of};
 use rhd_value::{OutOfMemory, Text, Texts};
 use std::alloc::Global;
 
-/// A text of these characters.
-fn text_of(alloc: Global, text: &str) -> Result<Text, OutOfMemory>
-    ensures { IfOk result (λ made. made ≡ text.now) }
-{
-    Ok(Text::from_string(String::from_str(alloc, text)?))
-}
-
 /// The names of a path, which have `::` between two.
 pub fn path_of(alloc: Global, path: &str) -> Result<Texts, OutOfMemory>
     ensures { IfOk result (λ names. names ≡ path_of path.now) }
@@ -20,9 +13,9 @@ pub fn path_of(alloc: Global, path: &str) -> Result<Texts, OutOfMemory>
     let mut names = Texts::new(alloc);
     let mut rest = path;
     'parts: while let Some((name, after)) = rest.split_once("::") {
-        names.push(text_of(alloc, name)?)?;
+        names.push(Text::from_str(alloc, name)?)?;
         rest = after;
     }
-    names.push(text_of(alloc, rest)?)?;
+    names.push(Text::from_str(alloc, rest)?)?;
     Ok(names)
 }

@@ -18,17 +18,17 @@ pub fn text_of(alloc: Global, word: &[u8]) -> Result<Text, Stop>
     ensures { Gives (λ x. x) result (text_of word.now) }
 {
     match str::from_utf8(word) {
-        Ok(text) => Ok(Text::from_string(String::from_str(alloc, text)?)),
+        Ok(text) => Ok(Text::from_str(alloc, text)?),
         Err(_) => Err(Stop::Bad),
     }
 }
 
 /// The text that these bytes are, where they are UTF-8.
-fn text_from(bytes: Vec<u8>) -> Result<Text, Stop>
+fn text_from(alloc: Global, bytes: Vec<u8>) -> Result<Text, Stop>
     ensures { Gives (λ x. x) result (text_of bytes.items) }
 {
     match String::from_utf8(bytes) {
-        Ok(text) => Ok(Text::from_string(text)),
+        Ok(text) => Ok(Text::from_string(alloc, text)?),
         Err(_) => Err(Stop::Bad),
     }
 }
@@ -110,7 +110,7 @@ pub fn quoted_at(alloc: Global, bytes: &[u8], quote: u8) -> Result<(Text, &[u8])
     if !may_end(rest) {
         return Err(Stop::Bad);
     }
-    let text = text_from(text)?;
+    let text = text_from(alloc, text)?;
     Ok((text, rest))
 }
 

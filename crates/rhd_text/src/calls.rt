@@ -30,7 +30,10 @@ fn request_in(line: Option<Part>) -> Option<CallRequest>
 {
     match line {
         Some(Part::Command(command)) => requested(command),
-        _ => None,
+        other => {
+            drop(other);
+            None
+        }
     }
 }
 

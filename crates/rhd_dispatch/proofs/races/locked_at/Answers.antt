@@ -3,4 +3,4 @@ use Rattle.rhd_value.specs.declared.fault.EvalAltResult.TheVariants.{ErrorDataRa
 use Rattle.rhd_dispatch.proofs.races.locked_at.Goals as goal
 
 pub returns : goal.returns
-returns c = ap (λ (text : List ℕ). ErrorDataRace text c.args.pos) (c.from_string.ensures ∙ c.in_ok-text.ensures.ok ∙ simp (append_assoc, c.as_str.ensures))
+returns c = ap (λ (text : List ℕ). ErrorDataRace text c.args.pos) (c.in_ok-text.ensures ∙ c.in_ok-written.ensures.ok ∙ simp (append_assoc, c.as_str.ensures))

@@ -7,7 +7,7 @@ use Rattle.rhd_engine.proofs.missing.get_property.Goals as goal
 pub returns-in_ok-text-in-len1 : goal.returns-in_ok-text-in-len1
 returns-in_ok-text-in-len1 c =
     let types = one_type c.args.types.now c.object-item.result c.in-len1.len_at_least c.in-len1.len_below c.object-item.is in
-    is_get_property c.args.pos c.args.property.now c.args.types.now c.object-item.result _ _ types c.as_str.ensures (c.from_string.ensures ∙ c.in_ok-text-in-len1.ensures.ok)
+    is_get_property c.args.pos c.args.property.now c.args.types.now c.object-item.result _ _ types c.as_str.ensures (c.in_ok-text-in-len1.ensures ∙ c.in_ok-written-in-len1.ensures.ok)
 
 pub returns-in_ok-what-in_default : goal.returns-in_ok-what-in_default
 returns-in_ok-what-in_default c =

@@ -7,7 +7,7 @@ use Rattle.rhd_engine.proofs.missing.set_index.Goals as goal
 pub returns-in_ok-text-in-len3 : goal.returns-in_ok-text-in-len3
 returns-in_ok-text-in-len3 c =
     let types = three_types c.args.types.now c.object-item.result c.index-item.result c.value-item.result c.in-len3.len_at_least c.in-len3.len_below c.object-item.is c.index-item.is c.value-item.is in
-    is_set_index c.args.pos c.args.types.now c.object-item.result c.index-item.result c.value-item.result _ _ _ _ types c.as_str.ensures c.as_str-in-len3.ensures c.as_str-in-len3-2.ensures (c.from_string.ensures ∙ c.in_ok-text-in-len3.ensures.ok)
+    is_set_index c.args.pos c.args.types.now c.object-item.result c.index-item.result c.value-item.result _ _ _ _ types c.as_str.ensures c.as_str-in-len3.ensures c.as_str-in-len3-2.ensures (c.in_ok-text-in-len3.ensures ∙ c.in_ok-written-in-len3.ensures.ok)
 
 pub returns-in_default : goal.returns-in_default
 returns-in_default c =

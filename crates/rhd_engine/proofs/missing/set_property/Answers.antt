@@ -7,7 +7,7 @@ use Rattle.rhd_engine.proofs.missing.set_property.Goals as goal
 pub returns-in_ok-text-in-len2 : goal.returns-in_ok-text-in-len2
 returns-in_ok-text-in-len2 c =
     let types = two_types c.args.types.now c.object-item.result c.value-item.result c.in-len2.len_at_least c.in-len2.len_below c.object-item.is c.value-item.is in
-    is_set_property c.args.pos c.args.property.now c.args.types.now c.object-item.result c.value-item.result _ _ _ types c.as_str.ensures c.as_str-in-len2.ensures (c.from_string.ensures ∙ c.in_ok-text-in-len2.ensures.ok)
+    is_set_property c.args.pos c.args.property.now c.args.types.now c.object-item.result c.value-item.result _ _ _ types c.as_str.ensures c.as_str-in-len2.ensures (c.in_ok-text-in-len2.ensures ∙ c.in_ok-written-in-len2.ensures.ok)
 
 pub returns-in_ok-what-in_default : goal.returns-in_ok-what-in_default
 returns-in_ok-what-in_default c =

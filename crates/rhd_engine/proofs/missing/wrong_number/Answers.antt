@@ -4,4 +4,4 @@ use Rattle.rhd_value.specs.declared.fault.ParseErrorType.TheVariants.{MalformedI
 use Rattle.rhd_engine.proofs.missing.wrong_number.Goals as goal
 
 pub returns : goal.returns
-returns c = ap (λ (text : List ℕ). ErrorParsing (MalformedIndexExpr text) c.args.pos) (c.from_string.ensures ∙ c.in_ok-text.ensures.ok ∙ simp append_assoc)
+returns c = ap (λ (text : List ℕ). ErrorParsing (MalformedIndexExpr text) c.args.pos) (c.in_ok-text.ensures ∙ c.in_ok-written.ensures.ok ∙ simp append_assoc)

@@ -7,7 +7,7 @@ use Rattle.rhd_syntax.proofs.quoted.text_from.Goals as goal
 pub returns-in-Ok : goal.returns-in-Ok
 returns-in-Ok c =
     let e : c.in-Ok.text.bytes.items ≡ c.args.bytes.items = ap (λ v. v.items) c.in-Ok.ensures.ok in
-    rw (is_text c.args.bytes.items (subst IsUtf8 e (IsUtf8-had c.in-Ok.text.bytes.items c.in-Ok.text.ok))) (ap (λ (w : List ℕ). Some w) (sym (c.from_string.ensures ∙ e)))
+    rw (is_text c.args.bytes.items (subst IsUtf8 e (IsUtf8-had c.in-Ok.text.bytes.items c.in-Ok.text.ok))) (ap (λ (w : List ℕ). Some w) (sym (c.in_ok-from_string-in-Ok.ensures ∙ e)))
 
 never : false ≡ true → ⊥
 never e = absurd cc

@@ -4,7 +4,7 @@ use Rattle.rhd_syntax.proofs.quoted.text_of.Goals as goal
 
 pub returns-in_ok-from_str-in-Ok : goal.returns-in_ok-from_str-in-Ok
 returns-in_ok-from_str-in-Ok c =
-    rw (is_text c.args.word.now c.in-Ok.ensures.cases.1) (ap (λ (w : List ℕ). Some w) (sym (c.from_string.ensures ∙ c.in_ok-from_str-in-Ok.ensures.ok ∙ c.in-Ok.ensures.cases.0)))
+    rw (is_text c.args.word.now c.in-Ok.ensures.cases.1) (ap (λ (w : List ℕ). Some w) (sym (c.in_ok-from_str-in-Ok.ensures ∙ c.in-Ok.ensures.cases.0)))
 
 pub returns-in-Err : goal.returns-in-Err
 returns-in-Err c = rw (is_no_text c.args.word.now c.in-Err.ensures.cases.0) refl

@@ -1,4 +1,4 @@
-use Rattle.std.proofs.Common.{rules}
+use Rattle.std.proofs.Common.{ap, rules}
 use Rattle.std.specs.HashMap.{get_by_text}
 use Rattle.std.proofs.lemmas.Map.Text.{hash_map_updates_text}
 use Rattle.rhd_table.proofs.Noted.{one_more_than, same_as, on_err}
@@ -12,7 +12,7 @@ returns-in_err-push-in-Some-clause-err c =
     let n = c.get_mut.follows.lender w in
     let changes = hash_map_updates_text name m n _ ((c.get_mut.follows.holds w).3 (search rules)) in
     on_err c.from_residual.result
-    (same_as (λ v. v.items) (get_by_text m) (get_by_text n) name w changes c.in-Some.places.now c.in-Some.ensures.value c.in_err-push-in-Some.ensures.items)
+    (same_as (λ v. v.items) (get_by_text m) (get_by_text n) name w changes c.in-Some.places.now c.in-Some.ensures.value (ap (λ v. v.items) c.in_err-push-in-Some.ensures.err))
 
 pub returns-in_ok-push-in-Some-clause-ok : goal.returns-in_ok-push-in-Some-clause-ok
 returns-in_ok-push-in-Some-clause-ok c =
@@ -22,4 +22,4 @@ returns-in_ok-push-in-Some-clause-ok c =
     let n = c.get_mut.follows.lender w in
     let changes = hash_map_updates_text name m n _ ((c.get_mut.follows.holds w).3 (search rules)) in
     rw c.as_str.ensures at
-    (one_more_than (λ v. v.items) (get_by_text m) (get_by_text n) name w changes c.in-Some.places.now c.in-Some.ensures.value c.args.place c.in_ok-push-in-Some.ensures.items)
+    (one_more_than (λ v. v.items) (get_by_text m) (get_by_text n) name w changes c.in-Some.places.now c.in-Some.ensures.value c.args.place c.in_ok-push-in-Some.ensures.ok)

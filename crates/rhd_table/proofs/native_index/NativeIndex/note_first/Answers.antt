@@ -12,4 +12,4 @@ returns-clause-ok c =
     let is_name = IfOk-at_ok (λ s. string_bytes s ≡ name) c.in_ok-name.was (rw c.as_str.ensures at c.from_str.ensures.ok) in
     let changes = rw is_name at (hash_map_updates_text (string_bytes c.in_ok-name.name) m c.insert.new.self _ c.in_ok-insert.ensures.updates) in
     one_more (λ v. v.items) (get_by_text m) (get_by_text c.insert.new.self) name c.push.new.self changes c.args.place
-    (c.in_ok-push.ensures.items ∙ ap (λ xs. xs ++ c.args.place ∷ []) (c.new-places.ensures.items ∙ sym c.requires))
+    (c.in_ok-push.ensures.ok ∙ ap (λ xs. xs ++ c.args.place ∷ []) (c.new-places.ensures.items ∙ sym c.requires))
