@@ -5,7 +5,7 @@ use crate::must::{holds, must};
 use bitflags::Flags;
 use rhd_decl::{
     CustomTypeInfo, CustomTypesCollection, DeclFault, Declaration, FuncMetadata, ModuleFlags,
-    Switches,
+    SharedMetadata, Switches,
 };
 use rhd_func::{FnAccess, FnNamespace, RhaiFunc};
 use rhd_hash::TableFault;
@@ -122,28 +122,30 @@ fn flags_are_bits(rt: HostRuntime) {
 }
 
 /// A native without parameters, and what is said of it.
-pub fn declaration(alloc: Global) -> Declaration {
+pub fn declaration(rt: &impl Abort, alloc: Global) -> Declaration {
+    let metadata = FuncMetadata {
+        hash: 1,
+        namespace: FnNamespace::Global,
+        access: FnAccess::Public,
+        name: text(alloc, "f"),
+        num_params: 0,
+        param_types: Types::new(alloc),
+        params_info: Texts::new(alloc),
+        return_type: Text::new(alloc),
+        comments: texts(alloc, "c"),
+    };
+    let shared = SharedMetadata::new(alloc, metadata);
     Declaration {
         func: RhaiFunc::plugin(FnId(0)),
-        metadata: FuncMetadata {
-            hash: 1,
-            namespace: FnNamespace::Global,
-            access: FnAccess::Public,
-            name: text(alloc, "f"),
-            num_params: 0,
-            param_types: Types::new(alloc),
-            params_info: Texts::new(alloc),
-            return_type: Text::new(alloc),
-            comments: texts(alloc, "c"),
-        },
+        metadata: must(rt, shared, "memory"),
     }
 }
 
 #[test]
 fn declarations_are_copied(rt: HostRuntime) {
     let alloc = rt.alloc();
-    let made = declaration(alloc);
-    let metadata = must(&rt, made.metadata.dup(alloc), "metadata is copied");
+    let made = declaration(&rt, alloc);
+    let metadata = must(&rt, made.metadata().dup(alloc), "metadata is copied");
     holds(
         &rt,
         metadata.name.as_str() == "f" && metadata.hash == 1,

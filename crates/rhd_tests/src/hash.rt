@@ -142,6 +142,25 @@ fn keys_are_read(rt: HostRuntime) {
 }
 
 #[test]
+fn keys_are_changed(rt: HostRuntime) {
+    let alloc = rt.alloc();
+    let mut key = native(alloc);
+    key.set_type(0, TypeTag::Dynamic);
+    holds(&rt, key.has_dynamic(), "of any type");
+    key.set_type(1, TypeTag::Int);
+    holds(&rt, key.num_params() == 1, "no type is put in");
+    drop(key);
+    let mut script = script_key(alloc, "f");
+    script.set_type(0, TypeTag::Dynamic);
+    holds(
+        &rt,
+        script == script_key(alloc, "f"),
+        "a script has no types",
+    );
+    drop(script);
+}
+
+#[test]
 fn keys_are_told_apart(rt: HostRuntime) {
     let alloc = rt.alloc();
     let any = native_key(alloc, "f", TypeTag::Dynamic);

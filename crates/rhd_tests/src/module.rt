@@ -336,7 +336,7 @@ fn comments_are_set(rt: HostRuntime) {
     drop(key);
     holds(&rt, must(&rt, found, "memory"), "comments");
     for (_key, declaration) in module.iter_fn() {
-        let comments = &declaration.metadata.comments;
+        let comments = &declaration.metadata().comments;
         holds(&rt, comments.len() == 1, "one comment");
     }
     drop(module);
@@ -362,7 +362,7 @@ fn scripts_are_described(rt: HostRuntime) {
     let shared = shared_script(&rt, alloc, "s");
     let made = script_declaration(alloc, SEEDS, shared, None);
     let declaration = must(&rt, made, "a declaration");
-    let metadata = &declaration.metadata;
+    let metadata = declaration.metadata();
     holds(&rt, metadata.hash == script_hash(alloc, "s"), "its hash");
     holds(&rt, metadata.namespace == FnNamespace::Internal, "internal");
     holds(&rt, metadata.access == FnAccess::Public, "public");

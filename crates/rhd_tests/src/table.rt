@@ -40,7 +40,7 @@ fn comments_are_set(rt: HostRuntime) {
     drop(key);
     holds(&rt, must(&rt, found, "memory"), "set_comments");
     for (_key, declaration) in table.iter() {
-        let comments = &declaration.metadata.comments;
+        let comments = &declaration.metadata().comments;
         holds(&rt, comments.len() == 1, "one comment");
     }
     drop(table);
@@ -55,7 +55,7 @@ fn natives_are_matched(rt: HostRuntime) {
         name: text(alloc, "f"),
         types: Types::new(alloc),
     };
-    let put = table.put(alloc, key, declaration(alloc));
+    let put = table.put(alloc, key, declaration(rt, alloc));
     holds(&rt, !must(&rt, put, "put in"), "nothing stood there");
     let f = text(alloc, "f");
     holds(&rt, table.may_match(0, &f, &[]), "without types");

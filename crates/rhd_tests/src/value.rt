@@ -2,7 +2,9 @@
 
 use crate::given::{int, is_int, is_text, one, text};
 use crate::must::{holds, must};
-use rhd_value::{Dynamic, Entries, FnPtr, FnPtrType, Text, TypeTag, Value, Values, map_type};
+use rhd_value::{
+    Dynamic, Entries, FnPtr, FnPtrType, Text, TypeTag, Types, Value, Values, map_type,
+};
 use std::alloc::Global;
 use std::collections::BTreeMap;
 use std::process::Abort;
@@ -17,6 +19,55 @@ fn values_are_read(rt: HostRuntime) {
     let word = Dynamic::from(Value::Text(text(rt.alloc(), "a")));
     holds(&rt, is_text(word.as_text(), "a"), "a text");
     drop(word);
+}
+
+/// Whether a text and a copy of it to which a letter is put are this word, without and with the letter.
+fn grows(rt: &impl Abort, alloc: Global, made: Text, word: &str, longer: &str) {
+    holds(rt, made.as_str() == word && made.len() == word.len(), word);
+    let mut copy = must(rt, made.dup(alloc), "a text is copied");
+    must(rt, copy.push("z"), "a letter is put");
+    holds(rt, copy.as_str() == longer && copy > made, longer);
+    holds(rt, made.as_str() == word, "the other is as before");
+    drop(copy);
+    drop(made);
+}
+
+#[test]
+fn texts_of_any_length_are_told_apart(rt: HostRuntime) {
+    let alloc = rt.alloc();
+    let words = [
+        ("", "z"),
+        ("abcdefg", "abcdefgz"),
+        ("abcdefgh", "abcdefghz"),
+        ("abcdefghi", "abcdefghiz"),
+    ];
+    for (word, longer) in words {
+        let made = must(&rt, Text::from_str(alloc, word), "from_str");
+        grows(&rt, alloc, made, word, longer);
+        let string = must(&rt, String::from_str(alloc, word), "a string");
+        let made = must(&rt, Text::from_string(alloc, string), "from_string");
+        grows(&rt, alloc, made, word, longer);
+    }
+}
+
+#[test]
+fn lists_of_types_are_changed(rt: HostRuntime) {
+    let alloc = rt.alloc();
+    let tags = [TypeTag::Int; 5];
+    let mut types = must(&rt, Types::from_slice(alloc, &tags), "five types");
+    types.set(4, TypeTag::Bool);
+    types.set(5, TypeTag::Char);
+    holds(&rt, types.len() == 5, "none is put in");
+    holds(&rt, types.get(3) == Some(TypeTag::Int), "as before");
+    holds(&rt, types.get(4) == Some(TypeTag::Bool), "changed");
+    drop(types);
+}
+
+#[test]
+fn values_are_taken_out(rt: HostRuntime) {
+    let value = int(7).into_value();
+    holds(&rt, matches!(&value, Value::Int(7)), "the number");
+    drop(value);
 }
 
 #[test]
