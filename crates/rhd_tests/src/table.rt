@@ -55,7 +55,7 @@ fn natives_are_matched(rt: HostRuntime) {
         name: text(alloc, "f"),
         types: Types::new(alloc),
     };
-    let put = table.put(alloc, key, declaration(rt, alloc));
+    let put = table.put(alloc, key, declaration(&rt, alloc));
     holds(&rt, !must(&rt, put, "put in"), "nothing stood there");
     let f = text(alloc, "f");
     holds(&rt, table.may_match(0, &f, &[]), "without types");

@@ -1,6 +1,6 @@
 //! The program's one call.
 
-ghost use Rattle.std.specs.Prelude.{ℕ, Some, ◌^◌, ◌≡◌, ◌≢◌, ◌↔◌, ◌⊎◌, ◌<◌, ◌≤◌, true, List, [], IfOk, IfErr, length, take, IsTrue};
+ghost use Rattle.std.specs.Prelude.{ℕ, Some, None, ◌^◌, ◌≡◌, ◌≢◌, ◌↔◌, ◌⊎◌, ◌<◌, ◌≤◌, true, List, [], IfOk, IfErr, length, take, IsTrue};
 ghost use Rattle.std.specs.Io.KnownBytes.{Appends};
 ghost use Rattle.std.specs.Str.Lines.{lines};
 ghost use Rattle.rhd_func.specs.Infos.{infos_of};
@@ -46,15 +46,22 @@ pub struct ToolEnd {
     pub line: u32,
     /// The replies to the commands of the text.
     pub replies: Replies,
+    /// The session that answered them, where one was made. To drop it takes time, so a program that ends
+    /// with it may forget it.
+    pub session: Option<TextSession>,
 }
 
+/// The session of a text.
+type TextSession = Session<MemFiles, PlanLoader>;
+
 fn end(alloc: Global, status: u8, line: u32) -> ToolEnd
-    ensures { result ≡ record { status = status; line = line; replies = [] } }
+    ensures { result ≡ record { status = status; line = line; replies = []; session = None } }
 {
     ToolEnd {
         status,
         line,
         replies: Replies::new(alloc),
+        session: None,
     }
 }
 
@@ -66,8 +73,13 @@ fn print_all(alloc: Global, replies: &[Reply]) -> Result<Vec<u8>, OutOfMemory>
     Ok(out)
 }
 
-/// Writes the replies to all commands.
-fn write_replies<K: Sink>(alloc: Global, replies: Replies, sink: &mut K) -> ToolEnd
+/// Writes the replies to all commands, which this session answered.
+fn write_replies<K: Sink>(
+    alloc: Global,
+    replies: Replies,
+    session: Option<TextSession>,
+    sink: &mut K,
+) -> ToolEnd
     ensures statuses { (result.status ≡ 0) ⊎ (result.status ≡ 4) ⊎ (result.status ≡ 5) }
     ensures line { result.line ≡ 0 }
     ensures replies { result.replies ≡ replies }
@@ -82,6 +94,7 @@ fn write_replies<K: Sink>(alloc: Global, replies: Replies, sink: &mut K) -> Tool
             status: 5,
             line: 0,
             replies,
+            session,
         };
     };
     let status = match write_whole(sink, &out) {
@@ -93,11 +106,17 @@ fn write_replies<K: Sink>(alloc: Global, replies: Replies, sink: &mut K) -> Tool
         status,
         line: 0,
         replies,
+        session,
     }
 }
 
-/// The replies to the commands of a text, in a new session.
-fn answer(alloc: Global, natives: Natives, text: SessionText) -> Result<Replies, Stopped>
+/// The replies to the commands of a text, in a new session, which is left where there was none.
+fn answer(
+    alloc: Global,
+    natives: Natives,
+    text: SessionText,
+    left: &mut Option<TextSession>,
+) -> Result<Replies, Stopped>
     requires level { (limits_of text).level ≤ 1000 }
     requires builtins { builtins_held (length natives.items.items) text.builtins ≡ true }
     requires fits { fits (infos_of info natives) text.manifests ≡ true }
@@ -130,7 +149,9 @@ fn answer(alloc: Global, natives: Natives, text: SessionText) -> Result<Replies,
             replies: Replies::new(alloc),
         });
     };
-    session.run_commands(alloc, commands, &mut host, &mut bodies)
+    let answered = session.run_commands(alloc, commands, &mut host, &mut bodies);
+    *left = Some(session);
+    answered
 }
 
 /// Answers the commands of a text, and writes the replies where all commands are answered.
@@ -155,12 +176,14 @@ fn answer_and_write<K: Sink>(
     ensures fault { result.status ≡ 4 → Rose (K.faults sink.old) (K.faults sink.new) }
     ensures later { K.faults sink.old ≤ K.faults sink.new }
 {
-    match answer(alloc, natives, text) {
-        Ok(replies) => write_replies(alloc, replies, sink),
+    let mut session = None;
+    match answer(alloc, natives, text, &mut session) {
+        Ok(replies) => write_replies(alloc, replies, session, sink),
         Err(stopped) => ToolEnd {
             status: 5,
             line: 0,
             replies: stopped.replies,
+            session,
         },
     }
 }
