@@ -128,6 +128,16 @@ both_less kinds same place m s first second small within is one two =
     sum_both_less (from_place kinds place * m) (after_place kinds place * m) (after_place (set same place Dynamic) place * m) m s first second
     (times_twice (from_place kinds place) (after_place kinds place) m (twice kinds place small within)) (same_after kinds same place m within is) one two
 
+-- The exact pattern, and those after it.
+
+pub most_exact : (kinds : List TypeTag) (s m new : ℕ) → new ≤ s + m → new ≤ s + length (patterns kinds) * m
+most_exact kinds s m new h =
+    let l : m ≤ length (patterns kinds) * m = at_least_once (length (patterns kinds)) m (some_pattern 16 kinds) in
+    omega (arith, l, h)
+
+pub most_others : (all m s first last : ℕ) → first ≤ s + m → last + m ≤ first + all * m → last ≤ s + all * m
+most_others all m s first last one others = omega (arith, one, others)
+
 -- The questions of a call.
 
 -- how many modules there are
@@ -137,23 +147,12 @@ modules e libs imports = length libs + length e.globals + length imports + lengt
 pub as_modules : (e : EngineLists) (libs : List ModuleTree) (imports : Imports) (s new : ℕ) → new ≤ s + length (searched e libs imports) → new ≤ s + modules e libs imports
 as_modules e libs imports s new h = omega (arith, places_count e libs imports, h)
 
--- the patterns after the exact one
-pub other_patterns : (e : EngineLists) (libs : List ModuleTree) (imports : Imports) (types kinds : List TypeTag) (s new : ℕ) → types ≡ kinds → new + modules e libs imports ≤ s + length (patterns types) * modules e libs imports
-    → new + length (searched e libs imports) ≤ s + length (patterns kinds) * length (searched e libs imports)
-other_patterns e libs imports types kinds s new k h =
-    let p : length (patterns types) * modules e libs imports ≡ length (patterns kinds) * length (searched e libs imports) = λ i. length (patterns (k i)) * sym (places_count e libs imports) i in
-    omega (arith, p, places_count e libs imports, h)
+-- all patterns, in each module
+pub as_searched : (e : EngineLists) (libs : List ModuleTree) (imports : Imports) (n s new : ℕ) → new ≤ s + n * modules e libs imports → new ≤ s + n * length (searched e libs imports)
+as_searched e libs imports n s new h = omega (arith, ap (λ (m : ℕ). n * m) (places_count e libs imports), h)
 
-pub no_pattern : (kinds : List TypeTag) (s m : ℕ) → s + m ≤ s + length (patterns kinds) * m
-no_pattern kinds s m =
-    let l : m ≤ length (patterns kinds) * m = at_least_once (length (patterns kinds)) m (some_pattern 16 kinds) in
-    omega (arith, l)
-
--- the exact pattern alone
-pub exact_looks : (kinds : List TypeTag) (s m new : ℕ) → new ≤ s + m → new ≤ s + (length (patterns kinds) * m + 0)
-exact_looks kinds s m new h =
-    let l : m ≤ length (patterns kinds) * m = at_least_once (length (patterns kinds)) m (some_pattern 16 kinds) in
-    omega (arith, l, h)
+pub one_key : (s m new : ℕ) → new ≤ s + m → new ≤ s + 1 * m
+one_key s m new h = omega (arith, h, one-mul m)
 
 -- In one module.
 

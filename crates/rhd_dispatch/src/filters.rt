@@ -5,21 +5,14 @@ ghost use Rattle.rhd_layers.specs.Lists.{all_indexed};
 ghost use Rattle.rhd_dispatch.specs.Walks.{may_have, any_may_have};
 
 use rhd_engine::ModuleMap;
-use rhd_hash::{HashedName, calc_untyped_fn_hash};
+use rhd_hash::HashedName;
 use rhd_layers::SharedModule;
 use rhd_module::Module;
 use rhd_value::Text;
 
 /// Whether the tree of a module may have a native of this name with so many parameters, one of which is
 /// `Dynamic`, by its filter.
-pub(crate) fn may_have(place: &Module, name: &Text, params: u64) -> bool
-    ensures { result ≡ may_have name.now params place.now }
-{
-    place.may_contain_dynamic_fn(calc_untyped_fn_hash(place.seeds(), name, params))
-}
-
-/// The same, of a name and a number whose hash is at hand.
-fn tree_may_have(place: &Module, name: HashedName) -> bool
+pub(crate) fn tree_may_have(place: &Module, name: HashedName) -> bool
     ensures { result ≡ may_have name.entry.name.now name.entry.params place.now }
 {
     place.may_contain_dynamic_fn(name.hash_under(place.seeds()))

@@ -1,52 +1,46 @@
 //! Look-ups of natives by their types.
 
-ghost use Rattle.std.specs.Prelude.{◌≡◌, ◌≤◌, ◌+◌, ℕ, false, true, List, Option, None, IfOk, length};
+ghost use Rattle.std.specs.Prelude.{◌≡◌, ◌≤◌, ◌+◌, ℕ, false, true, List, Option, None, length};
+ghost use Rattle.std.specs.Option.{option_map};
 ghost use Rattle.rhd_value.specs.declared.tag.TypeTag.{TypeTag};
+ghost use Rattle.rhd_hash.specs.declared.key.Key.{Key};
+ghost use Rattle.rhd_hash.specs.Keys.{key_name, key_types};
 ghost use Rattle.rhd_hash.specs.Matching.{types_match};
 ghost use Rattle.rhd_call.specs.declared.pick.Pick.{Pick};
-ghost use Rattle.rhd_dispatch.specs.Walks.{native_in, any_dynamic, any_may_show};
+ghost use Rattle.rhd_dispatch.specs.Walks.{found_in, with_types, picked, any_dynamic, any_may_show};
 
 use crate::filters::{any_import_may_have, any_static_may_have};
-use crate::keys::native_key_of;
-use crate::search::{find, pick_found};
-use rhd_call::Pick;
+use crate::search::{Found, find};
 use rhd_engine::{Engine, GlobalRuntimeState};
-use rhd_hash::{HashedName, Steps};
+use rhd_hash::{HashedName, Key, Steps};
 use rhd_layers::SharedModule;
-use rhd_value::{OutOfMemory, TypeTag, Types};
-use std::alloc::Global;
+use rhd_value::TypeTag;
 
-/// A look-up of natives, and a test that saves look-ups.
-pub(crate) trait Look {
-    /// What there is for a list of types.
-    ghost look: { Self → List TypeTag → Option Pick };
+/// A look-up of keys, and a test that saves look-ups. It takes no memory.
+pub(crate) trait Look<'a>: Copy {
+    /// What there is under a key.
+    ghost look: { Self → Key → Option Pick };
 
     /// In how many modules it looks.
     ghost modules: { Self → ℕ };
 
-    /// What there is for these types. Each module is asked once at most.
-    fn find(
-        &self,
-        alloc: Global,
-        types: &[TypeTag],
-        steps: &mut Steps,
-    ) -> Result<Option<Pick>, OutOfMemory>
-        ensures found { IfOk result (λ pick. pick ≡ look self.now types.now) }
-        ensures steps { steps.new ≤ steps.old + modules self.now };
+    /// What there is under this key. Each module is asked once at most.
+    fn find(self, key: &Key, steps: &mut Steps) -> Option<Found<'a>>
+        ensures found { option_map (λ f. picked f.layer f.func.now f.place.now) result ≡ look self key.now }
+        ensures steps { steps.new ≤ steps.old + modules self };
 
-    /// False only where there is nothing for any types of which one is `Dynamic`, and each of which is
-    /// its kind, or, behind the first `place` ones, `Dynamic`.
-    fn may_match(&self, place: usize, kinds: &[TypeTag]) -> bool
-        ensures { result ≡ false → (types : List TypeTag) → types_match place types kinds.now ≡ true → any_dynamic types ≡ true → look self.now types ≡ None };
+    /// False only where there is nothing for a native of this name with any types of which one is `Dynamic`,
+    /// and each of which is that of the key, or, behind the first `place` ones, `Dynamic`.
+    fn may_match(self, name: HashedName, place: usize, key: &Key) -> bool
+        requires { name.entry.name.now ≡ key_name key.now }
+        ensures { result ≡ false → (types : List TypeTag) → types_match place types (key_types key.now) ≡ true → any_dynamic types ≡ true → look self (with_types types key.now) ≡ None };
 }
 
-/// The look-up of natives of one name in all modules in which a call looks.
+/// All modules in which a call looks.
 #[derive(Clone, Copy)]
-pub(crate) struct NativesOf<'a> {
+pub(crate) struct AllModules<'a> {
     pub engine: &'a Engine,
     pub state: &'a GlobalRuntimeState,
-    /// The name with a number of parameters, hashed for the filters.
-    pub name: HashedName<'a>,
 }
 
 /// Whether some module declares a native of this name for these kinds, where the types before a place are
@@ -71,37 +65,32 @@ fn any_may_match(
     false
 }
 
-impl Look for NativesOf<'_> {
-    ghost look = { λ s types. native_in s.state.now.lib s.engine.now.globals s.state.now.imports s.engine.now.statics s.name.name.now types };
+impl<'a> Look<'a> for AllModules<'a> {
+    ghost look = { λ s key. found_in s.state.now.lib s.engine.now.globals s.state.now.imports s.engine.now.statics key };
 
     ghost modules = { λ s. length s.state.now.lib + length s.engine.now.globals + length s.state.now.imports + length s.engine.now.statics };
 
-    fn find(
-        &self,
-        alloc: Global,
-        types: &[TypeTag],
-        steps: &mut Steps,
-    ) -> Result<Option<Pick>, OutOfMemory> {
-        let key = native_key_of(
-            self.name.name().dup(alloc)?,
-            Types::from_slice(alloc, types)?,
-        );
-        pick_found(alloc, find(self.engine, self.state, &key, steps))
+    fn find(self, key: &Key, steps: &mut Steps) -> Option<Found<'a>> {
+        find(self.engine, self.state, key, steps)
     }
 
-    fn may_match(&self, place: usize, kinds: &[TypeTag]) -> bool {
-        if kinds.len() as u64 != self.name.params() {
+    fn may_match(self, name: HashedName, place: usize, key: &Key) -> bool {
+        let Some(_name) = key.native_name() else {
+            return true;
+        };
+        let kinds = key.types();
+        if kinds.len() as u64 != name.params() {
             return true;
         }
-        if any_may_match(self.engine.global_modules(), place, self.name, kinds) {
+        if any_may_match(self.engine.global_modules(), place, name, kinds) {
             return true;
         }
-        if any_may_match(self.state.lib.as_slice(), place, self.name, kinds) {
+        if any_may_match(self.state.lib.as_slice(), place, name, kinds) {
             return true;
         }
-        if any_import_may_have(self.state.imports.as_slice(), self.name) {
+        if any_import_may_have(self.state.imports.as_slice(), name) {
             return true;
         }
-        any_static_may_have(self.engine.static_modules(), self.name)
+        any_static_may_have(self.engine.static_modules(), name)
     }
 }

@@ -20,7 +20,7 @@ use std::alloc::Global;
 
 /// A function that was found, with the module in which it was, or the root of that one's tree.
 #[derive(Clone, Copy)]
-pub(crate) struct Found<'a> {
+pub struct Found<'a> {
     pub layer: Layer,
     pub func: &'a RhaiFunc,
     pub place: &'a Module,
@@ -28,7 +28,7 @@ pub(crate) struct Found<'a> {
 
 impl<'a> Found<'a> {
     /// A pick of the function. It shares the function and the id of the module.
-    pub(crate) fn to_pick(self, alloc: Global) -> Result<Pick, OutOfMemory>
+    pub fn to_pick(self, alloc: Global) -> Result<Pick, OutOfMemory>
         ensures { IfOk result (λ pick. pick ≡ picked self.entry.layer self.entry.func.now self.entry.place.now) }
     {
         Ok(Pick {

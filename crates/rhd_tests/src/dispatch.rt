@@ -6,7 +6,7 @@ ghost use Rattle.rhd_engine.specs.Held.{names_held, named_held};
 use crate::given::{SEEDS, int, one, plain, text, texts};
 use crate::must::{holds, must, shared, shared_script};
 use crate::registering::engine;
-use rhd_dispatch::{Layer, Pick, ensure_no_data_race, has_root, resolve_qualified};
+use rhd_dispatch::{Layer, Pick, ensure_no_data_race, has_root, resolve_qualified_call};
 use rhd_engine::GlobalRuntimeState;
 use rhd_func::CallShape;
 use rhd_hash::Steps;
@@ -90,7 +90,7 @@ fn a_path_leads_to_a_script(rt: HostRuntime) {
     let (path, name) = (texts(alloc, "a"), text(alloc, "s"));
     let shape = CallShape::Plain(Values::new(alloc));
     let mut steps = Steps::new();
-    let found = resolve_qualified(alloc, &engine, &state, &path, &name, &shape, &mut steps);
+    let found = resolve_qualified_call(alloc, &engine, &state, &path, &name, &shape, &mut steps);
     let pick = must(&rt, found, "an answer");
     holds(&rt, is_imported(pick.as_ref()), "the script");
     holds(&rt, steps.count() == 1, "one look-up");
