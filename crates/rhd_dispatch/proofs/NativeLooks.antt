@@ -12,7 +12,7 @@ use Rattle.rhd_value.specs.declared.tag.TypeTag.{TypeTag}
 use Rattle.rhd_hash.specs.declared.key.Key.{Key}
 use Rattle.rhd_hash.specs.declared.key.Key.TheVariants.{Script, Typed, Native}
 use Rattle.rhd_decl.specs.declared.declaration.Declaration.{Declaration}
-use Rattle.rhd_hash.specs.Keys.{key_eq, key_eq-Decides, key_types, is_script_key}
+use Rattle.rhd_hash.specs.Keys.{key_eq, key_eq-Decides, key_name, key_params, key_types, is_script_key}
 use Rattle.rhd_hash.specs.declared.mixer.Seeds.{Seeds}
 use Rattle.rhd_hash.specs.Filter.{slot}
 use Rattle.rhd_hash.specs.Parts.{untyped}
@@ -36,7 +36,7 @@ use Rattle.rhd_dispatch.specs.Asks.{Asked, typed, script, native, asked_of, key_
 use Rattle.rhd_dispatch.specs.Looks.{keys_of}
 use Rattle.rhd_dispatch.specs.Patterns.{patterns}
 use Rattle.rhd_dispatch.specs.Searched.{pick_at, found}
-use Rattle.rhd_dispatch.specs.Walks.{alone, rooted, place_of, place_of_tree, library_places, global_places, import_trees, static_trees, found_in, first_typed, any_dynamic, may_have, any_may_have, may_list, may_show, any_may_show}
+use Rattle.rhd_dispatch.specs.Walks.{with_types, alone, rooted, place_of, place_of_tree, library_places, global_places, import_trees, static_trees, found_in, first_typed, any_dynamic, may_have, any_may_have, may_list, may_show, any_may_show}
 use Rattle.rhd_dispatch.proofs.Firsts.{or_nones, of_append, of_map, none_reverse}
 
 pub any_parts : (a b : Bool) → (a || b) ≡ false → (a ≡ false) × (b ≡ false)
@@ -112,6 +112,14 @@ no_root path layer name types params m is dynamic l h =
     let none : may_have name (length types) m ≡ false = ap (λ (n : ℕ). may_have name n m) l ∙ h in
     ap (option_map (λ (d : Declaration). record { layer = layer; func = d.func; source = m.own.id })) (absent_qualified m (Native path name types) (untyped m.own.seeds name (length types)) is none dynamic refl)
 
+pub no_root_key : (key : Key) (layer : Layer) (types : List TypeTag) (n : ℕ) (m : ModuleTree) → m.own.indexed ≡ true → types_match n types (key_types key) ≡ true → any_dynamic types ≡ true → may_have (key_name key) (key_params key) m ≡ false
+    → pick_at (with_types types key) (rooted layer m) ≡ None
+no_root_key (Script path name params) layer [] n m is matches dynamic h = absurd (true≢false (sym dynamic))
+no_root_key (Script path name params) layer (t ∷ types) n m is matches dynamic h = absurd (true≢false (sym matches))
+no_root_key (Typed path name params this_type) layer [] n m is matches dynamic h = absurd (true≢false (sym dynamic))
+no_root_key (Typed path name params this_type) layer (t ∷ types) n m is matches dynamic h = absurd (true≢false (sym matches))
+no_root_key (Native path name own) layer types n m is matches dynamic h = no_root path layer name types (length own) m is dynamic (as_many n types own matches) h
+
 no_tree : (layer : ℕ → Layer) (name : Bytes) (types : List TypeTag) (params k : ℕ) (es : Imports) → all_indexed es ≡ true → any_dynamic types ≡ true → length types ≡ params → any_may_have name params es ≡ false
     → first_of (λ y. pick_at (Native None name types) (place_of_tree layer y)) (enumerate_from k es) ≡ None
 no_tree layer name types params k [] is dynamic l h = refl
@@ -176,15 +184,3 @@ pub declared_looked : (e : EngineLists) (libs : List ModuleTree) (imports : Impo
 declared_looked e libs imports (typed name params this_type) pick h = h
 declared_looked e libs imports (script name params) pick h = h
 declared_looked e libs imports (native name kinds token) pick h = ap (λ (x : Option Pick). option_or x (builtin e token kinds)) h
-
-builtin_looked : (e : EngineLists) (libs : List ModuleTree) (imports : Imports) (key : Key) (token : Option OpToken) → declared e libs imports (asked_of key token) ≡ None → builtin e token (key_types key) ≡ looked e libs imports (asked_of key token)
-builtin_looked e libs imports (Script path name params) None h = sym h
-builtin_looked e libs imports (Script path name params) (Some token) h = sym h
-builtin_looked e libs imports (Typed path name params this_type) None h = sym h
-builtin_looked e libs imports (Typed path name params this_type) (Some token) h = sym h
-builtin_looked e libs imports (Native path name types) token h = sym (ap (λ (x : Option Pick). option_or x (builtin e token types)) h)
-
-pub builtin_answers : (e : EngineLists) (libs : List ModuleTree) (imports : Imports) (key : Key) (token : Option OpToken) (q : Asked) (o last : Option Pick) → q ≡ asked_of key token → o ≡ declared e libs imports q → o ≡ None
-    → last ≡ builtin e token (key_types key) → last ≡ looked e libs imports q
-builtin_answers e libs imports key token q o last k is none built =
-    built ∙ builtin_looked e libs imports key token (ap (declared e libs imports) (sym k) ∙ sym is ∙ none) ∙ ap (looked e libs imports) (sym k)

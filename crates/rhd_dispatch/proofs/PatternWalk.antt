@@ -149,9 +149,6 @@ pub walk_changed : (look : List TypeTag → Option Pick) (kinds same : List Type
 walk_changed look kinds same place t o last small within is k h none e =
     walk_passed look kinds place t o last small within is h none (e ∙ ap (λ (ks : List TypeTag). first_match look (take (place + 1) (set ks place Dynamic)) (16 - (place + 1)) (drop (place + 1) (set ks place Dynamic))) k)
 
-pub back_changed : (kinds same last : List TypeTag) (place : ℕ) (t : TypeTag) → place < length kinds → t ≡ get_or kinds place t → same ≡ kinds → last ≡ set same place Dynamic → set last place t ≡ kinds
-back_changed kinds same last place t within is k e = ap (λ (ks : List TypeTag). set ks place t) (e ∙ ap (λ (ks : List TypeTag). set ks place Dynamic) k) ∙ put_back kinds place t within is
-
 -- nothing is asked again at the last place, where there is nothing for the exact types
 pub walk_missed_last : (look : List TypeTag → Option Pick) (kinds : List TypeTag) (place : ℕ) → 16 ≤ place → look kinds ≡ None → ◌≡◌ {A = Option Pick} None (first_match look (take place kinds) (16 - place) (drop place kinds))
 walk_missed_last look kinds place h missed = walk_last look kinds place None h (sym missed)

@@ -69,8 +69,8 @@ named_miss layer name y e = ap (λ (b : Bool). if b then Some (place_of_tree lay
 pub below_script : (q : AskedBelow) (place : Place) (key : Key) (o : Option Pick) → key ≡ script_below q → o ≡ pick_at key place → is_some o ≡ true → o ≡ pick_below q place
 below_script q place key o k is some = or_here o (first_of (λ types. pick_at (Native (Some q.path) q.name types) place) (patterns q.kinds)) some ∙ ap (λ (x : Option Pick). option_or x (first_of (λ types. pick_at (Native (Some q.path) q.name types) place) (patterns q.kinds))) (is ∙ ap (λ (k : Key). pick_at k place) k)
 
-pub below_native : (q : AskedBelow) (place : Place) (key native : Key) (o last : Option Pick) → key ≡ script_below q → native ≡ native_below q → o ≡ pick_at key place → o ≡ None → last ≡ first_typed (λ k. pick_at k place) native 0 → last ≡ pick_below q place
-below_native q place key native o last k n is none h =
+pub below_native : (q : AskedBelow) (place : Place) (key second : Key) (o last : Option Pick) → key ≡ script_below q → second ≡ native_below q → o ≡ pick_at key place → o ≡ None → last ≡ first_typed (λ k. pick_at k place) second 0 → last ≡ pick_below q place
+below_native q place key second o last k n is none h =
     h ∙ ap (λ (k : Key). first_typed (λ k. pick_at k place) k 0) n
     ∙ sym (ap (λ (x : Option Pick). option_or x (first_of (λ types. pick_at (Native (Some q.path) q.name types) place) (patterns q.kinds))) (ap (λ (k : Key). pick_at k place) (sym k) ∙ sym is ∙ none))
 
@@ -84,23 +84,11 @@ by_asks path name shape None = refl
 by_asks path name shape (Some root) =
     sym (ap (option_or (pick_at (Script (Some (after_root path)) name (length (all_args shape))) root)) (or_none (first_of (λ types. pick_at (Native (Some (after_root path)) name types) root) (patterns (map tag_of (all_args shape))))))
 
--- what a root has is what answers the questions
-pub below_asks : (path : List Bytes) (q : AskedBelow) (root : Place) → q.path ≡ after_root path → pick_below q root ≡ first_of (looked_in path (Some root)) (asks_below q)
-below_asks path q root p =
-    (λ i. option_or (pick_at (Script (Some (p i)) q.name (length q.kinds)) root) (first_of (λ types. pick_at (Native (Some (p i)) q.name types) root) (patterns q.kinds)))
-    ∙ ap (option_or (pick_at (Script (Some (after_root path)) q.name (length q.kinds)) root)) (sym (or_none (first_of (λ types. pick_at (Native (Some (after_root path)) q.name types) root) (patterns q.kinds))))
-
-pub root_answers : (e : EngineLists) (imports : Imports) (path : List Bytes) (q : AskedBelow) (root : Option Place) (place : Place) (o : Option Pick) → q.path ≡ after_root path → root ≡ root_of e imports path → root ≡ Some place
-    → o ≡ pick_below q place → o ≡ first_of (looked_in path (root_of e imports path)) (asks_below q)
-root_answers e imports path q root place o p is some h = h ∙ below_asks path q place p ∙ ap (λ (r : Option Place). first_of (looked_in path r) (asks_below q)) (sym some ∙ is)
-
-pub no_root_answers : (e : EngineLists) (imports : Imports) (path : List Bytes) (q : AskedBelow) (root : Option Place) → root ≡ root_of e imports path → root ≡ None → ◌≡◌ {A = Option Pick} None (first_of (looked_in path (root_of e imports path)) (asks_below q))
-no_root_answers e imports path q root is none = ap (λ (r : Option Place). first_of (looked_in path r) (asks_below q)) (sym none ∙ is)
-
 -- those of a call
-pub call_asks : (e : EngineLists) (imports : Imports) (path : List Bytes) (name : Bytes) (shape : CallShape) (q : AskedBelow) (kinds : List TypeTag) (o : Option Pick) → q ≡ record { path = after_root path; name = name; kinds = kinds } → kinds ≡ map tag_of (all_args shape)
-    → o ≡ first_of (looked_in path (root_of e imports path)) (asks_below q) → o ≡ pick_qualified e imports path name shape
-call_asks e imports path name shape q kinds o is k h =
+pub call_asks : (e : EngineLists) (imports : Imports) (path asked_path looked_path : List Bytes) (name : Bytes) (shape : CallShape) (q : AskedBelow) (kinds asked_kinds : List TypeTag) (o : Option Pick) → asked_path ≡ path → looked_path ≡ path → asked_kinds ≡ kinds
+    → q ≡ record { path = after_root asked_path; name = name; kinds = asked_kinds } → kinds ≡ map tag_of (all_args shape) → o ≡ first_of (looked_in looked_path (root_of e imports looked_path)) (asks_below q) → o ≡ pick_qualified e imports path name shape
+call_asks e imports path asked_path looked_path name shape q kinds asked_kinds o a l s is k h =
     let root = root_of e imports path in
-    h ∙ ap (λ (q : AskedBelow). first_of (looked_in path root) (asks_below q)) is
-    ∙ (λ i. first_of (looked_in path root) (script name ((ap length k ∙ length-map (all_args shape) tag_of) i) ∷ native name (k i) None ∷ []))
+    let own = s ∙ k in
+    h ∙ ap (λ (names : List Bytes). first_of (looked_in names (root_of e imports names)) (asks_below q)) l ∙ ap (λ (q : AskedBelow). first_of (looked_in path root) (asks_below q)) is
+    ∙ (λ i. first_of (looked_in path root) (script name ((ap length own ∙ length-map (all_args shape) tag_of) i) ∷ native name (own i) None ∷ []))

@@ -1,18 +1,20 @@
 -- Keys with other types, and the walk over the patterns of a key's types.
-use Rattle.std.proofs.Common.{◌≡◌, ◌≤◌, ◌<◌, ℕ, ◌+◌, ◌-◌, Bool, true, false, ◌||◌, List, [], ◌∷◌, length, take, drop, get_or, set, refl, sym, ap, ◌∙◌, arith}
+use Rattle.std.proofs.Common.{◌≡◌, ◌≤◌, ◌<◌, ℕ, ◌+◌, ◌-◌, Bool, true, ◌||◌, List, [], ◌∷◌, length, take, drop, get_or, set, refl, sym, ap, ◌∙◌, arith}
 use Rattle.std.specs.Prelude.{zero, suc, Option, Some, None, is_some}
 use Rattle.std.proofs.lemmas.List.{length-set}
 use Rattle.rhd_value.specs.Same.{tag_eq}
 use Rattle.rhd_value.specs.Tree.{Bytes}
 use Rattle.rhd_value.specs.declared.tag.TypeTag.{TypeTag}
-use Rattle.rhd_value.specs.declared.tag.TypeTag.TheVariants.{Dynamic}
+use Rattle.rhd_value.specs.declared.tag.TypeTag.TheVariants.{Unit, Dynamic}
 use Rattle.rhd_hash.specs.declared.key.Key.{Key}
 use Rattle.rhd_hash.specs.declared.key.Key.TheVariants.{Script, Typed, Native}
-use Rattle.rhd_hash.specs.Keys.{key_name, key_types, native_name, with_type}
+use Rattle.rhd_hash.specs.Keys.{key_name, key_params, key_types, native_name, with_type}
+use Rattle.rhd_hash.specs.Parts.{untyped}
 use Rattle.rhd_hash.specs.Matching.{types_match}
 use Rattle.rhd_call.specs.declared.pick.Pick.{Pick}
 use Rattle.rhd_dispatch.specs.Patterns.{patterns_to}
-use Rattle.rhd_dispatch.specs.Walks.{with_types, first_match, first_typed, any_dynamic}
+use Rattle.rhd_dispatch.specs.declared.filters.UntypedHash.{UntypedHash}
+use Rattle.rhd_dispatch.specs.Walks.{IsUntyped, with_types, first_match, first_typed, any_dynamic}
 use Rattle.rhd_dispatch.proofs.PatternWalk.{walk_prunes, walk_last, walk_over, walk_found, walk_changed, walk_missed_last, walk_missed_over, missed_prunes, dynamic_kept, put_back, or_true, exact_found}
 
 pub own_types : (key : Key) → with_types (key_types key) key ≡ key
@@ -29,6 +31,11 @@ with_set : (types : List TypeTag) (key : Key) (at : ℕ) (tag : TypeTag) → wit
 with_set types (Script path name params) at tag = refl
 with_set types (Typed path name params this_type) at tag = refl
 with_set types (Native path name own) at tag = refl
+
+params_set : (key : Key) (at : ℕ) (tag : TypeTag) → key_params (with_type at tag key) ≡ key_params key
+params_set (Script path name params) at tag = refl
+params_set (Typed path name params this_type) at tag = refl
+params_set (Native path name types) at tag = length-set types at tag
 
 name_set : (key : Key) (at : ℕ) (tag : TypeTag) → key_name (with_type at tag key) ≡ key_name key
 name_set (Script path name params) at tag = refl
@@ -49,11 +56,17 @@ dynamic_set (k ∷ kinds) (suc place) within =
     let s : suc place + 1 ≡ suc (place + 1) = omega arith in
     ap (λ (m : ℕ). any_dynamic (take m (k ∷ set kinds place Dynamic))) s ∙ ap (λ (b : Bool). tag_eq k Dynamic || b) (dynamic_set kinds place (omega arith)) ∙ or_true (tag_eq k Dynamic)
 
+-- within a list the default doesn't count
+any_default : (ts : List TypeTag) (place : ℕ) (a b : TypeTag) → place < length ts → get_or ts place a ≡ get_or ts place b
+any_default [] place a b within = absurd (omega arith)
+any_default (t ∷ ts) zero a b within = refl
+any_default (t ∷ ts) (suc place) a b within = any_default ts place a b (omega arith)
+
 -- the key of a native that has no path
-pub native_is_key : (key : Key) (name : Bytes) → native_name key ≡ Some name → (key ≡ Native None name (key_types key))
+pub native_is_key : (key : Key) (name : Bytes) → native_name key ≡ Some name → key ≡ Native None (key_name key) (key_types key)
 native_is_key (Script path name params) own h = absurd cc
 native_is_key (Typed path name params this_type) own h = absurd cc
-native_is_key (Native None name types) own h = let same : name ≡ own = cc in ap (λ (n : Bytes). Native None n types) same
+native_is_key (Native None name types) own h = refl
 native_is_key (Native (Some path) name types) own h = absurd cc
 
 module _ (look : Key → Option Pick) (key : Key) (place : ℕ) where
@@ -80,12 +93,12 @@ module _ (look : Key → Option Pick) (key : Key) (place : ℕ) where
   pub typed_missed_over : length (key_types key) ≤ place → look key ≡ None → ◌≡◌ {A = Option Pick} None (first_typed look key place)
   typed_missed_over h missed = walk_missed_over by_types (key_types key) place h (ap look (own_types key) ∙ missed)
 
-  module _ (types : List TypeTag) (t : TypeTag) (own : types ≡ key_types key) (small : place < 16) (within : place < length types) (is : t ≡ get_or types place t) where
+  module _ (types : List TypeTag) (t : TypeTag) (own : types ≡ key_types key) (small : place < 16) (within : place < length types) (is : t ≡ get_or types place Unit) where
     own_within : place < length (key_types key)
     own_within = omega (arith, within, ap length own)
 
     own_type : t ≡ get_or (key_types key) place t
-    own_type = is ∙ ap (λ (ts : List TypeTag). get_or ts place t) own
+    own_type = is ∙ ap (λ (ts : List TypeTag). get_or ts place Unit) own ∙ any_default (key_types key) place Unit t own_within
 
     pub typed_found : (o : Option Pick) → o ≡ first_typed look key (place + 1) → is_some o ≡ true → o ≡ first_typed look key place
     typed_found o h some = walk_found by_types (key_types key) place t o small own_within own_type h some
@@ -99,8 +112,8 @@ module _ (look : Key → Option Pick) (key : Key) (place : ℕ) where
           ap (λ (x : Key). any_dynamic (take (place + 1) (key_types x))) (c ∙ ap (with_type place Dynamic) k) ∙ ap (λ (ts : List TypeTag). any_dynamic (take (place + 1) ts)) (types_set key place Dynamic)
           ∙ dynamic_set (key_types key) place own_within
 
-      pub typed_name : (name : Bytes) → name ≡ key_name key → name ≡ key_name changed
-      typed_name name n = n ∙ ap key_name (sym k) ∙ sym (ap key_name c ∙ name_set again place Dynamic)
+      pub typed_hash : (hash : UntypedHash) → IsUntyped hash key → IsUntyped hash changed
+      typed_hash hash h = h ∙ (λ i. untyped hash.seeds (sym (ap key_name c ∙ name_set again place Dynamic ∙ ap key_name k) i) (sym (ap key_params c ∙ params_set again place Dynamic ∙ ap key_params k) i))
 
       pub typed_changed : (o last : Option Pick) → o ≡ first_typed look key (place + 1) → o ≡ None → last ≡ first_typed look changed (place + 1) → last ≡ first_typed look key place
       typed_changed o last h none e =

@@ -16,7 +16,6 @@ use Rattle.rhd_func.specs.declared.request.CallShape.TheVariants.{Plain, ByRef, 
 use Rattle.rhd_func.specs.Shapes.{all_args}
 use Rattle.rhd_hash.specs.declared.key.Key.{Key}
 use Rattle.rhd_hash.specs.declared.key.Key.TheVariants.{Script, Typed, Native}
-use Rattle.rhd_hash.specs.Keys.{key_name}
 use Rattle.rhd_module.specs.Tree.{ModuleTree}
 use Rattle.rhd_call.specs.declared.pick.Layer.TheVariants.{Builtin}
 use Rattle.rhd_call.specs.declared.pick.Pick.{Pick}
@@ -43,9 +42,9 @@ key_of (typed name params this_type) = Typed None name params this_type
 key_of (script name params) = Script None name params
 key_of (native name kinds token) = Native None name kinds
 
--- a key and a name that are those of the question
-abbrev pub IsAsk : Key → Bytes → Option OpToken → Type 0
-IsAsk key name token = (key ≡ key_of (asked_of key token)) × (name ≡ key_name key)
+-- a key that is the question's
+abbrev pub IsAsk : Key → Option OpToken → Type 0
+IsAsk key token = key ≡ key_of (asked_of key token)
 
 -- a built-in is a method, and pure where it is no assignment
 abbrev pub builtin_pick : EngineLists → OpToken → FnId → Pick

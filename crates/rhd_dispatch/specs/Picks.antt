@@ -58,9 +58,9 @@ asked_below (Script path name params) = record { path = []; name = name; kinds =
 asked_below (Typed path name params this_type) = record { path = []; name = name; kinds = [] }
 asked_below (Native path name types) = record { path = names_of path; name = name; kinds = types }
 
--- two keys and a name that are those of the questions
-abbrev pub IsAskBelow : Key → Key → Bytes → Type 0
-IsAskBelow by_script by_native name = (by_script ≡ script_below (asked_below by_native)) × (by_native ≡ native_below (asked_below by_native)) × (name ≡ (asked_below by_native).name)
+-- two keys that are those of the questions
+abbrev pub IsAskBelow : Key → Key → Type 0
+IsAskBelow by_script by_native = (by_script ≡ script_below (asked_below by_native)) × (by_native ≡ native_below (asked_below by_native))
 
 -- what that module has: a script for the number of all arguments, an object counted, or else a native by each pattern of their kinds
 abbrev pub pick_in : List Bytes → Bytes → CallShape → Place → Option Pick

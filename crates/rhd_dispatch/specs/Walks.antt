@@ -1,5 +1,5 @@
 -- The machine's own words, by which its loops are proved; nothing here has to be believed.
-use Rattle.std.specs.Prelude.{ℕ, ◌-◌, Bool, ◌||◌, List, ◌++◌, map, take, drop, reverse, Option, None, Some, if◌then◌else◌}
+use Rattle.std.specs.Prelude.{◌≡◌, ℕ, ◌-◌, Bool, ◌||◌, List, ◌++◌, map, take, drop, reverse, Option, None, Some, if◌then◌else◌}
 use Rattle.std.specs.List.{enumerate_from, list_any}
 use Rattle.std.specs.Option.{option_or}
 use Rattle.rhd_value.specs.Tree.{Bytes}
@@ -9,7 +9,7 @@ use Rattle.rhd_value.specs.declared.tag.TypeTag.{TypeTag}
 use Rattle.rhd_value.specs.declared.tag.TypeTag.TheVariants.{Dynamic}
 use Rattle.rhd_hash.specs.declared.key.Key.{Key}
 use Rattle.rhd_hash.specs.declared.key.Key.TheVariants.{Script, Typed, Native}
-use Rattle.rhd_hash.specs.Keys.{key_types}
+use Rattle.rhd_hash.specs.Keys.{key_name, key_params, key_types}
 use Rattle.rhd_hash.specs.Parts.{untyped}
 use Rattle.rhd_func.specs.declared.func.RhaiFunc.{RhaiFunc}
 use Rattle.rhd_module.specs.Below.{may_contain, may_list_dynamic}
@@ -21,6 +21,7 @@ use Rattle.rhd_call.specs.declared.pick.Layer.{Layer}
 use Rattle.rhd_call.specs.declared.pick.Layer.TheVariants.{Library, Global, Import, Static}
 use Rattle.rhd_call.specs.declared.pick.Pick.{Pick}
 use Rattle.rhd_engine.specs.Engine.{Imports}
+use Rattle.rhd_dispatch.specs.declared.filters.UntypedHash.{UntypedHash}
 use Rattle.rhd_dispatch.specs.Patterns.{patterns, patterns_to}
 use Rattle.rhd_dispatch.specs.Picks.{AskedBelow, script_below}
 use Rattle.rhd_dispatch.specs.Searched.{Place, pick_at}
@@ -76,6 +77,10 @@ picked layer func m = record { layer = layer; func = func; source = m.own.id }
 -- what is found under a key
 abbrev pub found_in : List ModuleTree → List ModuleTree → Imports → Imports → Key → Option Pick
 found_in libs globals imports statics key = first_of (pick_at key) (all_places libs globals imports statics)
+
+-- the hash of a key by its name and its number of parameters
+abbrev pub IsUntyped : UntypedHash → Key → Type 0
+IsUntyped h key = h.hash ≡ untyped h.seeds (key_name key) (key_params key)
 
 -- a native's key with these types
 abbrev pub with_types : List TypeTag → Key → Key

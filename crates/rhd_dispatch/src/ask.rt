@@ -9,10 +9,10 @@ ghost use Rattle.rhd_dispatch.specs.Looks.{keys_of};
 ghost use Rattle.rhd_dispatch.specs.Searched.{searched};
 ghost use Rattle.rhd_dispatch.specs.Walks.{picked};
 
-use crate::look::{AllModules, Look};
+use crate::look::Look;
 use crate::operators::find_builtin;
 use crate::patterns::find_typed;
-use crate::search::Found;
+use crate::search::{AllModules, Found};
 use rhd_call::Pick;
 use rhd_engine::{Engine, GlobalRuntimeState};
 use rhd_hash::{Key, Steps};
@@ -23,13 +23,18 @@ use std::marker::Model;
 
 /// A whole question: for a script of a type, for a script, or for a native or built-in. Contracts see the
 /// question.
-#[derive(Drop)]
 pub struct Ask {
     /// The key of what is asked for. A native's has the types of the pattern in hand.
     key: Key,
-    /// Its name.
-    name: Text,
     token: Option<OpToken>,
+}
+
+/// A function of its own, so that what drops a question doesn't ask which one it is.
+impl Drop for Ask {
+    fn drop(self) {
+        let Ask { key, token: _ } = self;
+        drop(key);
+    }
 }
 
 impl Model for Ask {
@@ -39,7 +44,7 @@ impl Model for Ask {
 
     ghost view = { λ a. asked_of a.key a.token };
 
-    ghost invariant = { λ a. IsAsk a.key a.name a.token };
+    ghost invariant = { λ a. IsAsk a.key a.token };
 }
 
 impl Ask {
@@ -59,7 +64,6 @@ impl Ask {
                 params,
                 this_type: this_type.dup(alloc)?,
             },
-            name: name.dup(alloc)?,
             token: None,
         })
     }
@@ -74,7 +78,6 @@ impl Ask {
                 name: name.dup(alloc)?,
                 params,
             },
-            name: name.dup(alloc)?,
             token: None,
         })
     }
@@ -95,7 +98,6 @@ impl Ask {
                 name: name.dup(alloc)?,
                 types: Types::from_slice(alloc, kinds)?,
             },
-            name: name.dup(alloc)?,
             token,
         })
     }
@@ -112,11 +114,29 @@ fn look_up<'a>(
     ensures kept { ask.new ≡ ask.old }
     ensures steps { steps.new ≤ steps.old + keys_of ask.old * length (searched (lists_of info engine.now) state.now.lib state.now.imports) }
 {
-    let modules = AllModules { engine, state };
+    let modules = AllModules::new(engine, state);
     if ask.key.is_script() {
         return modules.find(&ask.key, steps);
     }
-    find_typed(modules, engine.seeds(), &ask.name, &mut ask.key, steps)
+    find_typed(modules, modules.seeds, &mut ask.key, steps)
+}
+
+/// What answers a question: a declaration, or else, for a native, the built-in operator.
+fn find_answer(
+    alloc: Global,
+    engine: &Engine,
+    state: &GlobalRuntimeState,
+    ask: &mut Ask,
+    steps: &mut Steps,
+) -> Result<Option<Pick>, OutOfMemory>
+    ensures pick { IfOk result (λ pick. pick ≡ looked (lists_of info engine.now) state.now.lib state.now.imports ask.old) }
+    ensures kept { ask.new ≡ ask.old }
+    ensures steps { steps.new ≤ steps.old + keys_of ask.old * length (searched (lists_of info engine.now) state.now.lib state.now.imports) }
+{
+    match look_up(engine, state, ask, steps) {
+        Some(found) => Ok(Some(found.to_pick(alloc)?)),
+        None => Ok(find_builtin(engine, ask.token, ask.key.types())),
+    }
 }
 
 /// What answers a question: a declaration, or else, for a native, the built-in operator. It makes at most
@@ -135,8 +155,5 @@ pub fn resolve(
     ensures kept { ask.new ≡ ask.old }
     ensures steps { steps.new ≤ steps.old + keys_of ask.old * length (searched (lists_of info engine.now) state.now.lib state.now.imports) }
 {
-    match look_up(engine, state, ask, steps) {
-        Some(found) => Ok(Some(found.to_pick(alloc)?)),
-        None => Ok(find_builtin(engine, ask.token, ask.key.types())),
-    }
+    find_answer(alloc, engine, state, ask, steps)
 }

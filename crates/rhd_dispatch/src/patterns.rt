@@ -3,35 +3,35 @@
 
 ghost use Rattle.std.specs.Prelude.{◌≡◌, ◌≤◌, ◌+◌, ◌*◌, ◌-◌, [], true, None, length, take, drop};
 ghost use Rattle.std.specs.Option.{option_map};
-ghost use Rattle.rhd_hash.specs.Keys.{key_name, key_types};
+ghost use Rattle.rhd_hash.specs.Keys.{key_types};
 ghost use Rattle.rhd_dispatch.specs.Patterns.{patterns, patterns_to};
-ghost use Rattle.rhd_dispatch.specs.Walks.{first_typed, any_dynamic, picked};
+ghost use Rattle.rhd_dispatch.specs.Walks.{IsUntyped, first_typed, any_dynamic};
 
+use crate::filters::UntypedHash;
 use crate::look::Look;
-use crate::search::Found;
-use rhd_hash::{HashedName, Key, Seeds, Steps};
-use rhd_value::{Text, TypeTag};
+use rhd_hash::{Key, Seeds, Steps};
+use rhd_value::TypeTag;
 
 /// How many types a pattern may change.
 const MOST_CHANGED: usize = 16;
 
 /// What the first pattern has that has anything, where the types before a place stay, and one of them is
 /// `Dynamic`. Where nothing may match, no pattern is looked up.
-fn find_from<'a, L: Look<'a>>(
+fn find_from<L: Look>(
     look: L,
-    name: HashedName,
+    hash: UntypedHash,
     key: &mut Key,
     place: usize,
     steps: &mut Steps,
-) -> Option<Found<'a>>
+) -> Option<L::Found>
     requires within { place ≤ length (key_types key.old) }
     requires dynamic { any_dynamic (take place (key_types key.old)) ≡ true }
-    requires name { name.entry.name.now ≡ key_name key.old }
-    ensures found { option_map (λ f. picked f.layer f.func.now f.place.now) result ≡ first_typed (L.look look) key.old place }
+    requires hash { IsUntyped hash key.old }
+    ensures found { option_map L.pick result ≡ first_typed (L.look look) key.old place }
     ensures kept { key.new ≡ key.old }
     ensures steps { steps.new ≤ steps.old + length (patterns_to (16 - place) (drop place (key_types key.old))) * L.modules look }
 {
-    if !look.may_match(name, place, key) {
+    if !look.may_match(hash, place, key) {
         return None;
     }
     if place >= MOST_CHANGED {
@@ -42,32 +42,32 @@ fn find_from<'a, L: Look<'a>>(
         return look.find(key, steps);
     }
     let exact = types[place];
-    let kept = find_from(look, name, key, place + 1, steps);
+    let kept = find_from(look, hash, key, place + 1, steps);
     if kept.is_some() {
         return kept;
     }
     key.set_type(place, TypeTag::Dynamic);
-    let changed = find_from(look, name, key, place + 1, steps);
+    let changed = find_from(look, hash, key, place + 1, steps);
     key.set_type(place, exact);
     changed
 }
 
 /// The same where there is nothing for exactly these types: they aren't looked up again.
-fn find_others<'a, L: Look<'a>>(
+fn find_others<L: Look>(
     look: L,
-    name: HashedName,
+    hash: UntypedHash,
     key: &mut Key,
     place: usize,
     steps: &mut Steps,
-) -> Option<Found<'a>>
+) -> Option<L::Found>
     requires within { place ≤ length (key_types key.old) }
     requires missed { L.look look key.old ≡ None }
-    requires name { name.entry.name.now ≡ key_name key.old }
-    ensures found { option_map (λ f. picked f.layer f.func.now f.place.now) result ≡ first_typed (L.look look) key.old place }
+    requires hash { IsUntyped hash key.old }
+    ensures found { option_map L.pick result ≡ first_typed (L.look look) key.old place }
     ensures kept { key.new ≡ key.old }
     ensures steps { steps.new + L.modules look ≤ steps.old + length (patterns_to (16 - place) (drop place (key_types key.old))) * L.modules look }
 {
-    if !look.may_match(name, place, key) {
+    if !look.may_match(hash, place, key) {
         return None;
     }
     if place >= MOST_CHANGED {
@@ -78,27 +78,25 @@ fn find_others<'a, L: Look<'a>>(
         return None;
     }
     let kind = types[place];
-    let others = find_others(look, name, key, place + 1, steps);
+    let others = find_others(look, hash, key, place + 1, steps);
     if others.is_some() {
         return others;
     }
     key.set_type(place, TypeTag::Dynamic);
-    let changed = find_from(look, name, key, place + 1, steps);
+    let changed = find_from(look, hash, key, place + 1, steps);
     key.set_type(place, kind);
     changed
 }
 
 /// What the first pattern of a key's types has that has anything. The exact types are the first pattern, and
 /// they aren't looked up twice.
-pub(crate) fn find_typed<'a, L: Look<'a>>(
+pub(crate) fn find_typed<L: Look>(
     look: L,
     seeds: Seeds,
-    name: &Text,
     key: &mut Key,
     steps: &mut Steps,
-) -> Option<Found<'a>>
-    requires { name.now ≡ key_name key.old }
-    ensures found { option_map (λ f. picked f.layer f.func.now f.place.now) result ≡ first_typed (L.look look) key.old 0 }
+) -> Option<L::Found>
+    ensures found { option_map L.pick result ≡ first_typed (L.look look) key.old 0 }
     ensures kept { key.new ≡ key.old }
     ensures steps { steps.new ≤ steps.old + length (patterns (key_types key.old)) * L.modules look }
 {
@@ -106,6 +104,5 @@ pub(crate) fn find_typed<'a, L: Look<'a>>(
     if exact.is_some() {
         return exact;
     }
-    let hashed = HashedName::new(name, key.num_params(), seeds);
-    find_others(look, hashed, key, 0, steps)
+    find_others(look, UntypedHash::new(key, seeds), key, 0, steps)
 }

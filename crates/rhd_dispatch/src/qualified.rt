@@ -13,7 +13,7 @@ ghost use Rattle.rhd_dispatch.specs.Picks.{root_of, after_root, asks_below, look
 ghost use Rattle.rhd_dispatch.specs.Searched.{pick_at};
 ghost use Rattle.rhd_dispatch.specs.Walks.{rooted, picked, pick_below};
 
-use crate::filters::tree_may_have;
+use crate::filters::{UntypedHash, tree_may_have};
 use crate::keys::kinds_of;
 use crate::look::Look;
 use crate::patterns::find_typed;
@@ -22,20 +22,26 @@ use crate::search::{Found, look_tree, pick_found};
 use rhd_call::Pick;
 use rhd_engine::{Engine, GlobalRuntimeState};
 use rhd_func::CallShape;
-use rhd_hash::{HashedKey, HashedName, Key, Steps};
+use rhd_hash::{HashedKey, Key, Steps};
 use rhd_value::{OutOfMemory, Text, Texts, TypeTag, Types};
 use std::alloc::Global;
 use std::marker::Model;
 
 /// The questions of a call below a path: for a script by the number of all arguments, and then for a native
 /// by their kinds. Contracts see the names of the path behind the root's, the name and the kinds.
-#[derive(Drop)]
 pub struct QualifiedAsk {
     script: Key,
     /// It has the types of the pattern in hand.
     native: Key,
-    /// The name of both.
-    name: Text,
+}
+
+/// A function of its own, so that what drops the questions doesn't ask what their keys are.
+impl Drop for QualifiedAsk {
+    fn drop(self) {
+        let QualifiedAsk { script, native } = self;
+        drop(script);
+        drop(native);
+    }
 }
 
 impl Model for QualifiedAsk {
@@ -45,7 +51,7 @@ impl Model for QualifiedAsk {
 
     ghost view = { λ a. asked_below a.native };
 
-    ghost invariant = { λ a. IsAskBelow a.script a.native a.name };
+    ghost invariant = { λ a. IsAskBelow a.script a.native };
 }
 
 impl QualifiedAsk {
@@ -70,12 +76,15 @@ impl QualifiedAsk {
                 name: name.dup(alloc)?,
                 types: Types::from_slice(alloc, kinds)?,
             },
-            name: name.dup(alloc)?,
         })
     }
 }
 
-impl<'a> Look<'a> for Root<'a> {
+impl<'a> Look for Root<'a> {
+    type Found = Found<'a>;
+
+    ghost pick = { λ f. picked f.layer f.func.now f.place.now };
+
     ghost look = { λ s key. pick_at key (rooted s.layer s.place.now) };
 
     ghost modules = { λ s. 1 };
@@ -85,11 +94,8 @@ impl<'a> Look<'a> for Root<'a> {
         look_tree(self.place, self.layer, &key, steps)
     }
 
-    fn may_match(self, name: HashedName, _place: usize, key: &Key) -> bool {
-        if key.types().len() as u64 != name.params() {
-            return true;
-        }
-        tree_may_have(self.place, name)
+    fn may_match(self, hash: UntypedHash, _place: usize, key: &Key) -> bool {
+        tree_may_have(self.place, hash, key)
     }
 }
 
@@ -119,13 +125,7 @@ fn find_in<'a>(root: Root<'a>, asks: &mut QualifiedAsk, steps: &mut Steps) -> Op
     if script.is_some() {
         return script;
     }
-    find_typed(
-        root,
-        root.place.seeds(),
-        &asks.name,
-        &mut asks.native,
-        steps,
-    )
+    find_typed(root, root.place.seeds(), &mut asks.native, steps)
 }
 
 /// Whether some import or static module has the first name of a path.
