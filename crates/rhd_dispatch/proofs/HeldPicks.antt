@@ -138,6 +138,12 @@ first_is_held n e libs imports pick (ask ∷ asks) globals statics held named bs
   | inr there ↦ first_is_held n e libs imports pick asks globals statics held named bs there
 ]
 
+-- what answers a question is held
+pub answer_is_held : (n : ℕ) (e : EngineLists) (libs : List ModuleTree) (imports : Imports) (ask : Asked) (o : Option Pick) → all_held n e.globals ≡ true → named_held n e.statics ≡ true → all_held n libs ≡ true → named_held n imports ≡ true → builtins_held n e.builtins ≡ true
+    → o ≡ looked e libs imports ask → IfSome o (λ p. func_held n p.func ≡ true)
+answer_is_held n e libs imports ask None globals statics held named bs is = tt
+answer_is_held n e libs imports ask (Some pick) globals statics held named bs is = ask_is_held n e libs imports pick ask globals statics held named bs (sym is)
+
 -- a pick is held
 pub pick_is_held : (n : ℕ) (e : EngineLists) (libs : List ModuleTree) (imports : Imports) (name : Bytes) (token : Option OpToken) (native_only : Bool) (shape : CallShape) (o : Option Pick) → all_held n e.globals ≡ true → named_held n e.statics ≡ true → all_held n libs ≡ true → named_held n imports ≡ true → builtins_held n e.builtins ≡ true
     → o ≡ pick_unqualified e libs imports name token native_only shape → IfSome o (λ p. func_held n p.func ≡ true)

@@ -9,3 +9,4 @@ pub mod Picks
 pub mod HeldPicks
 pub mod Looks
 pub mod Roots
+pub mod Typed

@@ -1,6 +1,6 @@
 -- How many look-ups a search makes.
 use Rattle.std.proofs.Common.{◌≡◌, ◌≤◌, ◌<◌, ℕ, ◌+◌, ◌-◌, ◌*◌, List, [], ◌∷◌, ◌++◌, length, map, drop, get_or, set, sym, ap, ◌∙◌, arith}
-use Rattle.std.specs.Prelude.{zero, suc, reverse}
+use Rattle.std.specs.Prelude.{zero, suc}
 use Rattle.std.specs.List.{enumerate_from}
 use Rattle.std.proofs.lemmas.List.{length-append, length-map, length-reverse, drop-set-lt}
 use Rattle.std.proofs.lemmas.List.FromFn.{length-enumerate_from}
@@ -12,29 +12,36 @@ use Rattle.rhd_hash.specs.Steps.{raised}
 use Rattle.rhd_module.specs.Tree.{ModuleTree}
 use Rattle.rhd_engine.specs.Engine.{EngineLists, Imports}
 use Rattle.rhd_dispatch.specs.Patterns.{patterns_to, patterns}
-use Rattle.rhd_dispatch.specs.Searched.{searched, libraries, global_modules, import_places, static_modules}
+use Rattle.rhd_dispatch.specs.Searched.{searched}
+use Rattle.rhd_dispatch.specs.Walks.{numbered, latest, library_places, global_places, import_trees, static_trees, all_places}
 
 -- one module asked
 pub raised_once : (old new : ℕ) → new ≡ raised old 1 → new ≤ old + 1
 unfolding raised
 raised_once old new is = omega (arith, is)
 
-pub places_count : (e : EngineLists) (libs : List ModuleTree) (imports : Imports) → length (searched e libs imports) ≡ length libs + length e.globals + length imports + length e.statics
-places_count e libs imports =
-    let l : length (libraries e libs) ≡ length libs = length-map (reverse (enumerate_from 0 libs)) _ ∙ length-reverse (enumerate_from 0 libs) ∙ length-enumerate_from 0 libs in
-    let g : length (global_modules e) ≡ length e.globals = length-map (enumerate_from 0 e.globals) _ ∙ length-enumerate_from 0 e.globals in
-    let i : length (import_places e imports) ≡ length imports = length-map (reverse (enumerate_from 0 imports)) _ ∙ length-reverse (enumerate_from 0 imports) ∙ length-enumerate_from 0 imports in
-    let s : length (static_modules e) ≡ length e.statics = length-map (enumerate_from 0 e.statics) _ ∙ length-enumerate_from 0 e.statics in
+pub all_count : (libs globals : List ModuleTree) (imports statics : Imports) → length (all_places libs globals imports statics) ≡ length libs + length globals + length imports + length statics
+all_count libs globals imports statics =
+    let l : length (library_places libs) ≡ length libs = length-map (latest libs) _ ∙ length-reverse (enumerate_from 0 libs) ∙ length-enumerate_from 0 libs in
+    let g : length (global_places globals) ≡ length globals = length-map (numbered globals) _ ∙ length-enumerate_from 0 globals in
+    let i : length (import_trees imports) ≡ length imports = length-map (latest imports) _ ∙ length-reverse (enumerate_from 0 imports) ∙ length-enumerate_from 0 imports in
+    let s : length (static_trees statics) ≡ length statics = length-map (numbered statics) _ ∙ length-enumerate_from 0 statics in
     omega (
       arith,
       l,
       g,
       i,
       s,
-      length-append (libraries e libs) (global_modules e ++ (import_places e imports ++ static_modules e)),
-      length-append (global_modules e) (import_places e imports ++ static_modules e),
-      length-append (import_places e imports) (static_modules e),
+      length-append (library_places libs) (global_places globals ++ (import_trees imports ++ static_trees statics)),
+      length-append (global_places globals) (import_trees imports ++ static_trees statics),
+      length-append (import_trees imports) (static_trees statics),
     )
+
+pub in_all : (libs globals : List ModuleTree) (imports statics : Imports) (s new : ℕ) → new ≤ s + length (all_places libs globals imports statics) → new ≤ s + (length libs + length globals + length imports + length statics)
+in_all libs globals imports statics s new h = omega (arith, all_count libs globals imports statics, h)
+
+pub places_count : (e : EngineLists) (libs : List ModuleTree) (imports : Imports) → length (searched e libs imports) ≡ length libs + length e.globals + length imports + length e.statics
+places_count e libs imports = all_count libs e.globals imports e.statics
 
 -- Patterns: there is one, and one place more makes twice as many.
 
@@ -128,34 +135,27 @@ both_less kinds same place m s first second small within is one two =
     sum_both_less (from_place kinds place * m) (after_place kinds place * m) (after_place (set same place Dynamic) place * m) m s first second
     (times_twice (from_place kinds place) (after_place kinds place) m (twice kinds place small within)) (same_after kinds same place m within is) one two
 
+-- The exact pattern, and those after it.
+
+pub most_exact : (kinds : List TypeTag) (s m new : ℕ) → new ≤ s + m → new ≤ s + length (patterns kinds) * m
+most_exact kinds s m new h =
+    let l : m ≤ length (patterns kinds) * m = at_least_once (length (patterns kinds)) m (some_pattern 16 kinds) in
+    omega (arith, l, h)
+
+pub most_others : (all m s first last : ℕ) → first ≤ s + m → last + m ≤ first + all * m → last ≤ s + all * m
+most_others all m s first last one others = omega (arith, one, others)
+
 -- The questions of a call.
 
 -- how many modules there are
 abbrev modules : EngineLists → List ModuleTree → Imports → ℕ
 modules e libs imports = length libs + length e.globals + length imports + length e.statics
 
-pub as_modules : (e : EngineLists) (libs : List ModuleTree) (imports : Imports) (s new : ℕ) → new ≤ s + length (searched e libs imports) → new ≤ s + modules e libs imports
-as_modules e libs imports s new h = omega (arith, places_count e libs imports, h)
+-- as many keys, in each module
+pub asked_keys : (e : EngineLists) (libs : List ModuleTree) (imports : Imports) (k j n s new : ℕ) → new ≤ s + j * n → n ≡ modules e libs imports → k ≡ j → new ≤ s + k * length (searched e libs imports)
+asked_keys e libs imports k j n s new h is same =
+    let p : k * length (searched e libs imports) ≡ j * n = λ i. same i * (places_count e libs imports ∙ sym is) i in
+    omega (arith, h, p)
 
--- the patterns after the exact one
-pub other_patterns : (e : EngineLists) (libs : List ModuleTree) (imports : Imports) (types kinds : List TypeTag) (s new : ℕ) → types ≡ kinds → new + modules e libs imports ≤ s + length (patterns types) * modules e libs imports
-    → new + length (searched e libs imports) ≤ s + length (patterns kinds) * length (searched e libs imports)
-other_patterns e libs imports types kinds s new k h =
-    let p : length (patterns types) * modules e libs imports ≡ length (patterns kinds) * length (searched e libs imports) = λ i. length (patterns (k i)) * sym (places_count e libs imports) i in
-    omega (arith, p, places_count e libs imports, h)
-
-pub no_pattern : (kinds : List TypeTag) (s m : ℕ) → s + m ≤ s + length (patterns kinds) * m
-no_pattern kinds s m =
-    let l : m ≤ length (patterns kinds) * m = at_least_once (length (patterns kinds)) m (some_pattern 16 kinds) in
-    omega (arith, l)
-
--- the exact pattern alone
-pub exact_looks : (kinds : List TypeTag) (s m new : ℕ) → new ≤ s + m → new ≤ s + (length (patterns kinds) * m + 0)
-exact_looks kinds s m new h =
-    let l : m ≤ length (patterns kinds) * m = at_least_once (length (patterns kinds)) m (some_pattern 16 kinds) in
-    omega (arith, l, h)
-
--- In one module.
-
-pub few_looks : (kinds : List TypeTag) (s new : ℕ) → new ≤ s + 1 → new ≤ s + length (patterns kinds)
-few_looks kinds s new h = omega (arith, h, some_pattern 16 kinds)
+pub one_key : (s m new : ℕ) → new ≤ s + m → new ≤ s + 1 * m
+one_key s m new h = omega (arith, h, one-mul m)

@@ -3,15 +3,16 @@ use Rattle.std.proofs.Common.{◌≡◌, ℕ, ◌+◌, Bool, true, false, cond, 
 use Rattle.std.specs.Prelude.{suc, ◌-◌, Option, Some, None, reverse, option_map}
 use Rattle.std.specs.List.{list_any, enumerate_from}
 use Rattle.std.specs.Map.{lookup}
+use Rattle.std.specs.Option.{option_or}
 use Rattle.std.proofs.lemmas.Slice.Eq.{bytes_eq-Decides}
 use Rattle.rhd_value.specs.Tree.{Bytes}
 use Rattle.rhd_value.specs.Firsts.{first_of}
 use Rattle.rhd_value.specs.Same.{text_eq}
 use Rattle.rhd_value.specs.declared.tag.TypeTag.{TypeTag}
 use Rattle.rhd_hash.specs.declared.key.Key.{Key}
-use Rattle.rhd_hash.specs.declared.key.Key.TheVariants.{Native}
+use Rattle.rhd_hash.specs.declared.key.Key.TheVariants.{Script, Typed, Native}
 use Rattle.rhd_decl.specs.declared.declaration.Declaration.{Declaration}
-use Rattle.rhd_hash.specs.Keys.{key_eq, key_eq-Decides}
+use Rattle.rhd_hash.specs.Keys.{key_eq, key_eq-Decides, key_name, key_params, key_types, is_script_key}
 use Rattle.rhd_hash.specs.declared.mixer.Seeds.{Seeds}
 use Rattle.rhd_hash.specs.Filter.{slot}
 use Rattle.rhd_hash.specs.Parts.{untyped}
@@ -30,9 +31,12 @@ use Rattle.rhd_call.specs.declared.pick.Pick.{Pick}
 use Rattle.rhd_engine.specs.Engine.{EngineLists, Imports}
 use Rattle.rhd_layers.specs.Lists.{all_indexed}
 use Rattle.rhd_layers.proofs.Bools.{parts}
-use Rattle.rhd_dispatch.specs.Asks.{native_found}
+use Rattle.rhd_names.specs.declared.token.OpToken.{OpToken}
+use Rattle.rhd_dispatch.specs.Asks.{Asked, typed, script, native, asked_of, key_of, native_found, declared, builtin, looked}
+use Rattle.rhd_dispatch.specs.Looks.{keys_of}
+use Rattle.rhd_dispatch.specs.Patterns.{patterns}
 use Rattle.rhd_dispatch.specs.Searched.{pick_at, found}
-use Rattle.rhd_dispatch.specs.Walks.{alone, rooted, place_of, place_of_tree, library_places, global_places, import_trees, static_trees, native_in, any_dynamic, may_have, any_may_have, may_list, may_show, any_may_show}
+use Rattle.rhd_dispatch.specs.Walks.{with_types, alone, rooted, place_of, place_of_tree, library_places, global_places, import_trees, static_trees, found_in, first_typed, any_dynamic, may_have, any_may_have, may_list, may_show, any_may_show}
 use Rattle.rhd_dispatch.proofs.Firsts.{or_nones, of_append, of_map, none_reverse}
 
 pub any_parts : (a b : Bool) → (a || b) ≡ false → (a ≡ false) × (b ≡ false)
@@ -108,6 +112,14 @@ no_root path layer name types params m is dynamic l h =
     let none : may_have name (length types) m ≡ false = ap (λ (n : ℕ). may_have name n m) l ∙ h in
     ap (option_map (λ (d : Declaration). record { layer = layer; func = d.func; source = m.own.id })) (absent_qualified m (Native path name types) (untyped m.own.seeds name (length types)) is none dynamic refl)
 
+pub no_root_key : (key : Key) (layer : Layer) (types : List TypeTag) (n : ℕ) (m : ModuleTree) → m.own.indexed ≡ true → types_match n types (key_types key) ≡ true → any_dynamic types ≡ true → may_have (key_name key) (key_params key) m ≡ false
+    → pick_at (with_types types key) (rooted layer m) ≡ None
+no_root_key (Script path name params) layer [] n m is matches dynamic h = absurd (true≢false (sym dynamic))
+no_root_key (Script path name params) layer (t ∷ types) n m is matches dynamic h = absurd (true≢false (sym matches))
+no_root_key (Typed path name params this_type) layer [] n m is matches dynamic h = absurd (true≢false (sym dynamic))
+no_root_key (Typed path name params this_type) layer (t ∷ types) n m is matches dynamic h = absurd (true≢false (sym matches))
+no_root_key (Native path name own) layer types n m is matches dynamic h = no_root path layer name types (length own) m is dynamic (as_many n types own matches) h
+
 no_tree : (layer : ℕ → Layer) (name : Bytes) (types : List TypeTag) (params k : ℕ) (es : Imports) → all_indexed es ≡ true → any_dynamic types ≡ true → length types ≡ params → any_may_have name params es ≡ false
     → first_of (λ y. pick_at (Native None name types) (place_of_tree layer y)) (enumerate_from k es) ≡ None
 no_tree layer name types params k [] is dynamic l h = refl
@@ -120,7 +132,7 @@ no_tree layer name types params k (e ∷ es) is dynamic l h =
 -- where no module may have a native, none of these types is found
 pub not_found : (libs globals : List ModuleTree) (imports statics : Imports) (n : ℕ) (name : Bytes) (kinds types : List TypeTag) → all_indexed imports ≡ true → all_indexed statics ≡ true → types_match n types kinds ≡ true → any_dynamic types ≡ true
     → any_may_show n name (length kinds) kinds globals ≡ false → any_may_show n name (length kinds) kinds libs ≡ false → any_may_have name (length kinds) imports ≡ false → any_may_have name (length kinds) statics ≡ false
-    → native_in libs globals imports statics name types ≡ None
+    → found_in libs globals imports statics (Native None name types) ≡ None
 not_found libs globals imports statics n name kinds types ii si matches dynamic g l i s =
     let key = Native None name types in
     let many = as_many n types kinds matches in
@@ -136,14 +148,39 @@ not_found libs globals imports statics n name kinds types ii si matches dynamic 
     (of_map (pick_at key) (place_of_tree Import) (reverse (enumerate_from 0 imports)) ∙ none_reverse (λ y. pick_at key (place_of_tree Import y)) (enumerate_from 0 imports) (no_tree Import name types (length kinds) 0 imports ii dynamic many i))
     (of_map (pick_at key) (place_of_tree Static) (enumerate_from 0 statics) ∙ no_tree Static name types (length kinds) 0 statics si dynamic many s)))
 
--- the natives that an engine's lists say
-pub native_is : (e : EngineLists) (libs : List ModuleTree) (imports : Imports) (name : Bytes) (types : List TypeTag) → native_found e libs imports name types ≡ native_in libs e.globals imports e.statics name types
+-- what an engine's lists say
+pub found_is : (e : EngineLists) (libs : List ModuleTree) (imports : Imports) (key : Key) → found e libs imports key ≡ found_in libs e.globals imports e.statics key
 unfolding found
-native_is e libs imports name types = refl
+found_is e libs imports key = refl
 
-pub native_by : (e : EngineLists) (libs : List ModuleTree) (imports : Imports) (key : Key) (name same : Bytes) (types kinds : List TypeTag) (o : Option Pick) → key ≡ Native None name types → name ≡ same → types ≡ kinds
-    → o ≡ found e libs imports key → o ≡ native_in libs e.globals imports e.statics same kinds
-native_by e libs imports key name same types kinds o k n t is = is ∙ ap (found e libs imports) (k ∙ (λ i. Native None (n i) (t i))) ∙ native_is e libs imports same kinds
+natives_are : (e : EngineLists) (libs : List ModuleTree) (imports : Imports) (name : Bytes) (kinds : List TypeTag) → first_typed (found_in libs e.globals imports e.statics) (Native None name kinds) 0 ≡ first_of (native_found e libs imports name) (patterns kinds)
+natives_are e libs imports name kinds = (λ i. first_of (λ types. sym (found_is e libs imports (Native None name types)) i) (patterns kinds))
 
-pub natives_are : (e : EngineLists) (libs : List ModuleTree) (imports : Imports) (name : Bytes) (ps : List (List TypeTag)) → first_of (native_in libs e.globals imports e.statics name) ps ≡ first_of (native_found e libs imports name) ps
-natives_are e libs imports name ps = (λ i. first_of (λ types. sym (native_is e libs imports name types) i) ps)
+-- What answers a question.
+
+pub script_declared : (e : EngineLists) (libs : List ModuleTree) (imports : Imports) (key : Key) (token : Option OpToken) (o : Option Pick) → key ≡ key_of (asked_of key token) → is_script_key key ≡ true
+    → o ≡ found_in libs e.globals imports e.statics key → o ≡ declared e libs imports (asked_of key token)
+script_declared e libs imports (Script path name params) token o k s is = is ∙ sym (found_is e libs imports (Script path name params)) ∙ ap (found e libs imports) k
+script_declared e libs imports (Typed path name params this_type) token o k s is = is ∙ sym (found_is e libs imports (Typed path name params this_type)) ∙ ap (found e libs imports) k
+script_declared e libs imports (Native path name types) token o k s is = absurd (true≢false (sym s))
+
+pub native_declared : (e : EngineLists) (libs : List ModuleTree) (imports : Imports) (key : Key) (token : Option OpToken) (o : Option Pick) → key ≡ key_of (asked_of key token) → is_script_key key ≡ false
+    → o ≡ first_typed (found_in libs e.globals imports e.statics) key 0 → o ≡ declared e libs imports (asked_of key token)
+native_declared e libs imports (Script path name params) token o k s is = absurd (true≢false s)
+native_declared e libs imports (Typed path name params this_type) token o k s is = absurd (true≢false s)
+native_declared e libs imports (Native path name types) token o k s is = is ∙ ap (λ (key : Key). first_typed (found_in libs e.globals imports e.statics) key 0) k ∙ natives_are e libs imports name types
+
+pub keys_left : (key : Key) (token : Option OpToken) → is_script_key key ≡ false → keys_of (asked_of key token) ≡ length (patterns (key_types key))
+keys_left (Script path name params) token s = absurd (true≢false s)
+keys_left (Typed path name params this_type) token s = absurd (true≢false s)
+keys_left (Native path name types) token s = refl
+
+pub one_left : (key : Key) (token : Option OpToken) → is_script_key key ≡ true → keys_of (asked_of key token) ≡ 1
+one_left (Script path name params) token s = refl
+one_left (Typed path name params this_type) token s = refl
+one_left (Native path name types) token s = absurd (true≢false (sym s))
+
+pub declared_looked : (e : EngineLists) (libs : List ModuleTree) (imports : Imports) (q : Asked) (pick : Pick) → declared e libs imports q ≡ Some pick → looked e libs imports q ≡ Some pick
+declared_looked e libs imports (typed name params this_type) pick h = h
+declared_looked e libs imports (script name params) pick h = h
+declared_looked e libs imports (native name kinds token) pick h = ap (λ (x : Option Pick). option_or x (builtin e token kinds)) h

@@ -58,10 +58,10 @@ exact_found look n ts pick h =
 
 -- Where nothing matches.
 
-same_tag : (t : TypeTag) → tag_eq t t ≡ true
+pub same_tag : (t : TypeTag) → tag_eq t t ≡ true
 same_tag t = (tag_eq-Decides t t).1 refl
 
-or_true : (b : Bool) → (b || true) ≡ true
+pub or_true : (b : Bool) → (b || true) ≡ true
 or_true true = refl
 or_true false = refl
 
@@ -137,7 +137,7 @@ walk_passed look kinds place t (Some pick) last small within is h none e = absur
 walk_passed look kinds place t None last small within is h none e = e ∙ sym (on_by look kinds place t small within is ∙ ap (λ (o : Option Pick). option_or o (first_match look (take (place + 1) (set kinds place Dynamic)) (16 - (place + 1)) (drop (place + 1) (set kinds place Dynamic)))) (sym h))
 
 -- a type is put back
-put_back : (kinds : List TypeTag) (place : ℕ) (t : TypeTag) → place < length kinds → t ≡ get_or kinds place t → set (set kinds place Dynamic) place t ≡ kinds
+pub put_back : (kinds : List TypeTag) (place : ℕ) (t : TypeTag) → place < length kinds → t ≡ get_or kinds place t → set (set kinds place Dynamic) place t ≡ kinds
 put_back [] place t h is = absurd (omega arith)
 put_back (k ∷ kinds) zero t h is = ap (λ (x : TypeTag). x ∷ kinds) is
 put_back (k ∷ kinds) (suc place) t h is = ap (λ (ks : List TypeTag). k ∷ ks) (put_back kinds place t (omega arith) is)
@@ -148,9 +148,6 @@ pub walk_changed : (look : List TypeTag → Option Pick) (kinds same : List Type
     → last ≡ first_match look (take (place + 1) (set same place Dynamic)) (16 - (place + 1)) (drop (place + 1) (set same place Dynamic)) → last ≡ first_match look (take place kinds) (16 - place) (drop place kinds)
 walk_changed look kinds same place t o last small within is k h none e =
     walk_passed look kinds place t o last small within is h none (e ∙ ap (λ (ks : List TypeTag). first_match look (take (place + 1) (set ks place Dynamic)) (16 - (place + 1)) (drop (place + 1) (set ks place Dynamic))) k)
-
-pub back_changed : (kinds same last : List TypeTag) (place : ℕ) (t : TypeTag) → place < length kinds → t ≡ get_or kinds place t → same ≡ kinds → last ≡ set same place Dynamic → set last place t ≡ kinds
-back_changed kinds same last place t within is k e = ap (λ (ks : List TypeTag). set ks place t) (e ∙ ap (λ (ks : List TypeTag). set ks place Dynamic) k) ∙ put_back kinds place t within is
 
 -- nothing is asked again at the last place, where there is nothing for the exact types
 pub walk_missed_last : (look : List TypeTag → Option Pick) (kinds : List TypeTag) (place : ℕ) → 16 ≤ place → look kinds ≡ None → ◌≡◌ {A = Option Pick} None (first_match look (take place kinds) (16 - place) (drop place kinds))

@@ -11,6 +11,7 @@ use Rattle.rhd_value.specs.Same.{text_eq}
 use Rattle.rhd_value.specs.declared.tag.TypeTag.{TypeTag}
 use Rattle.rhd_func.specs.declared.request.CallShape.{CallShape}
 use Rattle.rhd_func.specs.Shapes.{all_args}
+use Rattle.rhd_hash.specs.declared.key.Key.{Key}
 use Rattle.rhd_hash.specs.declared.key.Key.TheVariants.{Script, Native}
 use Rattle.rhd_module.specs.Tree.{ModuleTree}
 use Rattle.rhd_call.specs.declared.pick.Layer.{Layer}
@@ -18,9 +19,10 @@ use Rattle.rhd_call.specs.declared.pick.Layer.TheVariants.{Import, Static}
 use Rattle.rhd_call.specs.declared.pick.Pick.{Pick}
 use Rattle.rhd_engine.specs.Engine.{EngineLists, Imports}
 use Rattle.rhd_dispatch.specs.Patterns.{patterns}
-use Rattle.rhd_dispatch.specs.Picks.{named_places, root_of, after_root, pick_in, qualified_asks, looked_in, pick_qualified}
+use Rattle.rhd_dispatch.specs.Picks.{named_places, root_of, after_root, pick_in, AskedBelow, script_below, native_below, asks_below, qualified_asks, looked_in, pick_qualified}
+use Rattle.rhd_dispatch.specs.Asks.{script, native}
 use Rattle.rhd_dispatch.specs.Searched.{Place, pick_at}
-use Rattle.rhd_dispatch.specs.Walks.{numbered, latest, place_of_tree, named_at}
+use Rattle.rhd_dispatch.specs.Walks.{numbered, latest, place_of_tree, named_at, first_typed, pick_below}
 
 -- of named things, the first of a name
 named_first : (layer : ℕ → Layer) (name : Bytes) (xs : List (ℕ × (Bytes × ModuleTree))) → lookup (text_eq name) (map (λ p. (p.1.0, place_of_tree layer p)) xs) ≡ first_of (named_at layer name) xs
@@ -64,14 +66,13 @@ named_miss layer name y e = ap (λ (b : Bool). if b then Some (place_of_tree lay
 
 -- What the module has: a script, or else a native.
 
-params_are : (shape : CallShape) (kinds : List TypeTag) (params : ℕ) → kinds ≡ map tag_of (all_args shape) → params ≡ length kinds → params ≡ length (all_args shape)
-params_are shape kinds params k p = p ∙ ap length k ∙ length-map (all_args shape) tag_of
+pub below_script : (q : AskedBelow) (place : Place) (key : Key) (o : Option Pick) → key ≡ script_below q → o ≡ pick_at key place → is_some o ≡ true → o ≡ pick_below q place
+below_script q place key o k is some = or_here o (first_of (λ types. pick_at (Native (Some q.path) q.name types) place) (patterns q.kinds)) some ∙ ap (λ (x : Option Pick). option_or x (first_of (λ types. pick_at (Native (Some q.path) q.name types) place) (patterns q.kinds))) (is ∙ ap (λ (k : Key). pick_at k place) k)
 
-pub script_first : (path names : List Bytes) (name : Bytes) (shape : CallShape) (kinds : List TypeTag) (params : ℕ) (place : Place) (o : Option Pick) (pick : Pick) → names ≡ after_root path → kinds ≡ map tag_of (all_args shape) → params ≡ length kinds
-    → o ≡ pick_at (Script (Some names) name params) place → o ≡ Some pick → ◌≡◌ {A = Option Pick} (Some pick) (pick_in path name shape place)
-script_first path names name shape kinds params place o pick n k p is some =
-    let at : o ≡ pick_at (Script (Some (after_root path)) name (length (all_args shape))) place = is ∙ (λ i. pick_at (Script (Some (n i)) name (params_are shape kinds params k p i)) place) in
-    sym (ap (λ (x : Option Pick). option_or x (first_of (λ types. pick_at (Native (Some (after_root path)) name types) place) (patterns (map tag_of (all_args shape))))) (sym at ∙ some))
+pub below_native : (q : AskedBelow) (place : Place) (key second : Key) (o last : Option Pick) → key ≡ script_below q → second ≡ native_below q → o ≡ pick_at key place → o ≡ None → last ≡ first_typed (λ k. pick_at k place) second 0 → last ≡ pick_below q place
+below_native q place key second o last k n is none h =
+    h ∙ ap (λ (k : Key). first_typed (λ k. pick_at k place) k 0) n
+    ∙ sym (ap (λ (x : Option Pick). option_or x (first_of (λ types. pick_at (Native (Some q.path) q.name types) place) (patterns q.kinds))) (ap (λ (k : Key). pick_at k place) (sym k) ∙ sym is ∙ none))
 
 -- what the module has is the first question that is answered
 or_none : {A : Type 0} (o : Option A) → option_or o None ≡ o
@@ -83,8 +84,11 @@ by_asks path name shape None = refl
 by_asks path name shape (Some root) =
     sym (ap (option_or (pick_at (Script (Some (after_root path)) name (length (all_args shape))) root)) (or_none (first_of (λ types. pick_at (Native (Some (after_root path)) name types) root) (patterns (map tag_of (all_args shape))))))
 
--- a root's pick is that of the call
-pub root_picks : (e : EngineLists) (imports : Imports) (path same : List Bytes) (name : Bytes) (shape : CallShape) (root : Option Place) (place : Place) (o : Option Pick) → same ≡ path → root ≡ root_of e imports same → root ≡ Some place
-    → o ≡ pick_in same name shape place → o ≡ pick_qualified e imports path name shape
-root_picks e imports path same name shape root place o p is some h =
-    h ∙ ap (λ (r : Option Place). option_and_then (pick_in same name shape) r) (sym some ∙ is) ∙ by_asks same name shape (root_of e imports same) ∙ ap (λ (names : List Bytes). pick_qualified e imports names name shape) p
+-- those of a call
+pub call_asks : (e : EngineLists) (imports : Imports) (path asked_path looked_path : List Bytes) (name : Bytes) (shape : CallShape) (q : AskedBelow) (kinds asked_kinds : List TypeTag) (o : Option Pick) → asked_path ≡ path → looked_path ≡ path → asked_kinds ≡ kinds
+    → q ≡ record { path = after_root asked_path; name = name; kinds = asked_kinds } → kinds ≡ map tag_of (all_args shape) → o ≡ first_of (looked_in looked_path (root_of e imports looked_path)) (asks_below q) → o ≡ pick_qualified e imports path name shape
+call_asks e imports path asked_path looked_path name shape q kinds asked_kinds o a l s is k h =
+    let root = root_of e imports path in
+    let own = s ∙ k in
+    h ∙ ap (λ (names : List Bytes). first_of (looked_in names (root_of e imports names)) (asks_below q)) l ∙ ap (λ (q : AskedBelow). first_of (looked_in path root) (asks_below q)) is
+    ∙ (λ i. first_of (looked_in path root) (script name ((ap length own ∙ length-map (all_args shape) tag_of) i) ∷ native name (own i) None ∷ []))

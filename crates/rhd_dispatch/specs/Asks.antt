@@ -1,5 +1,5 @@
 -- The questions that a call by name asks in order, and the pick: the first that is answered.
-use Rattle.std.specs.Prelude.{ℕ, ◌+◌, Bool, not, if◌then◌else◌, List, [], ◌∷◌, ◌++◌, length, map, Option, None, Some, option_map}
+use Rattle.std.specs.Prelude.{◌≡◌, ℕ, ◌+◌, Bool, not, if◌then◌else◌, List, [], ◌∷◌, ◌++◌, length, map, Option, None, Some, option_map}
 use Rattle.std.specs.Map.{lookup}
 use Rattle.std.specs.Option.{option_or}
 use Rattle.rhd_value.specs.Tree.{Bytes}
@@ -14,6 +14,7 @@ use Rattle.rhd_func.specs.declared.func.RhaiFunc.TheVariants as funcs
 use Rattle.rhd_func.specs.declared.request.CallShape.{CallShape}
 use Rattle.rhd_func.specs.declared.request.CallShape.TheVariants.{Plain, ByRef, Method}
 use Rattle.rhd_func.specs.Shapes.{all_args}
+use Rattle.rhd_hash.specs.declared.key.Key.{Key}
 use Rattle.rhd_hash.specs.declared.key.Key.TheVariants.{Script, Typed, Native}
 use Rattle.rhd_module.specs.Tree.{ModuleTree}
 use Rattle.rhd_call.specs.declared.pick.Layer.TheVariants.{Builtin}
@@ -29,6 +30,22 @@ pub data Asked : Type 0 where
   script : Bytes → ℕ → Asked  -- name, number of parameters
   native : Bytes → List TypeTag → Option OpToken → Asked  -- name, kinds, token
 
+-- what a key without a path asks for, a native's with a token
+abbrev pub asked_of : Key → Option OpToken → Asked
+asked_of (Script path name params) token = script name params
+asked_of (Typed path name params this_type) token = typed name params this_type
+asked_of (Native path name types) token = native name types token
+
+-- the key of a question
+abbrev pub key_of : Asked → Key
+key_of (typed name params this_type) = Typed None name params this_type
+key_of (script name params) = Script None name params
+key_of (native name kinds token) = Native None name kinds
+
+-- a key that is the question's
+abbrev pub IsAsk : Key → Option OpToken → Type 0
+IsAsk key token = key ≡ key_of (asked_of key token)
+
 -- a built-in is a method, and pure where it is no assignment
 abbrev pub builtin_pick : EngineLists → OpToken → FnId → Pick
 builtin_pick e token id = record { layer = Builtin; func = funcs.Method id (says (λ n. n.has_context) e.natives id) (not (is_assignment token)) (says (λ n. n.is_volatile) e.natives id); source = None }
@@ -41,6 +58,12 @@ builtin e token kinds = None
 -- the native of a name that takes these types
 abbrev pub native_found : EngineLists → List ModuleTree → Imports → Bytes → List TypeTag → Option Pick
 native_found e libs imports name types = found e libs imports (Native None name types)
+
+-- the declaration that answers a question
+abbrev pub declared : EngineLists → List ModuleTree → Imports → Asked → Option Pick
+declared e libs imports (typed name params this_type) = found e libs imports (Typed None name params this_type)
+declared e libs imports (script name params) = found e libs imports (Script None name params)
+declared e libs imports (native name kinds token) = first_of (native_found e libs imports name) (patterns kinds)
 
 -- A script is looked up by its number of parameters, one of a type by that type too; a native by each pattern in turn, and then among the built-ins.
 abbrev pub looked : EngineLists → List ModuleTree → Imports → Asked → Option Pick

@@ -1,5 +1,5 @@
 -- The pick of a qualified call: the first question that is answered in the module in which its path begins.
-use Rattle.std.specs.Prelude.{List, [], ◌∷◌, ◌++◌, length, map, reverse, Option, None, Some}
+use Rattle.std.specs.Prelude.{◌≡◌, List, [], ◌∷◌, ◌++◌, length, map, reverse, Option, None, Some}
 use Rattle.std.specs.List.{enumerate_from}
 use Rattle.std.specs.Map.{lookup}
 use Rattle.std.specs.Option.{option_or}
@@ -9,7 +9,9 @@ use Rattle.rhd_value.specs.Firsts.{first_of}
 use Rattle.rhd_value.specs.Same.{text_eq}
 use Rattle.rhd_func.specs.declared.request.CallShape.{CallShape}
 use Rattle.rhd_func.specs.Shapes.{all_args}
-use Rattle.rhd_hash.specs.declared.key.Key.TheVariants.{Script, Native}
+use Rattle.rhd_value.specs.declared.tag.TypeTag.{TypeTag}
+use Rattle.rhd_hash.specs.declared.key.Key.{Key}
+use Rattle.rhd_hash.specs.declared.key.Key.TheVariants.{Script, Typed, Native}
 use Rattle.rhd_call.specs.declared.pick.Layer.TheVariants.{Import, Static}
 use Rattle.rhd_call.specs.declared.pick.Pick.{Pick}
 use Rattle.rhd_engine.specs.Engine.{EngineLists, Imports}
@@ -33,6 +35,33 @@ abbrev pub after_root : List Bytes → List Bytes
 after_root [] = []
 after_root (name ∷ rest) = rest
 
+-- the questions of a qualified call: the names of its path behind the root's, its name and the kinds of all arguments
+pub record AskedBelow : Type 0 where
+  pub path : List Bytes
+  pub name : Bytes
+  pub kinds : List TypeTag
+
+abbrev pub script_below : AskedBelow → Key
+script_below q = Script (Some q.path) q.name (length q.kinds)
+
+abbrev pub native_below : AskedBelow → Key
+native_below q = Native (Some q.path) q.name q.kinds
+
+-- the names of a path
+abbrev pub names_of : Option (List Bytes) → List Bytes
+names_of None = []
+names_of (Some names) = names
+
+-- what a native's key below a path asks for
+abbrev pub asked_below : Key → AskedBelow
+asked_below (Script path name params) = record { path = []; name = name; kinds = [] }
+asked_below (Typed path name params this_type) = record { path = []; name = name; kinds = [] }
+asked_below (Native path name types) = record { path = names_of path; name = name; kinds = types }
+
+-- two keys that are those of the questions
+abbrev pub IsAskBelow : Key → Key → Type 0
+IsAskBelow by_script by_native = (by_script ≡ script_below (asked_below by_native)) × (by_native ≡ native_below (asked_below by_native))
+
 -- what that module has: a script for the number of all arguments, an object counted, or else a native by each pattern of their kinds
 abbrev pub pick_in : List Bytes → Bytes → CallShape → Place → Option Pick
 pick_in path name shape place =
@@ -42,6 +71,9 @@ pick_in path name shape place =
 -- the questions of a qualified call: for a script, then for a native; all arguments count, and there are no built-in functions
 abbrev pub qualified_asks : Bytes → CallShape → List Asked
 qualified_asks name shape = script name (length (all_args shape)) ∷ native name (map tag_of (all_args shape)) None ∷ []
+
+abbrev pub asks_below : AskedBelow → List Asked
+asks_below q = script q.name (length q.kinds) ∷ native q.name q.kinds None ∷ []
 
 -- what answers a question below a path, in that module alone
 abbrev pub looked_in : List Bytes → Option Place → Asked → Option Pick

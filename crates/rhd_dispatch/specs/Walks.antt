@@ -1,13 +1,15 @@
 -- The machine's own words, by which its loops are proved; nothing here has to be believed.
-use Rattle.std.specs.Prelude.{ℕ, Bool, ◌||◌, List, ◌++◌, map, reverse, Option, None, Some, if◌then◌else◌}
+use Rattle.std.specs.Prelude.{◌≡◌, ℕ, ◌-◌, Bool, ◌||◌, List, ◌++◌, map, take, drop, reverse, Option, None, Some, if◌then◌else◌}
 use Rattle.std.specs.List.{enumerate_from, list_any}
+use Rattle.std.specs.Option.{option_or}
 use Rattle.rhd_value.specs.Tree.{Bytes}
 use Rattle.rhd_value.specs.Firsts.{first_of}
 use Rattle.rhd_value.specs.Same.{tag_eq, text_eq}
 use Rattle.rhd_value.specs.declared.tag.TypeTag.{TypeTag}
 use Rattle.rhd_value.specs.declared.tag.TypeTag.TheVariants.{Dynamic}
 use Rattle.rhd_hash.specs.declared.key.Key.{Key}
-use Rattle.rhd_hash.specs.declared.key.Key.TheVariants.{Native}
+use Rattle.rhd_hash.specs.declared.key.Key.TheVariants.{Script, Typed, Native}
+use Rattle.rhd_hash.specs.Keys.{key_name, key_params, key_types}
 use Rattle.rhd_hash.specs.Parts.{untyped}
 use Rattle.rhd_func.specs.declared.func.RhaiFunc.{RhaiFunc}
 use Rattle.rhd_module.specs.Below.{may_contain, may_list_dynamic}
@@ -19,7 +21,9 @@ use Rattle.rhd_call.specs.declared.pick.Layer.{Layer}
 use Rattle.rhd_call.specs.declared.pick.Layer.TheVariants.{Library, Global, Import, Static}
 use Rattle.rhd_call.specs.declared.pick.Pick.{Pick}
 use Rattle.rhd_engine.specs.Engine.{Imports}
-use Rattle.rhd_dispatch.specs.Patterns.{patterns_to}
+use Rattle.rhd_dispatch.specs.declared.filters.UntypedHash.{UntypedHash}
+use Rattle.rhd_dispatch.specs.Patterns.{patterns, patterns_to}
+use Rattle.rhd_dispatch.specs.Picks.{AskedBelow, script_below}
 use Rattle.rhd_dispatch.specs.Searched.{Place, pick_at}
 
 -- each with its number, and so with the latest first
@@ -70,13 +74,23 @@ all_places libs globals imports statics = library_places libs ++ (global_places 
 abbrev pub picked : Layer → RhaiFunc → ModuleTree → Pick
 picked layer func m = record { layer = layer; func = func; source = m.own.id }
 
--- the native of a name that takes these types
-abbrev pub native_in : List ModuleTree → List ModuleTree → Imports → Imports → Bytes → List TypeTag → Option Pick
-native_in libs globals imports statics name types = first_of (pick_at (Native None name types)) (all_places libs globals imports statics)
+-- what is found under a key
+abbrev pub found_in : List ModuleTree → List ModuleTree → Imports → Imports → Key → Option Pick
+found_in libs globals imports statics key = first_of (pick_at key) (all_places libs globals imports statics)
 
--- the same below a path in one place
-abbrev pub native_at : Place → List Bytes → Bytes → List TypeTag → Option Pick
-native_at place path name types = pick_at (Native (Some path) name types) place
+-- the hash of a key by its name and its number of parameters
+abbrev pub IsUntyped : UntypedHash → Key → Type 0
+IsUntyped h key = h.hash ≡ untyped h.seeds (key_name key) (key_params key)
+
+-- a native's key with these types
+abbrev pub with_types : List TypeTag → Key → Key
+with_types types (Script path name params) = Script path name params
+with_types types (Typed path name params this_type) = Typed path name params this_type
+with_types types (Native path name own) = Native path name types
+
+-- what one place has for the questions below a path
+abbrev pub pick_below : AskedBelow → Place → Option Pick
+pick_below q place = option_or (pick_at (script_below q) place) (first_of (λ types. pick_at (Native (Some q.path) q.name types) place) (patterns q.kinds))
 
 -- some type is `Dynamic`
 abbrev pub any_dynamic : List TypeTag → Bool
@@ -107,3 +121,7 @@ named_at layer name y = if text_eq name y.1.0 then Some (place_of_tree layer y) 
 -- what the first pattern gives that gives something, where some types are chosen and n of the others may change
 abbrev pub first_match : (List TypeTag → Option Pick) → List TypeTag → ℕ → List TypeTag → Option Pick
 first_match look chosen n rest = first_of (λ types. look (chosen ++ types)) (patterns_to n rest)
+
+-- what the first pattern of a key's types gives that gives something, where the types before a place stay
+abbrev pub first_typed : (Key → Option Pick) → Key → ℕ → Option Pick
+first_typed look key place = first_match (λ types. look (with_types types key)) (take place (key_types key)) (16 - place) (drop place (key_types key))

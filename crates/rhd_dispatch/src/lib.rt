@@ -2,6 +2,7 @@
 //! types, and built-in operators; and what a call below a path means. Which call has a locked argument.
 #![tactic(auto)]
 
+mod ask;
 mod asks;
 mod filters;
 mod keys;
@@ -13,7 +14,9 @@ mod races;
 mod root;
 mod search;
 
-pub use asks::resolve;
-pub use qualified::{has_root, resolve_qualified};
+pub use ask::{Ask, resolve};
+pub use asks::resolve_call;
+pub use qualified::{QualifiedAsk, has_root, resolve_qualified, resolve_qualified_call};
 pub use races::ensure_no_data_race;
 pub use rhd_call::{Layer, Pick};
+pub use search::Found;

@@ -1,107 +1,89 @@
 //! Look-ups of natives by their types.
 
-ghost use Rattle.std.specs.Prelude.{◌≡◌, ◌≤◌, ◌+◌, ℕ, false, true, List, Option, None, IfOk, length};
+ghost use Rattle.std.specs.Prelude.{◌≡◌, ◌≤◌, ◌+◌, ℕ, false, true, List, Option, None, length};
+ghost use Rattle.std.specs.Option.{option_map};
 ghost use Rattle.rhd_value.specs.declared.tag.TypeTag.{TypeTag};
+ghost use Rattle.rhd_hash.specs.declared.key.Key.{Key};
+ghost use Rattle.rhd_hash.specs.Keys.{key_name, key_params, key_types};
 ghost use Rattle.rhd_hash.specs.Matching.{types_match};
 ghost use Rattle.rhd_call.specs.declared.pick.Pick.{Pick};
-ghost use Rattle.rhd_dispatch.specs.Walks.{native_in, any_dynamic, any_may_show};
+ghost use Rattle.rhd_dispatch.specs.Walks.{IsUntyped, found_in, with_types, picked, any_dynamic, any_may_show};
 
-use crate::filters::{any_import_may_have, any_static_may_have};
-use crate::keys::native_key_of;
-use crate::search::{find, pick_found};
-use rhd_call::Pick;
-use rhd_engine::{Engine, GlobalRuntimeState};
-use rhd_hash::{HashedName, Steps};
+use crate::filters::{UntypedHash, any_import_may_have, any_static_may_have};
+use crate::search::{AllModules, Found, find};
+use rhd_hash::{Key, Steps};
 use rhd_layers::SharedModule;
-use rhd_value::{OutOfMemory, TypeTag, Types};
-use std::alloc::Global;
 
-/// A look-up of natives, and a test that saves look-ups.
-pub(crate) trait Look {
-    /// What there is for a list of types.
-    ghost look: { Self → List TypeTag → Option Pick };
+/// A look-up of keys, and a test that saves look-ups. It takes no memory.
+pub(crate) trait Look: Copy {
+    /// A function that was found.
+    type Found: Copy;
+
+    /// The pick that it is.
+    ghost pick: { Self.Found → Pick };
+
+    /// What there is under a key.
+    ghost look: { Self → Key → Option Pick };
 
     /// In how many modules it looks.
     ghost modules: { Self → ℕ };
 
-    /// What there is for these types. Each module is asked once at most.
-    fn find(
-        &self,
-        alloc: Global,
-        types: &[TypeTag],
-        steps: &mut Steps,
-    ) -> Result<Option<Pick>, OutOfMemory>
-        ensures found { IfOk result (λ pick. pick ≡ look self.now types.now) }
-        ensures steps { steps.new ≤ steps.old + modules self.now };
+    /// What there is under this key. Each module is asked once at most.
+    fn find(self, key: &Key, steps: &mut Steps) -> Option<Self::Found>
+        ensures found { option_map pick result ≡ look self key.now }
+        ensures steps { steps.new ≤ steps.old + modules self };
 
-    /// False only where there is nothing for any types of which one is `Dynamic`, and each of which is
-    /// its kind, or, behind the first `place` ones, `Dynamic`.
-    fn may_match(&self, place: usize, kinds: &[TypeTag]) -> bool
-        ensures { result ≡ false → (types : List TypeTag) → types_match place types kinds.now ≡ true → any_dynamic types ≡ true → look self.now types ≡ None };
+    /// False only where there is nothing under this key with any other types of which one is `Dynamic`, and
+    /// each of which is that of the key, or, behind the first `place` ones, `Dynamic`.
+    fn may_match(self, hash: UntypedHash, place: usize, key: &Key) -> bool
+        requires { IsUntyped hash key.now }
+        ensures { result ≡ false → (types : List TypeTag) → types_match place types (key_types key.now) ≡ true → any_dynamic types ≡ true → look self (with_types types key.now) ≡ None };
 }
 
-/// The look-up of natives of one name in all modules in which a call looks.
-#[derive(Clone, Copy)]
-pub(crate) struct NativesOf<'a> {
-    pub engine: &'a Engine,
-    pub state: &'a GlobalRuntimeState,
-    /// The name with a number of parameters, hashed for the filters.
-    pub name: HashedName<'a>,
-}
-
-/// Whether some module declares a native of this name for these kinds, where the types before a place are
+/// Whether some module declares a native of a key's name for its types, where those before a place are
 /// exact, or may list one that has a type `Dynamic`.
-fn any_may_match(
-    modules: &[SharedModule],
-    place: usize,
-    name: HashedName,
-    kinds: &[TypeTag],
-) -> bool
-    ensures { result ≡ any_may_show place name.entry.name.now name.entry.params kinds.now modules.now }
+fn any_may_match(modules: &[SharedModule], hash: UntypedHash, place: usize, key: &Key) -> bool
+    requires { IsUntyped hash key.now }
+    ensures { result ≡ any_may_show place (key_name key.now) (key_params key.now) (key_types key.now) modules.now }
 {
     for shared in modules {
         let module = shared.module();
-        if module.may_match(place, name.name(), kinds) {
+        if module.may_match(place, key.name(), key.types()) {
             return true;
         }
-        if module.may_list_dynamic_fn(name.hash_under(module.seeds())) {
+        if module.may_list_dynamic_fn(hash.under(key, module.seeds())) {
             return true;
         }
     }
     false
 }
 
-impl Look for NativesOf<'_> {
-    ghost look = { λ s types. native_in s.state.now.lib s.engine.now.globals s.state.now.imports s.engine.now.statics s.name.name.now types };
+impl<'a> Look for AllModules<'a> {
+    type Found = Found<'a>;
 
-    ghost modules = { λ s. length s.state.now.lib + length s.engine.now.globals + length s.state.now.imports + length s.engine.now.statics };
+    ghost pick = { λ f. picked f.layer f.func.now f.place.now };
 
-    fn find(
-        &self,
-        alloc: Global,
-        types: &[TypeTag],
-        steps: &mut Steps,
-    ) -> Result<Option<Pick>, OutOfMemory> {
-        let key = native_key_of(
-            self.name.name().dup(alloc)?,
-            Types::from_slice(alloc, types)?,
-        );
-        pick_found(alloc, find(self.engine, self.state, &key, steps))
+    ghost look = { λ s key. found_in s.state.now.lib s.globals.now s.state.now.imports s.statics.now key };
+
+    ghost modules = { λ s. length s.state.now.lib + length s.globals.now + length s.state.now.imports + length s.statics.now };
+
+    fn find(self, key: &Key, steps: &mut Steps) -> Option<Found<'a>> {
+        find(self, key, steps)
     }
 
-    fn may_match(&self, place: usize, kinds: &[TypeTag]) -> bool {
-        if kinds.len() as u64 != self.name.params() {
+    fn may_match(self, hash: UntypedHash, place: usize, key: &Key) -> bool {
+        let Some(_name) = key.native_name() else {
+            return true;
+        };
+        if any_may_match(self.globals, hash, place, key) {
             return true;
         }
-        if any_may_match(self.engine.global_modules(), place, self.name, kinds) {
+        if any_may_match(self.state.lib.as_slice(), hash, place, key) {
             return true;
         }
-        if any_may_match(self.state.lib.as_slice(), place, self.name, kinds) {
+        if any_import_may_have(self.state.imports.as_slice(), hash, key) {
             return true;
         }
-        if any_import_may_have(self.state.imports.as_slice(), self.name) {
-            return true;
-        }
-        any_static_may_have(self.engine.static_modules(), self.name)
+        any_static_may_have(self.statics, hash, key)
     }
 }

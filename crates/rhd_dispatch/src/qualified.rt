@@ -1,63 +1,101 @@
 //! What a call below a path means: one module is searched, by the further names of the path.
 
 ghost use Rattle.std.specs.Prelude.{◌≡◌, ◌≤◌, ◌+◌, ◌++◌, ◌∷◌, [], true, IfOk, IfSome, None, Some, OnOk, length, map, is_some};
+ghost use Rattle.std.specs.Option.{option_map};
+ghost use Rattle.rhd_value.specs.Firsts.{first_of};
 ghost use Rattle.rhd_value.specs.Kinds.{tag_of};
 ghost use Rattle.rhd_func.specs.Shapes.{all_args};
 ghost use Rattle.rhd_hash.specs.declared.key.Key.TheVariants as keys;
 ghost use Rattle.rhd_engine.specs.Held.{func_held, named_held};
 ghost use Rattle.rhd_engine.specs.Of.{lists_of};
 ghost use Rattle.rhd_dispatch.specs.Patterns.{patterns};
-ghost use Rattle.rhd_dispatch.specs.Picks.{root_of, after_root, pick_in, pick_qualified};
+ghost use Rattle.rhd_dispatch.specs.Picks.{root_of, after_root, asks_below, looked_in, pick_qualified};
 ghost use Rattle.rhd_dispatch.specs.Searched.{pick_at};
-ghost use Rattle.rhd_dispatch.specs.Walks.{rooted, native_at, first_match};
+ghost use Rattle.rhd_dispatch.specs.Walks.{rooted, picked, pick_below};
 
-use crate::filters::may_have;
+use crate::filters::{UntypedHash, tree_may_have};
 use crate::keys::kinds_of;
 use crate::look::Look;
-use crate::patterns::find_others;
+use crate::patterns::find_typed;
 use crate::root::{Root, find_root};
-use crate::search::{look_tree, pick_found};
+use crate::search::{Found, look_tree, pick_found};
 use rhd_call::Pick;
 use rhd_engine::{Engine, GlobalRuntimeState};
 use rhd_func::CallShape;
 use rhd_hash::{HashedKey, Key, Steps};
 use rhd_value::{OutOfMemory, Text, Texts, TypeTag, Types};
 use std::alloc::Global;
+use std::marker::Model;
 
-/// The look-up of natives of one name below a path in one tree.
-#[derive(Clone, Copy)]
-struct NativesAt<'a> {
-    root: Root<'a>,
-    /// The names of the path behind the root's.
-    path: &'a Texts,
-    name: &'a Text,
+/// The questions of a call below a path: for a script by the number of all arguments, and then for a native
+/// by their kinds. Contracts see the names of the path behind the root's, the name and the kinds.
+pub struct QualifiedAsk {
+    script: Key,
+    /// It has the types of the pattern in hand.
+    native: Key,
 }
 
-impl Look for NativesAt<'_> {
-    ghost look = { λ s types. native_at (rooted s.root.layer s.root.place.now) s.path.now s.name.now types };
+/// A function of its own, so that what drops the questions doesn't ask what their keys are.
+impl Drop for QualifiedAsk {
+    fn drop(self) {
+        let QualifiedAsk { script, native } = self;
+        drop(script);
+        drop(native);
+    }
+}
+
+impl Model for QualifiedAsk {
+    ghost use Rattle.rhd_dispatch.specs.Picks.{AskedBelow, asked_below, IsAskBelow};
+
+    ghost Value = { AskedBelow };
+
+    ghost view = { λ a. asked_below a.native };
+
+    ghost invariant = { λ a. IsAskBelow a.script a.native };
+}
+
+impl QualifiedAsk {
+    /// Those of a call with arguments of these kinds, an object counted.
+    pub fn new(
+        alloc: Global,
+        path: &[Text],
+        name: &Text,
+        kinds: &[TypeTag],
+    ) -> Result<QualifiedAsk, OutOfMemory>
+        ensures { IfOk result (λ asks. asks ≡ record { path = after_root path.now; name = name.now; kinds = kinds.now }) }
+    {
+        let names = after_root(alloc, path)?;
+        Ok(QualifiedAsk {
+            script: Key::Script {
+                path: Some(names.dup(alloc)?),
+                name: name.dup(alloc)?,
+                params: kinds.len() as u64,
+            },
+            native: Key::Native {
+                path: Some(names),
+                name: name.dup(alloc)?,
+                types: Types::from_slice(alloc, kinds)?,
+            },
+        })
+    }
+}
+
+impl<'a> Look for Root<'a> {
+    type Found = Found<'a>;
+
+    ghost pick = { λ f. picked f.layer f.func.now f.place.now };
+
+    ghost look = { λ s key. pick_at key (rooted s.layer s.place.now) };
 
     ghost modules = { λ s. 1 };
 
-    fn find(
-        &self,
-        alloc: Global,
-        types: &[TypeTag],
-        steps: &mut Steps,
-    ) -> Result<Option<Pick>, OutOfMemory> {
-        let key = Key::Native {
-            path: Some(self.path.dup(alloc)?),
-            name: self.name.dup(alloc)?,
-            types: Types::from_slice(alloc, types)?,
-        };
-        let key = HashedKey::new(&key, self.root.place.seeds());
-        pick_found(
-            alloc,
-            look_tree(self.root.place, self.root.layer, &key, steps),
-        )
+    fn find(self, key: &Key, steps: &mut Steps) -> Option<Found<'a>> {
+        let key = HashedKey::new(key, self.place.seeds());
+        look_tree(self.place, self.layer, &key, steps)
     }
 
-    fn may_match(&self, _place: usize, kinds: &[TypeTag]) -> bool {
-        may_have(self.root.place, self.name, kinds.len() as u64)
+    fn may_match(self, hash: UntypedHash, _place: usize, key: &Key) -> bool {
+        tree_may_have(self.place, hash, key)
     }
 }
 
@@ -77,68 +115,17 @@ fn after_root(alloc: Global, path: &[Text]) -> Result<Texts, OutOfMemory>
     Ok(names)
 }
 
-/// The script of a name and a number of parameters below a path in one tree.
-fn find_script(
-    alloc: Global,
-    root: Root,
-    path: &Texts,
-    name: &Text,
-    params: u64,
-    steps: &mut Steps,
-) -> Result<Option<Pick>, OutOfMemory>
-    ensures pick { IfOk result (λ pick. pick ≡ pick_at (keys.Script (Some path.now) name.now params) (rooted root.entry.layer root.entry.place.now)) }
-    ensures steps { steps.new ≤ steps.old + 1 }
+/// What one tree has for the questions below a path.
+fn find_in<'a>(root: Root<'a>, asks: &mut QualifiedAsk, steps: &mut Steps) -> Option<Found<'a>>
+    ensures found { option_map (λ f. picked f.layer f.func.now f.place.now) result ≡ pick_below asks.old (rooted root.entry.layer root.entry.place.now) }
+    ensures kept { asks.new ≡ asks.old }
+    ensures steps { steps.new ≤ steps.old + (1 + length (patterns asks.old.kinds)) }
 {
-    let key = Key::Script {
-        path: Some(path.dup(alloc)?),
-        name: name.dup(alloc)?,
-        params,
-    };
-    let key = HashedKey::new(&key, root.place.seeds());
-    pick_found(alloc, look_tree(root.place, root.layer, &key, steps))
-}
-
-/// The native of the first pattern of these kinds that is found below a path in one tree. The exact kinds
-/// are the first pattern, and they aren't looked up twice.
-fn find_native(
-    alloc: Global,
-    root: Root,
-    path: &Texts,
-    name: &Text,
-    kinds: &[TypeTag],
-    steps: &mut Steps,
-) -> Result<Option<Pick>, OutOfMemory>
-    ensures pick { IfOk result (λ pick. pick ≡ first_match (native_at (rooted root.entry.layer root.entry.place.now) path.now name.now) [] 16 kinds.now) }
-    ensures steps { steps.new ≤ steps.old + length (patterns kinds.now) }
-{
-    let natives = NativesAt { root, path, name };
-    match natives.find(alloc, kinds, steps)? {
-        Some(pick) => Ok(Some(pick)),
-        None => {
-            let mut types = Vec::from_slice(alloc, kinds)?;
-            find_others(alloc, &natives, &mut types, 0, steps)
-        }
+    let script = root.find(&asks.script, steps);
+    if script.is_some() {
+        return script;
     }
-}
-
-/// What one tree has for a call below a path.
-fn find_in(
-    alloc: Global,
-    root: Root,
-    path: &[Text],
-    name: &Text,
-    shape: &CallShape,
-    steps: &mut Steps,
-) -> Result<Option<Pick>, OutOfMemory>
-    ensures pick { IfOk result (λ pick. pick ≡ pick_in path.now name.now shape.now (rooted root.entry.layer root.entry.place.now)) }
-    ensures steps { steps.new ≤ steps.old + (1 + length (patterns (map tag_of (all_args shape.now)))) }
-{
-    let names = after_root(alloc, path)?;
-    let kinds = kinds_of(alloc, shape)?;
-    match find_script(alloc, root, &names, name, kinds.len() as u64, steps)? {
-        Some(pick) => Ok(Some(pick)),
-        None => find_native(alloc, root, &names, name, kinds.as_slice(), steps),
-    }
+    find_typed(root, root.place.seeds(), &mut asks.native, steps)
 }
 
 /// Whether some import or static module has the first name of a path.
@@ -148,10 +135,30 @@ pub fn has_root(engine: &Engine, state: &GlobalRuntimeState, path: &[Text]) -> b
     find_root(engine, state, path).is_some()
 }
 
+/// What answers the questions below their path. The module in which it begins is searched alone. It makes at
+/// most one look-up for each key, and takes no memory.
+pub fn resolve_qualified<'a>(
+    engine: &'a Engine,
+    state: &'a GlobalRuntimeState,
+    path: &[Text],
+    asks: &mut QualifiedAsk,
+    steps: &mut Steps,
+) -> Option<Found<'a>>
+    requires { asks.old.path ≡ after_root path.now }
+    ensures found { option_map (λ f. picked f.layer f.func.now f.place.now) result ≡ first_of (looked_in path.now (root_of (lists_of info engine.now) state.now.imports path.now)) (asks_below asks.old) }
+    ensures kept { asks.new ≡ asks.old }
+    ensures steps { steps.new ≤ steps.old + (1 + length (patterns asks.old.kinds)) }
+{
+    match find_root(engine, state, path) {
+        Some(root) => find_in(root, asks, steps),
+        None => None,
+    }
+}
+
 /// The function that a call below a path means. The module in which the path begins is searched alone: for
 /// a script by the number of all arguments, an object counted, and then for a native by the patterns of
 /// their kinds. It makes at most one look-up for each, also where memory runs out.
-pub fn resolve_qualified(
+pub fn resolve_qualified_call(
     alloc: Global,
     engine: &Engine,
     state: &GlobalRuntimeState,
@@ -165,8 +172,8 @@ pub fn resolve_qualified(
     ensures held { IfOk result (λ pick. IfSome pick (λ p. func_held (length engine.now.natives.items.items) p.func ≡ true)) }
     ensures steps { steps.new ≤ steps.old + (1 + length (patterns (map tag_of (all_args shape.now)))) }
 {
-    match find_root(engine, state, path.as_slice()) {
-        Some(root) => find_in(alloc, root, path.as_slice(), name, shape, steps),
-        None => Ok(None),
-    }
+    let kinds = kinds_of(alloc, shape)?;
+    let mut asks = QualifiedAsk::new(alloc, path.as_slice(), name, kinds.as_slice())?;
+    let found = resolve_qualified(engine, state, path.as_slice(), &mut asks, steps);
+    pick_found(alloc, found)
 }

@@ -5,14 +5,13 @@ ghost use Rattle.std.specs.Option.{option_map};
 ghost use Rattle.rhd_value.specs.Firsts.{first_of};
 ghost use Rattle.rhd_call.specs.declared.pick.Layer.TheVariants as layers;
 ghost use Rattle.rhd_layers.specs.Lists.{all_indexed};
-ghost use Rattle.rhd_engine.specs.Of.{lists_of};
-ghost use Rattle.rhd_dispatch.specs.Searched.{pick_at, found, searched};
-ghost use Rattle.rhd_dispatch.specs.Walks.{numbered, latest, alone, rooted, in_own, in_tree, picked};
+ghost use Rattle.rhd_dispatch.specs.Searched.{pick_at};
+ghost use Rattle.rhd_dispatch.specs.Walks.{numbered, latest, alone, rooted, in_own, in_tree, found_in, picked};
 
 use rhd_call::{Layer, Pick};
 use rhd_engine::{Engine, GlobalRuntimeState, ModuleMap};
 use rhd_func::RhaiFunc;
-use rhd_hash::{HashedKey, Key, Steps};
+use rhd_hash::{HashedKey, Key, Seeds, Steps};
 use rhd_layers::SharedModule;
 use rhd_module::Module;
 use rhd_value::{OutOfMemory, Text};
@@ -20,7 +19,7 @@ use std::alloc::Global;
 
 /// A function that was found, with the module in which it was, or the root of that one's tree.
 #[derive(Clone, Copy)]
-pub(crate) struct Found<'a> {
+pub struct Found<'a> {
     pub layer: Layer,
     pub func: &'a RhaiFunc,
     pub place: &'a Module,
@@ -28,7 +27,7 @@ pub(crate) struct Found<'a> {
 
 impl<'a> Found<'a> {
     /// A pick of the function. It shares the function and the id of the module.
-    pub(crate) fn to_pick(self, alloc: Global) -> Result<Pick, OutOfMemory>
+    pub fn to_pick(self, alloc: Global) -> Result<Pick, OutOfMemory>
         ensures { IfOk result (λ pick. pick ≡ picked self.entry.layer self.entry.func.now self.entry.place.now) }
     {
         Ok(Pick {
@@ -160,41 +159,57 @@ fn find_static<'a>(statics: &'a ModuleMap, key: &HashedKey, steps: &mut Steps) -
     None
 }
 
+/// All modules in which a call looks.
+#[derive(Clone, Copy)]
+pub(crate) struct AllModules<'a> {
+    pub state: &'a GlobalRuntimeState,
+    pub globals: &'a [SharedModule],
+    pub statics: &'a ModuleMap,
+    /// Those of the engine.
+    pub seeds: Seeds,
+}
+
+impl<'a> AllModules<'a> {
+    /// Those of an engine and a state.
+    pub(crate) fn new(engine: &'a Engine, state: &'a GlobalRuntimeState) -> AllModules<'a>
+        ensures state { result.state.now ≡ state.now }
+        ensures globals { result.globals.now ≡ engine.now.globals }
+        ensures statics { result.statics.now ≡ engine.now.statics }
+    {
+        AllModules {
+            state,
+            globals: engine.global_modules(),
+            statics: engine.static_modules(),
+            seeds: engine.seeds(),
+        }
+    }
+}
+
 /// What is found under a key: of the libraries, latest first, of the global modules in order, of the
 /// imports, latest first, and of the static modules in ascending order of name. Each is asked once at most.
-fn find_hashed<'a>(
-    engine: &'a Engine,
-    state: &'a GlobalRuntimeState,
-    key: &HashedKey,
-    steps: &mut Steps,
-) -> Option<Found<'a>>
-    ensures found { option_map (λ f. picked f.layer f.func.now f.place.now) result ≡ found (lists_of info engine.now) state.now.lib state.now.imports key.now }
-    ensures steps { steps.new ≤ steps.old + length (searched (lists_of info engine.now) state.now.lib state.now.imports) }
+fn find_hashed<'a>(modules: AllModules<'a>, key: &HashedKey, steps: &mut Steps) -> Option<Found<'a>>
+    ensures found { option_map (λ f. picked f.layer f.func.now f.place.now) result ≡ found_in modules.entry.state.now.lib modules.entry.globals.now modules.entry.state.now.imports modules.entry.statics.now key.now }
+    ensures steps { steps.new ≤ steps.old + (length modules.entry.state.now.lib + length modules.entry.globals.now + length modules.entry.state.now.imports + length modules.entry.statics.now) }
 {
-    let in_library = find_library(state.lib.as_slice(), key, steps);
+    let in_library = find_library(modules.state.lib.as_slice(), key, steps);
     if in_library.is_some() {
         return in_library;
     }
-    let in_global = find_global(engine.global_modules(), key, steps);
+    let in_global = find_global(modules.globals, key, steps);
     if in_global.is_some() {
         return in_global;
     }
-    let in_import = find_import(state.imports.as_slice(), key, steps);
+    let in_import = find_import(modules.state.imports.as_slice(), key, steps);
     if in_import.is_some() {
         return in_import;
     }
-    find_static(engine.static_modules(), key, steps)
+    find_static(modules.statics, key, steps)
 }
 
 /// The same for a key that isn't hashed yet. It is hashed once, under the seeds of the engine.
-pub(crate) fn find<'a>(
-    engine: &'a Engine,
-    state: &'a GlobalRuntimeState,
-    key: &Key,
-    steps: &mut Steps,
-) -> Option<Found<'a>>
-    ensures found { option_map (λ f. picked f.layer f.func.now f.place.now) result ≡ found (lists_of info engine.now) state.now.lib state.now.imports key.now }
-    ensures steps { steps.new ≤ steps.old + length (searched (lists_of info engine.now) state.now.lib state.now.imports) }
+pub(crate) fn find<'a>(modules: AllModules<'a>, key: &Key, steps: &mut Steps) -> Option<Found<'a>>
+    ensures found { option_map (λ f. picked f.layer f.func.now f.place.now) result ≡ found_in modules.entry.state.now.lib modules.entry.globals.now modules.entry.state.now.imports modules.entry.statics.now key.now }
+    ensures steps { steps.new ≤ steps.old + (length modules.entry.state.now.lib + length modules.entry.globals.now + length modules.entry.state.now.imports + length modules.entry.statics.now) }
 {
-    find_hashed(engine, state, &HashedKey::new(key, engine.seeds()), steps)
+    find_hashed(modules, &HashedKey::new(key, modules.seeds), steps)
 }

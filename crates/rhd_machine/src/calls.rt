@@ -36,7 +36,7 @@ use crate::received::{
 };
 use crate::refusal::refusal;
 use rhd_call::{CallNode, Pick};
-use rhd_dispatch::{resolve, resolve_qualified};
+use rhd_dispatch::{resolve_call, resolve_qualified_call};
 use rhd_engine::{Engine, GlobalRuntimeState};
 use rhd_func::{
     Bodies, CallDone, CallRequest, Carry, Host, HostAnswer, NativeCallContext, NativeStep, Natives,
@@ -121,7 +121,7 @@ fn pick(
             ..
         } => {
             let mut steps = Steps::new();
-            resolve(
+            resolve_call(
                 alloc,
                 engine,
                 state,
@@ -139,7 +139,7 @@ fn pick(
             ..
         } => {
             let mut steps = Steps::new();
-            resolve_qualified(alloc, engine, state, path, name, shape, &mut steps)
+            resolve_qualified_call(alloc, engine, state, path, name, shape, &mut steps)
         }
     }
 }

@@ -1,17 +1,20 @@
 //! Which function a call means, and which call has a locked argument.
 
 ghost use Rattle.std.specs.Prelude.{◌≡◌, ℕ, true};
-ghost use Rattle.rhd_engine.specs.Held.{names_held, named_held};
+ghost use Rattle.rhd_engine.specs.Held.{names_held, all_held, named_held};
 
 use crate::given::{SEEDS, int, one, plain, text, texts};
 use crate::must::{holds, must, shared, shared_script};
 use crate::registering::engine;
-use rhd_dispatch::{Layer, Pick, ensure_no_data_race, has_root, resolve_qualified};
-use rhd_engine::GlobalRuntimeState;
+use rhd_dispatch::{
+    Ask, Found, Layer, Pick, QualifiedAsk, ensure_no_data_race, has_root, resolve,
+    resolve_qualified, resolve_qualified_call,
+};
+use rhd_engine::{Engine, GlobalRuntimeState};
 use rhd_func::CallShape;
 use rhd_hash::Steps;
 use rhd_layers::SharedModule;
-use rhd_value::{EvalAltResult, Position, Values};
+use rhd_value::{EvalAltResult, Position, TypeTag, Values};
 use std::alloc::Global;
 use std::process::Abort;
 
@@ -55,7 +58,8 @@ fn with_script(rt: &impl Abort, alloc: Global) -> SharedModule
 
 /// A state whose import `a` has a script `s` without parameters.
 fn importing(rt: &impl Abort, alloc: Global) -> GlobalRuntimeState
-    ensures { (natives : ℕ) → named_held natives result.imports ≡ true }
+    ensures imports { (natives : ℕ) → named_held natives result.imports ≡ true }
+    ensures libs { (natives : ℕ) → all_held natives result.lib ≡ true }
 {
     let mut state = GlobalRuntimeState::new(alloc);
     let put = state.push_import(text(alloc, "a"), with_script(rt, alloc));
@@ -90,12 +94,85 @@ fn a_path_leads_to_a_script(rt: HostRuntime) {
     let (path, name) = (texts(alloc, "a"), text(alloc, "s"));
     let shape = CallShape::Plain(Values::new(alloc));
     let mut steps = Steps::new();
-    let found = resolve_qualified(alloc, &engine, &state, &path, &name, &shape, &mut steps);
+    let found = resolve_qualified_call(alloc, &engine, &state, &path, &name, &shape, &mut steps);
     let pick = must(&rt, found, "an answer");
     holds(&rt, is_imported(pick.as_ref()), "the script");
     holds(&rt, steps.count() == 1, "one look-up");
     drop(pick);
     drop(shape);
+    drop(state);
+    drop(engine);
+}
+
+/// Whether a question has no answer, and takes so many look-ups. It is dropped.
+fn is_unknown(
+    rt: &impl Abort,
+    alloc: Global,
+    engine: &Engine,
+    state: &GlobalRuntimeState,
+    ask: Ask,
+    looks: u64,
+) -> bool
+    requires { (natives : ℕ) → (named_held natives state.now.imports ≡ true) × (all_held natives state.now.lib ≡ true) }
+{
+    let mut ask = ask;
+    let mut steps = Steps::new();
+    let found = resolve(alloc, engine, state, &mut ask, &mut steps);
+    let pick = must(rt, found, "an answer");
+    let unknown = pick.is_none();
+    drop(pick);
+    drop(ask);
+    unknown && steps.count() == looks
+}
+
+#[test]
+fn questions_are_asked_in_each_module(rt: HostRuntime) {
+    let alloc = rt.alloc();
+    let (engine, state) = (engine(&rt, alloc), importing(&rt, alloc));
+    let (name, this_type) = (text(alloc, "s"), text(alloc, "t"));
+    let ask = must(&rt, Ask::script(alloc, &name, 0), "a question");
+    holds(
+        &rt,
+        is_unknown(&rt, alloc, &engine, &state, ask, 2),
+        "script",
+    );
+    let ask = must(&rt, Ask::typed(alloc, &name, 0, &this_type), "a question");
+    holds(
+        &rt,
+        is_unknown(&rt, alloc, &engine, &state, ask, 2),
+        "typed",
+    );
+    let ask = Ask::native(alloc, &name, &[TypeTag::Int], None);
+    let ask = must(&rt, ask, "a question");
+    holds(
+        &rt,
+        is_unknown(&rt, alloc, &engine, &state, ask, 2),
+        "native",
+    );
+    drop(state);
+    drop(engine);
+}
+
+/// Whether a script of the first import was found.
+fn is_script(found: Option<Found>) -> bool {
+    match found {
+        Some(found) => found.layer == Layer::Import(0) && found.func.is_script(),
+        None => false,
+    }
+}
+
+#[test]
+fn questions_are_asked_below_a_path(rt: HostRuntime) {
+    let alloc = rt.alloc();
+    let (engine, state) = (engine(&rt, alloc), importing(&rt, alloc));
+    let (path, name) = (texts(alloc, "a"), text(alloc, "s"));
+    let made = QualifiedAsk::new(alloc, path.as_slice(), &name, &[]);
+    let mut asks = must(&rt, made, "questions");
+    let mut steps = Steps::new();
+    let found = resolve_qualified(&engine, &state, path.as_slice(), &mut asks, &mut steps);
+    holds(&rt, is_script(found), "the script");
+    holds(&rt, steps.count() == 1, "one look-up");
+    drop(asks);
     drop(state);
     drop(engine);
 }
