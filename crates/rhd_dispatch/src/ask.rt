@@ -32,8 +32,10 @@ pub struct Ask {
 /// A function of its own, so that what drops a question doesn't ask which one it is.
 impl Drop for Ask {
     fn drop(self) {
-        let Ask { key, token: _ } = self;
-        drop(key);
+        let Ask {
+            key: _key,
+            token: _,
+        } = self;
     }
 }
 
@@ -92,11 +94,23 @@ impl Ask {
     ) -> Result<Ask, OutOfMemory>
         ensures { IfOk result (λ ask. ask ≡ native name.now kinds.now token) }
     {
+        Ask::of_kinds(alloc, name, Types::from_slice(alloc, kinds)?, token)
+    }
+
+    /// The same, which takes the kinds.
+    pub(crate) fn of_kinds(
+        alloc: Global,
+        name: &Text,
+        kinds: Types,
+        token: Option<OpToken>,
+    ) -> Result<Ask, OutOfMemory>
+        ensures { IfOk result (λ ask. ask ≡ native name.now kinds token) }
+    {
         Ok(Ask {
             key: Key::Native {
                 path: None,
                 name: name.dup(alloc)?,
-                types: Types::from_slice(alloc, kinds)?,
+                types: kinds,
             },
             token,
         })

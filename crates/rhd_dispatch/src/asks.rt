@@ -85,7 +85,7 @@ fn find_native(
     ensures steps { steps.new ≤ steps.old + most_looks (lists_of info engine.now) state.now.lib state.now.imports (native_ask name.now token shape.now ∷ []) }
 {
     let kinds = kinds_of(alloc, shape)?;
-    let mut ask = Ask::native(alloc, name, kinds.as_slice(), token)?;
+    let mut ask = Ask::of_kinds(alloc, name, kinds, token)?;
     resolve(alloc, engine, state, &mut ask, steps)
 }
 
