@@ -108,12 +108,14 @@ fn loaded(
 
 /// Whether nothing is given since there is no module of this path.
 fn is_not_found<T: Drop>(given: Result<T, ResolveFault>, word: &str) -> bool {
-    match given {
+    let found = match &given {
         Err(ResolveFault::Fault(EvalAltResult::ErrorModuleNotFound(path, _))) => {
             path.as_str() == word
         }
         _ => false,
-    }
+    };
+    drop(given);
+    found
 }
 
 /// Whether a fault is 15, with this text.
@@ -126,12 +128,14 @@ fn is_failure(fault: &EvalAltResult, word: &str) -> bool {
 
 /// Whether nothing is given since the module of this path has fault 15, with this text.
 fn is_in_module<T: Drop>(given: Result<T, ResolveFault>, word: &str, inner: &str) -> bool {
-    match given {
+    let found = match &given {
         Err(ResolveFault::Fault(EvalAltResult::ErrorInModule(path, fault, _))) => {
             path.as_str() == word && is_failure(fault.fault(), inner)
         }
         _ => false,
-    }
+    };
+    drop(given);
+    found
 }
 
 #[test]

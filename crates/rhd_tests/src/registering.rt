@@ -175,10 +175,12 @@ fn modules_are_registered(rt: HostRuntime) {
 
 /// Whether a fault tells that no function has this signature.
 fn is_not_found(fault: Result<EvalAltResult, OutOfMemory>, signature: &str) -> bool {
-    match fault {
+    let found = match &fault {
         Ok(EvalAltResult::ErrorFunctionNotFound(text, _)) => text.as_str() == signature,
         _ => false,
-    }
+    };
+    drop(fault);
+    found
 }
 
 #[test]
