@@ -209,6 +209,39 @@ fn listing(rt: &impl Abort, alloc: Global, flatten: bool) -> Module {
     module
 }
 
+/// A manifest that lists a native of any type under `f`.
+fn listing_any(rt: &impl Abort, alloc: Global) -> Manifests {
+    let mut natives = Natives::new(alloc);
+    push_native(rt, alloc, &mut natives, types(alloc, TypeTag::Dynamic));
+    let mut manifests = Manifests::new(alloc);
+    let id = push(rt, alloc, &mut manifests);
+    assert!(rt;
+        (id.0 as usize) < manifests.len() && natives.len() == 1,
+        "both are held"
+    );
+    let (name, namespace) = (text(alloc, "f"), FnNamespace::Internal);
+    let put = manifests.push_entry(alloc, &natives, id, name, namespace, FnId(0));
+    must(rt, put, "listed");
+    drop(natives);
+    manifests
+}
+
+#[test]
+fn a_listed_native_of_any_type_is_told(rt: HostRuntime) {
+    let alloc = rt.alloc();
+    let mut module = empty(&rt, alloc, SEEDS);
+    let key = native_key(alloc, "f", TypeTag::Dynamic);
+    let hash = key.untyped(SEEDS);
+    holds(&rt, !module.may_list_dynamic_fn(hash), "nothing is listed");
+    let manifests = listing_any(&rt, alloc);
+    let added = module.add_manifest(alloc, &manifests, ManifestId(0), false);
+    must(&rt, added, "a manifest is added");
+    holds(&rt, module.may_list_dynamic_fn(hash), "it is listed");
+    drop(manifests);
+    drop(key);
+    drop(module);
+}
+
 #[test]
 fn manifests_are_read(rt: HostRuntime) {
     let alloc = rt.alloc();
