@@ -110,20 +110,19 @@ fn write_replies<K: Sink>(
     }
 }
 
-/// The replies to the commands of a text, in a new session, which is left where there was none.
+/// The replies to the commands of a text, in a new session, and that session, where one was made.
 fn answer(
     alloc: Global,
     natives: Natives,
     text: SessionText,
-    left: &mut Option<TextSession>,
-) -> Result<Replies, Stopped>
+) -> (Result<Replies, Stopped>, Option<TextSession>)
     requires level { (limits_of text).level ≤ 1000 }
     requires builtins { builtins_held (length natives.items.items) text.builtins ≡ true }
     requires fits { fits (infos_of info natives) text.manifests ≡ true }
     requires count { length text.commands < 2 ^ 32 }
-    ensures all { IfOk result (IsAnswered (handed_of allows_call allows_resume info natives) text text.commands) }
-    ensures count { IfOk result (λ replies. length replies ≡ length text.commands) }
-    ensures some { IfErr result (λ s. IsAnswered (handed_of allows_call allows_resume info natives) text (take (length s.replies) text.commands) s.replies) }
+    ensures all { IfOk result.0 (IsAnswered (handed_of allows_call allows_resume info natives) text text.commands) }
+    ensures count { IfOk result.0 (λ replies. length replies ≡ length text.commands) }
+    ensures some { IfErr result.0 (λ s. IsAnswered (handed_of allows_call allows_resume info natives) text (take (length s.replies) text.commands) s.replies) }
 {
     let SessionText {
         seeds,
@@ -145,13 +144,13 @@ fn answer(
     let Ok(mut session) = Session::new(
         alloc, natives, manifests, files, loader, seeds, limits, builtins, printers,
     ) else {
-        return Err(Stopped {
+        let stopped = Stopped {
             replies: Replies::new(alloc),
-        });
+        };
+        return (Err(stopped), None);
     };
     let answered = session.run_commands(alloc, commands, &mut host, &mut bodies);
-    *left = Some(session);
-    answered
+    (answered, Some(session))
 }
 
 /// Answers the commands of a text, and writes the replies where all commands are answered.
@@ -176,8 +175,8 @@ fn answer_and_write<K: Sink>(
     ensures fault { result.status ≡ 4 → Rose (K.faults sink.old) (K.faults sink.new) }
     ensures later { K.faults sink.old ≤ K.faults sink.new }
 {
-    let mut session = None;
-    match answer(alloc, natives, text, &mut session) {
+    let (answered, session) = answer(alloc, natives, text);
+    match answered {
         Ok(replies) => write_replies(alloc, replies, session, sink),
         Err(stopped) => ToolEnd {
             status: 5,
