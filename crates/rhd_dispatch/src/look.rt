@@ -7,12 +7,13 @@ ghost use Rattle.rhd_hash.specs.declared.key.Key.{Key};
 ghost use Rattle.rhd_hash.specs.Keys.{key_name, key_params, key_types};
 ghost use Rattle.rhd_hash.specs.Matching.{types_match};
 ghost use Rattle.rhd_call.specs.declared.pick.Pick.{Pick};
-ghost use Rattle.rhd_dispatch.specs.Walks.{IsUntyped, found_in, with_types, picked, any_dynamic, any_may_show};
+ghost use Rattle.rhd_hash.specs.Untyped.{IsUntyped};
+ghost use Rattle.rhd_dispatch.specs.Walks.{found_in, with_types, picked, any_dynamic, any_may_show};
 
-use crate::filters::{UntypedHash, any_import_may_have, any_static_may_have};
+use crate::filters::{any_import_may_have, any_static_may_have};
 use crate::search::{AllModules, Found, find};
-use rhd_hash::{Key, Steps};
-use rhd_layers::SharedModule;
+use rhd_hash::{Key, Steps, UntypedHash};
+use rhd_layers::{ModuleList, SharedModule};
 
 /// A look-up of keys, and a test that saves look-ups. It takes no memory.
 pub(crate) trait Look: Copy {
@@ -42,7 +43,7 @@ pub(crate) trait Look: Copy {
 
 /// Whether some module declares a native of a key's name for its types, where those before a place are
 /// exact, or may list one that has a type `Dynamic`.
-fn any_may_match(modules: &[SharedModule], hash: UntypedHash, place: usize, key: &Key) -> bool
+fn any_may_show(modules: &[SharedModule], hash: UntypedHash, place: usize, key: &Key) -> bool
     requires { IsUntyped hash key.now }
     ensures { result ≡ any_may_show place (key_name key.now) (key_params key.now) (key_types key.now) modules.now }
 {
@@ -56,6 +57,14 @@ fn any_may_match(modules: &[SharedModule], hash: UntypedHash, place: usize, key:
         }
     }
     false
+}
+
+/// The same, where one of them may have a native that has a type `Dynamic`, by their filter.
+fn any_may_match(modules: &ModuleList, hash: UntypedHash, place: usize, key: &Key) -> bool
+    requires { IsUntyped hash key.now }
+    ensures { result ≡ false → MayNotShow place key.now modules.now }
+{
+    modules.may_have_dynamic(hash, key) && any_may_show(modules.as_slice(), hash, place, key)
 }
 
 impl<'a> Look for AllModules<'a> {
@@ -78,10 +87,10 @@ impl<'a> Look for AllModules<'a> {
         if any_may_match(self.globals, hash, place, key) {
             return true;
         }
-        if any_may_match(self.state.lib.as_slice(), hash, place, key) {
+        if any_may_match(&self.state.lib, hash, place, key) {
             return true;
         }
-        if any_import_may_have(self.state.imports.as_slice(), hash, key) {
+        if any_import_may_have(&self.state.imports, hash, key) {
             return true;
         }
         any_static_may_have(self.statics, hash, key)

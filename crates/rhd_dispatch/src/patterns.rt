@@ -5,11 +5,11 @@ ghost use Rattle.std.specs.Prelude.{◌≡◌, ◌≤◌, ◌+◌, ◌*◌, ◌-
 ghost use Rattle.std.specs.Option.{option_map};
 ghost use Rattle.rhd_hash.specs.Keys.{key_types};
 ghost use Rattle.rhd_dispatch.specs.Patterns.{patterns, patterns_to};
-ghost use Rattle.rhd_dispatch.specs.Walks.{IsUntyped, first_typed, any_dynamic};
+ghost use Rattle.rhd_hash.specs.Untyped.{IsUntyped};
+ghost use Rattle.rhd_dispatch.specs.Walks.{first_typed, any_dynamic};
 
-use crate::filters::UntypedHash;
 use crate::look::Look;
-use rhd_hash::{Key, Seeds, Steps};
+use rhd_hash::{Key, Seeds, Steps, UntypedHash};
 use rhd_value::TypeTag;
 
 /// How many types a pattern may change.

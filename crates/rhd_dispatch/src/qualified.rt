@@ -13,7 +13,7 @@ ghost use Rattle.rhd_dispatch.specs.Picks.{root_of, after_root, asks_below, look
 ghost use Rattle.rhd_dispatch.specs.Searched.{pick_at};
 ghost use Rattle.rhd_dispatch.specs.Walks.{rooted, picked, pick_below};
 
-use crate::filters::{UntypedHash, tree_may_have};
+use crate::filters::tree_may_have;
 use crate::keys::kinds_of;
 use crate::look::Look;
 use crate::patterns::find_typed;
@@ -22,7 +22,7 @@ use crate::search::{Found, look_tree, pick_found};
 use rhd_call::Pick;
 use rhd_engine::{Engine, GlobalRuntimeState};
 use rhd_func::CallShape;
-use rhd_hash::{HashedKey, Key, Steps};
+use rhd_hash::{HashedKey, Key, Steps, UntypedHash};
 use rhd_value::{OutOfMemory, Text, Texts, TypeTag, Types};
 use std::alloc::Global;
 use std::marker::Model;

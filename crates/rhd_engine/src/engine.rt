@@ -91,10 +91,10 @@ impl Engine {
     }
 
     /// The modules whose functions all calls find, in order.
-    pub fn global_modules(&self) -> &[SharedModule]
+    pub fn global_modules(&self) -> &ModuleList
         ensures { result.now ≡ self.now.globals }
     {
-        self.globals.as_slice()
+        &self.globals
     }
 
     /// The static modules by name.

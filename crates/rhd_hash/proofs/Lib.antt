@@ -1,5 +1,6 @@
 pub mod FirstFound
 pub mod PutIn
+pub mod Covered
 pub mod Mixing
 pub mod Paths
 pub mod Filters

@@ -7,6 +7,8 @@ pub mod Filter
 pub mod CallHashes
 pub mod Table
 pub mod Slots
+pub mod Covers
+pub mod Untyped
 pub mod Refusal
 pub mod Apart
 pub mod PutIn

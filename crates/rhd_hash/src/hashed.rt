@@ -1,12 +1,12 @@
-//! Keys and names with their hashes, for look-ups in many modules.
+//! Keys with their hashes, for look-ups in many modules.
 
 ghost use Rattle.std.specs.Prelude.{◌≡◌};
+ghost use Rattle.rhd_hash.specs.Keys.{key_name, key_params};
 ghost use Rattle.rhd_hash.specs.Parts.{mixed, untyped};
+ghost use Rattle.rhd_hash.specs.Untyped.{IsUntyped};
 
-use crate::hashing::calc_untyped_fn_hash;
 use crate::key::Key;
 use crate::mixer::Seeds;
-use rhd_value::Text;
 use std::marker::Model;
 
 /// A key with its hash under some seeds, which is made once for all tables of these seeds. Contracts see
@@ -61,53 +61,34 @@ impl<'a> HashedKey<'a> {
     }
 }
 
-/// A name and a number of parameters with their hash under some seeds, which is made once for all filters
-/// of these seeds.
+/// The hash of a key by its name and its number of parameters alone, under some seeds. It is made once for
+/// all filters of these seeds.
 #[derive(Clone, Copy)]
-pub struct HashedName<'a> {
-    pub(crate) name: &'a Text,
-    pub(crate) params: u64,
+pub struct UntypedHash {
     seeds: Seeds,
     hash: u64,
-    ghost is_hash: { hash ≡ untyped seeds name.now params },
 }
 
-impl<'a> HashedName<'a> {
-    /// A name and a number of parameters, with their hash under these seeds.
-    pub fn new(name: &'a Text, params: u64, seeds: Seeds) -> HashedName<'a>
-        ensures name { result.name.now ≡ name.now }
-        ensures params { result.params ≡ params }
+impl UntypedHash {
+    /// That of a key under these seeds.
+    pub fn new(key: &Key, seeds: Seeds) -> UntypedHash
+        ensures { IsUntyped result key.now }
     {
-        HashedName {
-            name,
-            params,
+        UntypedHash {
             seeds,
-            hash: calc_untyped_fn_hash(seeds, name, params),
+            hash: key.untyped(seeds),
         }
     }
 
-    /// The name.
-    pub fn name(self) -> &'a Text
-        ensures { result.now ≡ self.entry.name.now }
-    {
-        self.name
-    }
-
-    /// The number of parameters.
-    pub fn params(self) -> u64
-        ensures { result ≡ self.entry.params }
-    {
-        self.params
-    }
-
-    /// Their hash under these seeds. It is hashed anew only where they are others than its own.
-    pub fn hash_under(self, seeds: Seeds) -> u64
-        ensures { result ≡ untyped seeds self.entry.name.now self.entry.params }
+    /// That of the same key under other seeds. It is made anew only where they are others than its own.
+    pub fn under(self, key: &Key, seeds: Seeds) -> u64
+        requires { IsUntyped self key.now }
+        ensures { result ≡ untyped seeds (key_name key.now) (key_params key.now) }
     {
         if self.seeds == seeds {
             self.hash
         } else {
-            calc_untyped_fn_hash(seeds, self.name, self.params)
+            key.untyped(seeds)
         }
     }
 }

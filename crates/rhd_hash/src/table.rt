@@ -1,10 +1,12 @@
 //! Tables by key.
 
-ghost use Rattle.std.specs.Prelude.{◌≡◌, [], length, take, slice_get, None, IfOk, IfErr, OnOk, OnErr, IfSome, IfNone, IsErr};
+ghost use Rattle.std.specs.Prelude.{◌≡◌, ℕ, ◌<◌, [], false, length, take, slice_get, None, IfOk, IfErr, OnOk, OnErr, IfSome, IfNone, IsErr};
 ghost use Rattle.std.specs.List.{Contains};
 ghost use Rattle.std.specs.Option.{option_map, option_copied};
 ghost use Rattle.std.specs.Map.{lookup, keys_of};
 ghost use Rattle.rhd_hash.specs.declared.fault.TableFault.TheVariants.{OutOfMemory as no_memory};
+ghost use Rattle.rhd_hash.specs.Covers.{Covers, HasNoScript};
+ghost use Rattle.rhd_hash.specs.Filter.{is_marked};
 ghost use Rattle.rhd_hash.specs.Keys.{key_eq};
 ghost use Rattle.rhd_hash.specs.Parts.{mixed};
 ghost use Rattle.rhd_hash.specs.PutIn.{put_in};
@@ -13,6 +15,7 @@ ghost use Rattle.rhd_hash.specs.Slots.{IsFree};
 ghost use Rattle.rhd_hash.specs.Table.{first_hashed, HasOwnHashes, Clashes};
 
 use crate::fault::TableFault;
+use crate::filter::BloomFilterU64;
 use crate::hashed::HashedKey;
 use crate::key::Key;
 use crate::mixer::Seeds;
@@ -29,6 +32,10 @@ use std::marker::Model;
 pub struct KeyTable<V> {
     seeds: Seeds,
     slots: IndexMap<u64, (Key, V), StraightHasherBuilder>,
+    /// Marks the hash of each key.
+    marks: BloomFilterU64<128>,
+    /// Whether a script's key was ever put in.
+    scripts: bool,
 }
 
 impl<V> Model for KeyTable<V> {
@@ -40,7 +47,7 @@ impl<V> Model for KeyTable<V> {
 
     ghost view = { λ t. record { seeds = t.seeds; pairs = map (λ e. e.1) t.slots.entries } };
 
-    ghost invariant = { λ t. AreSlots t.seeds t.slots.entries };
+    ghost invariant = { λ t. AreSlots t.seeds t.marks t.scripts t.slots.entries };
 }
 
 /// The value of a pair that was replaced.
@@ -61,6 +68,8 @@ impl<V> KeyTable<V> {
         KeyTable {
             seeds,
             slots: IndexMap::with_hasher(alloc, StraightHasherBuilder),
+            marks: BloomFilterU64::new(),
+            scripts: false,
         }
     }
 
@@ -69,6 +78,31 @@ impl<V> KeyTable<V> {
         ensures { result ≡ self.now.seeds }
     {
         self.seeds
+    }
+
+    /// A filter that has a mark for the hash of each key.
+    pub fn marks(&self) -> &BloomFilterU64<128>
+        ensures { Covers 128 result.now self.now.seeds self.now.pairs }
+    {
+        &self.marks
+    }
+
+    /// Marks the hash of each key in another filter.
+    pub fn mark_keys<const SIZE: usize>(&self, filter: &mut BloomFilterU64<SIZE>)
+        requires { 0 < SIZE }
+        ensures kept { (v : ℕ) → is_marked SIZE filter.new v ≡ false → is_marked SIZE filter.old v ≡ false }
+        ensures covers { Covers SIZE filter.new self.now.seeds self.now.pairs }
+    {
+        for hash in self.slots.keys() {
+            filter.mark(*hash);
+        }
+    }
+
+    /// Whether a script's key may be there.
+    pub fn may_have_script(&self) -> bool
+        ensures { result ≡ false → HasNoScript self.now.pairs }
+    {
+        self.scripts
     }
 
     /// The number of pairs.
@@ -118,7 +152,11 @@ impl<V> KeyTable<V> {
     pub fn get_hashed(&self, key: &HashedKey) -> Option<&V>
         ensures { option_copied result ≡ lookup (key_eq key.now) self.now.pairs }
     {
-        match self.get_by_hash(key.hash_under(self.seeds)) {
+        let hash = key.hash_under(self.seeds);
+        if self.marks.is_absent(hash) {
+            return None;
+        }
+        match self.get_by_hash(hash) {
             Some((held, value)) => {
                 if *held == *key.key() {
                     Some(value)
@@ -193,8 +231,13 @@ impl<V> KeyTable<V> {
         ensures refused { IfErr result (λ fault. fault ≡ no_memory) }
         ensures apart { OnOk result (HasOwnHashes self.new.seeds (keys_of self.new.pairs)) }
     {
+        let script = key.is_script();
         match self.slots.insert(hash, (key, value)) {
-            Ok(old) => Ok(value_of(old)),
+            Ok(old) => {
+                self.marks.mark(hash);
+                self.scripts |= script;
+                Ok(value_of(old))
+            }
             Err(_) => Err(TableFault::OutOfMemory),
         }
     }

@@ -2,6 +2,7 @@
 #![tactic(auto)]
 
 mod lists;
+mod marks;
 mod parts;
 mod paths;
 mod placing;

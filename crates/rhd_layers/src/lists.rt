@@ -1,15 +1,21 @@
 //! Lists of modules.
 
-ghost use Rattle.std.specs.Prelude.{◌≡◌, ◌++◌, ◌∷◌, [], true, if◌then◌else◌, is_ok, IfOk, OnOk, OnErr, None, length, take, ◌<◌, ◌≤◌};
-ghost use Rattle.std.specs.List.{insert};
+ghost use Rattle.std.specs.Prelude.{◌≡◌, ◌++◌, ◌∷◌, [], false, true, if◌then◌else◌, is_ok, IfOk, OnOk, OnErr, None, length, take, ◌<◌, ◌≤◌};
+ghost use Rattle.std.specs.List.{insert, list_all};
 ghost use Rattle.std.specs.Option.{option_copied};
+ghost use Rattle.rhd_hash.specs.declared.key.Key.{Key};
+ghost use Rattle.rhd_hash.specs.Keys.{key_name, key_params, is_script_key};
+ghost use Rattle.rhd_hash.specs.Untyped.{IsUntyped};
 ghost use Rattle.rhd_func.specs.Infos.{infos_of};
 ghost use Rattle.rhd_module.specs.Contents.{with_type};
 ghost use Rattle.rhd_layers.specs.FirstModule.{in_first, RegistersFirst, RegistersBothFirst, RegistersRawFirst, FirstTells};
 ghost use Rattle.rhd_layers.specs.Lists.{Popped, all_indexed, latest_of, second, with_last};
+ghost use Rattle.rhd_layers.specs.Marks.{lacks, lacks_below, lacks_dynamic};
 
+use crate::marks::Marks;
 use crate::shared::SharedModule;
 use rhd_func::{Natives, RhaiFunc};
+use rhd_hash::{BloomFilterU64, HashedKey, Key, UntypedHash};
 use rhd_module::{DeclFault, FuncMetadata, FuncRegistration};
 use rhd_value::{FnId, OutOfMemory, Text, TypeTag};
 use std::alloc::Global;
@@ -19,6 +25,10 @@ use std::marker::Model;
 #[derive(Drop)]
 pub struct ModuleList {
     items: Vec<SharedModule>,
+    /// What these may have, and some that were taken off.
+    marks: Marks,
+    /// Marks the hashes of their keys.
+    keys: BloomFilterU64<128>,
 }
 
 impl Model for ModuleList {
@@ -26,12 +36,15 @@ impl Model for ModuleList {
     ghost use Rattle.std.specs.Coded.{coded_list};
     ghost use Rattle.rhd_module.specs.Tree.{ModuleTree};
     ghost use Rattle.rhd_module.specs.Codes.{tree_code};
+    ghost use Rattle.rhd_layers.specs.Marks.{Tells, itself, lacks};
 
     ghost Value = { List ModuleTree };
 
     ghost coded = { coded_list tree_code };
 
     ghost view = { λ a. a.items.items };
+
+    ghost invariant = { λ a. Tells itself lacks 128 a.marks a.keys a.items.items };
 }
 
 impl ModuleList {
@@ -40,6 +53,8 @@ impl ModuleList {
     {
         ModuleList {
             items: Vec::new(alloc),
+            marks: Marks::new(),
+            keys: BloomFilterU64::new(),
         }
     }
 
@@ -58,6 +73,7 @@ impl ModuleList {
     pub fn push(&mut self, added: SharedModule) -> Result<(), OutOfMemory>
         ensures { self.new ≡ (if is_ok result then self.old ++ added ∷ [] else self.old) }
     {
+        self.marks.add(&mut self.keys, added.module());
         self.items.push(added)?;
         Ok(())
     }
@@ -67,6 +83,7 @@ impl ModuleList {
         requires { place ≤ length self.old }
         ensures { self.new ≡ (if is_ok result then insert self.old place added else self.old) }
     {
+        self.marks.add(&mut self.keys, added.module());
         self.items.insert(place, added)?;
         Ok(())
     }
@@ -109,7 +126,9 @@ impl ModuleList {
         requires { 0 < length self.old }
         ensures { RegistersFirst (infos_of info natives.now) reg id self.old result self.new }
     {
-        self.items[0].register(alloc, reg, natives, id)
+        let answer = self.items[0].register(alloc, reg, natives, id);
+        self.marks.add(&mut self.keys, self.items[0].module());
+        answer
     }
 
     /// The same, and answers what is said of the native.
@@ -124,7 +143,9 @@ impl ModuleList {
         ensures registers { RegistersFirst (infos_of info natives.now) reg id self.old result self.new }
         ensures metadata { IfOk result (FirstTells (infos_of info natives.now) reg id self.old) }
     {
-        self.items[0].register_told(alloc, reg, natives, id)
+        let answer = self.items[0].register_told(alloc, reg, natives, id);
+        self.marks.add(&mut self.keys, self.items[0].module());
+        answer
     }
 
     /// Registers the natives of two numbers in the first module, both or none. The module is copied first
@@ -141,7 +162,9 @@ impl ModuleList {
         requires { 0 < length self.old }
         ensures { RegistersBothFirst (infos_of info natives.now) get_reg get set_reg set self.old result self.new }
     {
-        self.items[0].register_both(alloc, natives, get_reg, get, set_reg, set)
+        let answer = self.items[0].register_both(alloc, natives, get_reg, get, set_reg, set);
+        self.marks.add(&mut self.keys, self.items[0].module());
+        answer
     }
 
     /// Registers a function in the first module, as `FuncRegistration::set_into_module_raw` does. The
@@ -159,7 +182,9 @@ impl ModuleList {
         requires volatility { reg.volatility ≡ None }
         ensures { RegistersRawFirst (infos_of info natives.now) reg types.now func self.old result self.new }
     {
-        self.items[0].register_raw(alloc, reg, natives, types, func)
+        let answer = self.items[0].register_raw(alloc, reg, natives, types, func);
+        self.marks.add(&mut self.keys, self.items[0].module());
+        answer
     }
 
     /// The type of this type name is shown by this name in the first module, which is copied first where
@@ -174,7 +199,32 @@ impl ModuleList {
         ensures ok { OnOk result (self.new ≡ in_first (with_type type_name display []) self.old) }
         ensures err { OnErr result (self.new ≡ self.old) }
     {
-        self.items[0].set_custom_type_raw(alloc, type_name, display)
+        let answer = self.items[0].set_custom_type_raw(alloc, type_name, display);
+        self.marks.add(&mut self.keys, self.items[0].module());
+        answer
+    }
+
+    /// Whether one of them may have a script.
+    pub fn may_have_script(&self) -> bool
+        ensures { result ≡ false → (key : Key) → is_script_key key ≡ true → list_all (lacks key) self.now ≡ true }
+    {
+        self.marks.may_have_script()
+    }
+
+    /// Whether one of them may have a function under a key. Where it can't, each of them needn't be asked.
+    pub fn may_have(&self, key: &HashedKey) -> bool
+        ensures { result ≡ false → list_all (lacks key.now) self.now ≡ true }
+    {
+        self.marks.may_have(&self.keys, key)
+    }
+
+    /// Whether one of them may have a native of a key's name with as many parameters, one of which is of any
+    /// type.
+    pub fn may_have_dynamic(&self, hash: UntypedHash, key: &Key) -> bool
+        requires { IsUntyped hash key.now }
+        ensures { result ≡ false → list_all (lacks_dynamic (key_name key.now) (key_params key.now)) self.now ≡ true }
+    {
+        self.marks.may_have_dynamic(hash, key)
     }
 
     pub fn len(&self) -> usize
@@ -194,6 +244,10 @@ impl ModuleList {
 #[derive(Drop)]
 pub struct ImportList {
     items: Vec<(Text, SharedModule)>,
+    /// What these may have, and some that were taken off.
+    marks: Marks,
+    /// Marks the hashes of their keys.
+    keys: BloomFilterU64<128>,
 }
 
 impl Model for ImportList {
@@ -201,6 +255,7 @@ impl Model for ImportList {
     ghost use Rattle.std.specs.Coded.{coded×, coded_ℕ, coded_list};
     ghost use Rattle.rhd_module.specs.Codes.{tree_code};
     ghost use Rattle.rhd_layers.specs.Lists.{Imports, all_indexed};
+    ghost use Rattle.rhd_layers.specs.Marks.{Tells, named_one, lacks_below};
 
     ghost Value = { Imports };
 
@@ -208,7 +263,7 @@ impl Model for ImportList {
 
     ghost view = { λ a. a.items.items };
 
-    ghost invariant = { λ a. all_indexed a.items.items ≡ true };
+    ghost invariant = { λ a. (all_indexed a.items.items ≡ true) × Tells named_one lacks_below 128 a.marks a.keys a.items.items };
 }
 
 impl ImportList {
@@ -217,6 +272,8 @@ impl ImportList {
     {
         ImportList {
             items: Vec::new(alloc),
+            marks: Marks::new(),
+            keys: BloomFilterU64::new(),
         }
     }
 
@@ -224,11 +281,9 @@ impl ImportList {
     pub fn dup(&self, alloc: Global) -> Result<ImportList, OutOfMemory>
         ensures { IfOk result (λ imports. imports ≡ self.now) }
     {
-        let mut items = Vec::new(alloc);
-        for (name, module) in &self.items {
-            items.push((name.dup(alloc)?, module.dup(alloc)?))?;
-        }
-        Ok(ImportList { items })
+        let mut imports = ImportList::new(alloc);
+        push_all(&mut imports, alloc, self.as_slice())?;
+        Ok(imports)
     }
 
     /// Puts an indexed module with a name last.
@@ -237,6 +292,7 @@ impl ImportList {
         requires { added.own.indexed ≡ true }
         ensures { self.new ≡ (if is_ok result then self.old ++ (name, added) ∷ [] else self.old) }
     {
+        self.marks.add_tree(&mut self.keys, added.module());
         self.items.push((name, added))?;
         Ok(())
     }
@@ -258,6 +314,7 @@ impl ImportList {
         if len == 0 {
             return;
         }
+        self.marks.add_tree(&mut self.keys, added.module());
         self.items[len - 1].1 = added;
     }
 
@@ -288,6 +345,30 @@ impl ImportList {
             }
         }
         None
+    }
+
+    /// Whether the tree of one of them may have a script.
+    pub fn may_have_script(&self) -> bool
+        ensures { result ≡ false → (key : Key) → is_script_key key ≡ true → list_all (λ e. lacks_below key e.1) self.now ≡ true }
+    {
+        self.marks.may_have_script()
+    }
+
+    /// Whether the tree of one of them may have a function under a key. Where it can't, each of them needn't
+    /// be asked.
+    pub fn may_have(&self, key: &HashedKey) -> bool
+        ensures { result ≡ false → list_all (λ e. lacks_below key.now e.1) self.now ≡ true }
+    {
+        self.marks.may_have(&self.keys, key)
+    }
+
+    /// Whether the tree of one of them may have a native of a key's name with as many parameters, one of
+    /// which is of any type.
+    pub fn may_have_dynamic(&self, hash: UntypedHash, key: &Key) -> bool
+        requires { IsUntyped hash key.now }
+        ensures { result ≡ false → list_all (λ e. lacks_dynamic (key_name key.now) (key_params key.now) e.1) self.now ≡ true }
+    {
+        self.marks.may_have_dynamic(hash, key)
     }
 
     pub fn len(&self) -> usize

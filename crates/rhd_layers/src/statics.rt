@@ -1,19 +1,24 @@
 //! Static modules.
 
-ghost use Rattle.std.specs.Prelude.{◌≡◌, [], true, length, if◌then◌else◌, is_ok, IfOk, OnOk, IfErr, OnErr};
+ghost use Rattle.std.specs.Prelude.{◌≡◌, [], false, true, length, if◌then◌else◌, is_ok, IfOk, OnOk, IfErr, OnErr};
 ghost use Rattle.std.specs.Option.{option_copied};
 ghost use Rattle.std.specs.List.Sorted.{IsStrictlySortedBy};
 ghost use Rattle.std.specs.Map.{keys_of};
 ghost use Rattle.std.specs.Ordering.{nat_cmp};
 ghost use Rattle.std.specs.Cmp.Lexicographic.{slice_cmp};
-ghost use Rattle.std.specs.List.{AllByRecursion};
+ghost use Rattle.std.specs.List.{AllByRecursion, list_all};
+ghost use Rattle.rhd_hash.specs.declared.key.Key.{Key};
+ghost use Rattle.rhd_hash.specs.Keys.{key_name, key_params, is_script_key};
+ghost use Rattle.rhd_hash.specs.Untyped.{IsUntyped};
 ghost use Rattle.rhd_layers.specs.Lists.{all_indexed, module_of, put_module};
+ghost use Rattle.rhd_layers.specs.Marks.{lacks_below, lacks_dynamic};
 ghost use Rattle.rhd_layers.specs.Statics.{placed, made, put_static, made_by, TreeClear, IsTreeRefusal, Places};
 
+use crate::marks::Marks;
 use crate::parts::parts_of;
 use crate::placing::placed;
 use crate::shared::SharedModule;
-use rhd_hash::Seeds;
+use rhd_hash::{BloomFilterU64, HashedKey, Key, Seeds, UntypedHash};
 use rhd_module::{DeclFault, Module};
 use rhd_value::{OutOfMemory, Text};
 use std::alloc::Global;
@@ -25,6 +30,10 @@ use std::marker::Model;
 #[derive(Drop)]
 pub struct ModuleMap {
     modules: BTreeMap<Text, SharedModule>,
+    /// What these may have, and some that were replaced.
+    marks: Marks,
+    /// Marks the hashes of their keys. It has room for many, since each of these modules is asked last.
+    keys: BloomFilterU64<8192>,
 }
 
 impl Model for ModuleMap {
@@ -32,6 +41,7 @@ impl Model for ModuleMap {
     ghost use Rattle.std.specs.Coded.{coded×, coded_ℕ, coded_list};
     ghost use Rattle.rhd_module.specs.Codes.{tree_code};
     ghost use Rattle.rhd_layers.specs.Lists.{Imports, all_indexed};
+    ghost use Rattle.rhd_layers.specs.Marks.{Tells, named_one, lacks_below};
 
     ghost Value = { Imports };
 
@@ -39,7 +49,7 @@ impl Model for ModuleMap {
 
     ghost view = { λ m. m.modules.entries };
 
-    ghost invariant = { λ m. all_indexed m.modules.entries ≡ true };
+    ghost invariant = { λ m. (all_indexed m.modules.entries ≡ true) × Tells named_one lacks_below 8192 m.marks m.keys m.modules.entries };
 }
 
 impl ModuleMap {
@@ -48,6 +58,8 @@ impl ModuleMap {
     {
         ModuleMap {
             modules: BTreeMap::new(alloc),
+            marks: Marks::new(),
+            keys: BloomFilterU64::new(),
         }
     }
 
@@ -74,11 +86,36 @@ impl ModuleMap {
         self.modules.iter()
     }
 
+    /// Whether the tree of one of them may have a script.
+    pub fn may_have_script(&self) -> bool
+        ensures { result ≡ false → (key : Key) → is_script_key key ≡ true → list_all (λ e. lacks_below key e.1) self.now ≡ true }
+    {
+        self.marks.may_have_script()
+    }
+
+    /// Whether the tree of one of them may have a function under a key. Where it can't, each of them needn't
+    /// be asked.
+    pub fn may_have(&self, key: &HashedKey) -> bool
+        ensures { result ≡ false → list_all (λ e. lacks_below key.now e.1) self.now ≡ true }
+    {
+        self.marks.may_have(&self.keys, key)
+    }
+
+    /// Whether the tree of one of them may have a native of a key's name with as many parameters, one of
+    /// which is of any type.
+    pub fn may_have_dynamic(&self, hash: UntypedHash, key: &Key) -> bool
+        requires { IsUntyped hash key.now }
+        ensures { result ≡ false → list_all (λ e. lacks_dynamic (key_name key.now) (key_params key.now) e.1) self.now ≡ true }
+    {
+        self.marks.may_have_dynamic(hash, key)
+    }
+
     /// Puts an indexed module under a name, in the place of one of an equal name.
     pub fn insert(&mut self, name: Text, added: SharedModule) -> Result<(), OutOfMemory>
         requires { added.own.indexed ≡ true }
         ensures { self.new ≡ (if is_ok result then put_module name added self.old else self.old) }
     {
+        self.marks.add_wide(&mut self.keys, added.module());
         self.modules.insert(name, added)?;
         Ok(())
     }
@@ -91,7 +128,11 @@ impl ModuleMap {
         for (name, module) in self.modules.iter() {
             copy.insert(name.dup(alloc)?, module.dup(alloc)?)?;
         }
-        Ok(ModuleMap { modules: copy })
+        Ok(ModuleMap {
+            modules: copy,
+            marks: self.marks.dup()?,
+            keys: self.keys.clone()?,
+        })
     }
 
     /// The module itself that stands under a name.

@@ -7,6 +7,7 @@ pub mod Fills
 pub mod Kept
 pub mod Absent
 pub mod Listed
+pub mod Covered
 pub mod Lookups
 pub mod SamePairs
 pub mod Banned

@@ -3,6 +3,7 @@
 
 mod contents;
 mod declaring;
+mod filters;
 mod in_place;
 mod index;
 mod law;

@@ -8,7 +8,6 @@ use Rattle.rhd_decl.specs.declared.declaration.Declaration.{Declaration}
 use Rattle.rhd_table.specs.Pairs.{Pairs, put}
 use Rattle.rhd_table.specs.Found.{commented, comment_on}
 use Rattle.rhd_table.specs.NativeIndex.{is_native_of, places_from}
-use Rattle.rhd_table.specs.Scripts.{has_script}
 
 module _ (k : Key) (comments : List Bytes) where
   put_step : (d : Declaration) (p : Key × Declaration) (ps : Pairs) (same : Bool) → key_eq k p.0 ≡ same → (lookup (key_eq k) ps ≡ Some d → put k (commented comments d) ps ≡ comment_on k comments ps)
@@ -41,12 +40,3 @@ module _ (k : Key) (comments : List Bytes) where
   pub places_commented : (n : ℕ) (name : Bytes) (ps : Pairs) → places_from n name (comment_on k comments ps) ≡ places_from n name ps
   places_commented n name [] = refl
   places_commented n name (p ∷ ps) = places_step n name p ps (key_eq k p.0) (places_commented (n + 1) name ps)
-
-  scripts_step : (p : Key × Declaration) (ps : Pairs) (same : Bool) → has_script (comment_on k comments ps) ≡ has_script ps
-      → has_script (cond same ((p.0, commented comments p.1) ∷ ps) (p ∷ comment_on k comments ps)) ≡ has_script (p ∷ ps)
-  scripts_step p ps true ih = refl
-  scripts_step p ps false ih = ap (λ (b : Bool). is_script_key p.0 || b) ih
-
-  pub scripts_commented : (ps : Pairs) → has_script (comment_on k comments ps) ≡ has_script ps
-  scripts_commented [] = refl
-  scripts_commented (p ∷ ps) = scripts_step p ps (key_eq k p.0) (scripts_commented ps)

@@ -2,7 +2,6 @@ pub mod Puts
 pub mod Noted
 pub mod Places
 pub mod PlacesBack
-pub mod Scripts
 pub mod Commented
 pub mod Listed
 pub mod Lookups

@@ -26,9 +26,7 @@ use Rattle.rhd_table.proofs.Puts.{there, kept}
 use Rattle.std.proofs.Common.{◌||◌}
 use Rattle.std.specs.List.{list_any}
 use Rattle.rhd_hash.specs.Keys.{is_script_key}
-use Rattle.rhd_table.specs.Scripts.{has_script, AreNoted}
 use Rattle.rhd_table.proofs.Kept.{any_put}
-use Rattle.rhd_table.proofs.Scripts.{first_false, second_false}
 
 -- what a list has given, and what is left of it
 pub taken_front : {X A : Type 0} (start : IntoIter X A) (done : List X) (last : IntoIter X A) → Yields into_iter_steps start done last → into_iter_items start ≡ done ++ into_iter_items last
@@ -105,8 +103,3 @@ or_false false = refl
 pub any_all : (test : Key → Bool) (ps x : Pairs) → list_any (λ p. test p.0) (put_all ps x) ≡ (list_any (λ p. test p.0) x || list_any (λ p. test p.0) ps)
 any_all test [] x = sym (or_false (list_any (λ p. test p.0) x))
 any_all test (p ∷ ps) x = any_all test ps (put p.0 p.1 x) ∙ ap (λ b. b || list_any (λ q. test q.0) ps) (any_put test p.0 p.1 x) ∙ or_assoc (list_any (λ q. test q.0) x) (test p.0) (list_any (λ q. test q.0) ps)
-
--- and the note of scripts, where it takes in what is known of those that are put in
-pub scripts_grown : (noted more : Bool) (there new old grown : Pairs) → AreNoted noted old → AreNoted more there → AreNoted more new → grown ≡ put_all there (put_all new old) → AreNoted (noted || more) grown
-scripts_grown noted more there new old grown had a b is none =
-    ap has_script is ∙ any_all is_script_key there (put_all new old) ∙ (λ i. (any_all is_script_key new old ∙ (λ j. had (first_false noted more none) j || b (second_false noted more none) j)) i || a (second_false noted more none) i)

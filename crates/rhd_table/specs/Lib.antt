@@ -4,5 +4,4 @@ pub mod Paths
 pub mod Indexed
 pub mod Found
 pub mod NativeIndex
-pub mod Scripts
 pub mod Tells

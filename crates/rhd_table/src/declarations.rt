@@ -1,9 +1,10 @@
 //! Declarations by key, and what is searched for among them.
 
-ghost use Rattle.std.specs.Prelude.{◌≡◌, ℕ, List, ◌++◌, [], length, slice_get, None, is_none, is_some, true, OnOk, OnErr, IfOk, IfErr};
+ghost use Rattle.std.specs.Prelude.{◌≡◌, ℕ, List, ◌++◌, [], length, slice_get, None, is_none, is_some, true, false, OnOk, OnErr, IfOk, IfErr};
 ghost use Rattle.std.specs.List.{AllByRecursion, list_any};
 ghost use Rattle.std.specs.Map.{lookup, keys_of};
 ghost use Rattle.std.specs.Option.{option_copied, option_map};
+ghost use Rattle.rhd_hash.specs.Covers.{Covers, HasNoScript};
 ghost use Rattle.rhd_hash.specs.Keys.{key_eq};
 ghost use Rattle.rhd_hash.specs.Matching.{key_matches};
 ghost use Rattle.rhd_hash.specs.Refusal.{IsRefusal};
@@ -14,7 +15,6 @@ ghost use Rattle.rhd_table.specs.Found.{commented, comment_on, script_in};
 ghost use Rattle.rhd_table.specs.Indexed.{IsClash};
 ghost use Rattle.rhd_table.specs.NativeIndex.{noted, place_at, matches_at};
 ghost use Rattle.rhd_table.specs.Pairs.{put, put_all};
-ghost use Rattle.rhd_table.specs.Scripts.{has_script};
 
 use crate::growing::grow;
 use crate::native_index::NativeIndex;
@@ -22,7 +22,7 @@ use crate::script_search::{typed_script, untyped_script};
 use indexmap::map::Values;
 use rhd_decl::{DeclFault, Declaration, SharedMetadata};
 use rhd_func::SharedDef;
-use rhd_hash::{HashedKey, Key, KeyTable, Seeds};
+use rhd_hash::{BloomFilterU64, HashedKey, Key, KeyTable, Seeds};
 use rhd_value::{OutOfMemory, Text, Texts, TypeTag};
 use std::alloc::Global;
 use std::marker::Model;
@@ -34,21 +34,18 @@ pub struct Declarations {
     table: KeyTable<Declaration>,
     /// Where the natives of a name stand.
     natives: NativeIndex,
-    /// Whether a script was ever declared: if not, a search for one ends at once.
-    scripts: bool,
 }
 
 impl Model for Declarations {
     ghost use Rattle.rhd_decl.specs.declared.declaration.Declaration.{Declaration as Decl};
     ghost use Rattle.rhd_hash.specs.Table.{Table};
     ghost use Rattle.rhd_table.specs.NativeIndex.{IsIndex};
-    ghost use Rattle.rhd_table.specs.Scripts.{AreNoted};
 
     ghost Value = { Table Decl };
 
     ghost view = { λ d. d.table };
 
-    ghost invariant = { λ d. IsIndex d.natives d.table.pairs × AreNoted d.scripts d.table.pairs };
+    ghost invariant = { λ d. IsIndex d.natives d.table.pairs };
 }
 
 /// Notes the place of a declaration under its name, if it is a native's without a path.
@@ -97,7 +94,6 @@ impl Declarations {
         Declarations {
             table: KeyTable::new(alloc, seeds),
             natives: NativeIndex::new(alloc),
-            scripts: false,
         }
     }
 
@@ -111,6 +107,20 @@ impl Declarations {
         ensures { result ≡ self.now.seeds }
     {
         self.table.seeds()
+    }
+
+    /// A filter that has a mark for the hash of each key.
+    pub fn key_marks(&self) -> &BloomFilterU64<128>
+        ensures { Covers 128 result.now self.now.seeds self.now.pairs }
+    {
+        self.table.marks()
+    }
+
+    /// Whether a script may be declared.
+    pub fn may_have_script(&self) -> bool
+        ensures { result ≡ false → HasNoScript self.now.pairs }
+    {
+        self.table.may_have_script()
     }
 
     /// The number of declarations.
@@ -139,9 +149,6 @@ impl Declarations {
     pub fn get_hashed(&self, key: &HashedKey) -> Option<&Declaration>
         ensures { option_copied result ≡ lookup (key_eq key.now) self.now.pairs }
     {
-        if !self.scripts && key.key().is_script() {
-            return None;
-        }
         self.table.get_hashed(key)
     }
 
@@ -193,7 +200,6 @@ impl Declarations {
         ensures refused { IfErr result (λ fault. (clash : TableFault) × (fault ≡ collision clash) × IsRefusal self.old key clash) }
     {
         let place = self.table.len();
-        self.scripts |= key.is_script();
         match put_pair(&mut self.table, key, declaration) {
             Err(fault) => return Err(fault),
             Ok(true) => return Ok(true),
@@ -222,8 +228,6 @@ impl Declarations {
         ensures clash { IfErr result (IsClash self.old.seeds (keys_of (put_all new.items self.old.pairs))) }
         ensures err { OnErr result (self.new ≡ self.old) }
     {
-        let scripts = has_script(there.as_slice()) | has_script(new.as_slice());
-        self.scripts |= scripts;
         grow(&mut self.table, &mut self.natives, alloc, there, new)
     }
 
@@ -249,21 +253,8 @@ impl Declarations {
         Ok(Declarations {
             table: dup_declarations(alloc, &self.table)?,
             natives: self.natives.dup(alloc)?,
-            scripts: self.scripts,
         })
     }
-}
-
-/// Whether some declaration is a script's.
-fn has_script(pairs: &[(Key, Declaration)]) -> bool
-    ensures { result ≡ has_script pairs.now }
-{
-    for (key, _declaration) in pairs {
-        if key.is_script() {
-            return true;
-        }
-    }
-    false
 }
 
 /// An equal declaration but for its comments.

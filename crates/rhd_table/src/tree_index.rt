@@ -4,6 +4,7 @@ ghost use Rattle.std.specs.Prelude.{ℕ, ◌≡◌, ◌||◌, ◌++◌, ◌∷�
 ghost use Rattle.std.specs.Option.{option_copied};
 ghost use Rattle.std.specs.List.{list_any};
 ghost use Rattle.std.specs.Map.{lookup, keys_of};
+ghost use Rattle.rhd_hash.specs.Covers.{Covers, HasNoScript};
 ghost use Rattle.rhd_hash.specs.Filter.{is_marked};
 ghost use Rattle.rhd_hash.specs.Keys.{key_eq};
 ghost use Rattle.rhd_hash.specs.PutIn.{put_in};
@@ -78,6 +79,35 @@ impl TreeIndex {
         ensures { result ≡ self.now.seeds }
     {
         self.table.seeds()
+    }
+
+    /// A filter that has a mark for the hash of each key.
+    pub fn key_marks(&self) -> &BloomFilterU64<128>
+        ensures { Covers 128 result.now self.now.seeds self.now.pairs }
+    {
+        self.table.marks()
+    }
+
+    /// Marks the hash of each key in another filter.
+    pub fn mark_keys(&self, filter: &mut BloomFilterU64<8192>)
+        ensures kept { (v : ℕ) → is_marked 8192 filter.new v ≡ false → is_marked 8192 filter.old v ≡ false }
+        ensures covers { Covers 8192 filter.new self.now.seeds self.now.pairs }
+    {
+        self.table.mark_keys(filter);
+    }
+
+    /// Whether a script's key may be there.
+    pub fn may_have_script(&self) -> bool
+        ensures { result ≡ false → HasNoScript self.now.pairs }
+    {
+        self.table.may_have_script()
+    }
+
+    /// A filter that has a mark for each hash of a key with a parameter of any type.
+    pub fn dynamic_marks(&self) -> &BloomFilterU64<8>
+        ensures { result.now ≡ self.now.marks }
+    {
+        &self.filter
     }
 
     /// The function under a key.

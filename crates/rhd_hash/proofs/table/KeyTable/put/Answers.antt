@@ -2,6 +2,7 @@ use Rattle.std.proofs.Common.{◌≡◌, List, map, nat_eq, sym, ap, subst, ◌�
 use Rattle.std.specs.Map.{lookup}
 use Rattle.std.specs.Option.{option_map}
 use Rattle.indexmap.specs.IndexMap.{insert_entry}
+use Rattle.rhd_hash.specs.Covers.{Covers, HasNoScript}
 use Rattle.rhd_hash.specs.PutIn.{put_in}
 use Rattle.rhd_hash.specs.declared.key.Key.{Key}
 use Rattle.rhd_hash.specs.Keys.{key_eq, key_eq-Decides}
@@ -9,6 +10,7 @@ use Rattle.rhd_hash.specs.Parts.{mixed}
 use Rattle.rhd_hash.specs.Table.{Table, HasOwnHashes}
 use Rattle.rhd_hash.specs.Slots.{hashed, IsFree}
 use Rattle.rhd_hash.proofs.Tables.{lookup-hashed, lookup-none, lookup-free, insert-hashed, behind-hashed, apart-hashed, pairs-hashed}
+use Rattle.rhd_hash.proofs.Covered.{put_covered, put_noted}
 use Rattle.rhd_hash.proofs.table.KeyTable.put.Goals as goal
 use Rattle.rhd_hash.proofs.table.KeyTable.put.Goals.{After-value_of}
 
@@ -30,7 +32,15 @@ unfolding HasOwnHashes
 invariant_of-self g c =
     let hash = mixed c.self.inside.seeds in
     let e = behind-hashed hash _ _ (slots_after g c) in
-    record { behind = e; apart = apart-hashed hash _ e c.in-Ok.ensures.unique }
+    let after = ap (map (λ e. e.1)) (slots_after g c) ∙ pairs-hashed hash _ in
+    let P : List (Key × g.row.V.Denot) → Type 0 = λ qs. Covers 128 c.mark.new.self c.self.inside.seeds qs in
+    let put = put_covered c.self.inside.seeds c.self.inside.marks c.mark.new.self (map (λ e. e.1) c.self.inside.slots.entries) c.args.key c.args.value c.args.hash (hashed_by g c) c.mark.ensures c.self.invariant.covered in
+    record {
+      behind = e;
+      apart = apart-hashed hash _ e c.in-Ok.ensures.unique;
+      covered = subst P (sym after) put;
+      noted = λ none. subst (λ (qs : List (Key × g.row.V.Denot)). HasNoScript qs) (sym after) (put_noted c.self.inside.scripts c.is_script-script.result (map (λ e. e.1) c.self.inside.slots.entries) c.args.key c.args.value c.is_script-script.ensures c.self.invariant.noted none);
+    }
 
 pub returns-in-Ok-clause-old : goal.returns-in-Ok-clause-old
 returns-in-Ok-clause-old g c =

@@ -2,12 +2,9 @@ use Rattle.std.proofs.Common.{sym, ap, ◌∙◌}
 use Rattle.rhd_hash.specs.Table.{Table}
 use Rattle.rhd_decl.specs.declared.declaration.Declaration.{Declaration}
 use Rattle.rhd_table.specs.NativeIndex.{places_from}
-use Rattle.rhd_table.specs.Scripts.{has_script}
 use Rattle.rhd_table.proofs.declarations.Declarations.dup.Goals as goal
 
 pub invariant_of-result : goal.invariant_of-result
 invariant_of-result c =
-    let table = c.in_ok-dup_declarations.ensures in (
-      λ name. c.in_ok-dup.ensures name ∙ c.self.invariant.0 name ∙ ap (λ (t : Table Declaration). places_from 0 name t.pairs) (sym table),
-      λ none. ap (λ (t : Table Declaration). has_script t.pairs) table ∙ c.self.invariant.1 none,
-    )
+    let table = c.in_ok-dup_declarations.ensures in
+    λ name. c.in_ok-dup.ensures name ∙ c.self.invariant name ∙ ap (λ (t : Table Declaration). places_from 0 name t.pairs) (sym table)

@@ -17,4 +17,4 @@ loop-place-init c =
     let P : Table Declaration → Type 0 = λ t. list_any (matches_at t.pairs exact name kinds) places ≡ list_any (λ p. key_matches exact name kinds p.0) t.pairs in
     subst P c.self.view_is (
     ap (list_any (matches_at inside.table.pairs exact name kinds)) c.places-place-items.ensures
-    ∙ matches_at_places inside.natives inside.table.pairs exact name kinds c.self.invariant.0)
+    ∙ matches_at_places inside.natives inside.table.pairs exact name kinds c.self.invariant)

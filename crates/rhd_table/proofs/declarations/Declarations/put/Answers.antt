@@ -8,15 +8,13 @@ use Rattle.rhd_table.specs.Pairs.{Pairs, put}
 use Rattle.rhd_table.specs.NativeIndex.{IsIndex, noted, place_at}
 use Rattle.rhd_table.proofs.Places.{index_put_there, index_put_last, take_put}
 use Rattle.rhd_table.proofs.Puts.{is_there, is_absent}
-use Rattle.rhd_table.proofs.Scripts.{noted_put, noted_still}
 use Rattle.rhd_table.proofs.declarations.Declarations.put.Goals as goal
 use Rattle.rhd_table.proofs.declarations.Declarations.put.Goals.{After-truncate}
 
 pub invariant_of-self : goal.invariant_of-self
 invariant_of-self c =
     let same = c.in-Err.ensures.unchanged in
-    let scripts = noted_still c.self.inside.scripts c.is_script.result c.self.inside.table.pairs c.put_pair.new.table.pairs c.self.invariant.1 (ap (λ (t : Table Declaration). t.pairs) same) in
-    (subst (λ (t : Table Declaration). IsIndex c.self.inside.natives t.pairs) (sym same) c.self.invariant.0, scripts)
+    subst (λ (t : Table Declaration). IsIndex c.self.inside.natives t.pairs) (sym same) c.self.invariant
 
 pub invariant_of-self-in-Ok-true : goal.invariant_of-self-in-Ok-true
 invariant_of-self-in-Ok-true c =
@@ -24,9 +22,8 @@ invariant_of-self-in-Ok-true c =
     let key = c.args.key in
     let puts : c.put_pair.new.table.pairs ≡ put key c.args.declaration es = ap (λ (t : Table Declaration). t.pairs) c.in-Ok-true.ensures.pairs in
     let there = is_there (lookup (key_eq key) es) (sym c.in-Ok-true.ensures.replaced ∙ c.in-Ok-true.field-0-test) in
-    let index = index_put_there c.self.inside.natives key c.args.declaration es c.self.invariant.0 there in
-    let scripts = noted_put c.self.inside.scripts c.is_script.result key c.args.declaration es c.put_pair.new.table.pairs c.self.invariant.1 c.is_script.ensures puts in
-    (subst (λ (ps : Pairs). IsIndex c.self.inside.natives ps) (sym puts) index, scripts)
+    let index = index_put_there c.self.inside.natives key c.args.declaration es c.self.invariant there in
+    subst (λ (ps : Pairs). IsIndex c.self.inside.natives ps) (sym puts) index
 
 pub invariant_of-self-in-Ok : goal.invariant_of-self-in-Ok
 invariant_of-self-in-Ok c =
@@ -39,8 +36,7 @@ invariant_of-self-in-Ok c =
     let absent = is_absent (lookup (key_eq key) es) (sym c.in-Ok-false.ensures.replaced ∙ c.in-Ok-false.field-0-test) in
     let P : Pairs → ℕ → Type 0 = λ ps place. (name : Bytes) → noted new name ≡ noted old name ++ place_at name ps place in
     let notes : P (put key d es) (length es) = subst (λ (ps : Pairs). P ps (length es)) puts (subst (λ (place : ℕ). P c.put_pair.new.table.pairs place) c.len-place.ensures c.in-Ok.ensures.ok) in
-    let scripts = noted_put c.self.inside.scripts c.is_script.result key d es c.put_pair.new.table.pairs c.self.invariant.1 c.is_script.ensures puts in
-    (subst (λ (ps : Pairs). IsIndex new ps) (sym puts) (index_put_last old new key d es c.self.invariant.0 absent notes), scripts)
+    subst (λ (ps : Pairs). IsIndex new ps) (sym puts) (index_put_last old new key d es c.self.invariant absent notes)
 
 -- what was put last is taken out again
 as_before : (c : After-truncate) → c.truncate.new.self ≡ c.self.inside.table
@@ -56,9 +52,8 @@ pub invariant_of-self-in-Err-note_place : goal.invariant_of-self-in-Err-note_pla
 invariant_of-self-in-Err-note_place c =
     let es = c.self.inside.table.pairs in
     let same = ap (λ (t : Table Declaration). t.pairs) (as_before c) in
-    let index : IsIndex c.note_place.new.natives es = λ name. c.in-Err-note_place.ensures.err name ∙ c.self.invariant.0 name in
-    let scripts = noted_still c.self.inside.scripts c.is_script.result es c.truncate.new.self.pairs c.self.invariant.1 same in
-    (subst (λ (ps : Pairs). IsIndex c.note_place.new.natives ps) (sym same) index, scripts)
+    let index : IsIndex c.note_place.new.natives es = λ name. c.in-Err-note_place.ensures.err name ∙ c.self.invariant name in
+    subst (λ (ps : Pairs). IsIndex c.note_place.new.natives ps) (sym same) index
 
 pub returns-in-Err-note_place-clause-unchanged : goal.returns-in-Err-note_place-clause-unchanged
 returns-in-Err-note_place-clause-unchanged c = as_before c ∙ c.self.view_is
