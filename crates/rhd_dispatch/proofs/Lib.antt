@@ -3,6 +3,7 @@ pub mod Founds
 pub mod Passes
 pub mod Layers
 pub mod PatternWalk
+pub mod Lacking
 pub mod NativeLooks
 pub mod Tables
 pub mod Picks

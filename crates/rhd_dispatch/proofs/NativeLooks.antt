@@ -1,7 +1,7 @@
 -- Where no module may have a native, none is found.
-use Rattle.std.proofs.Common.{◌≡◌, ℕ, ◌+◌, Bool, true, false, cond, ◌&&◌, ◌||◌, ◌==◌, List, [], ◌∷◌, ◌++◌, length, refl, sym, ap, ◌∙◌, eq-eqb, true≢false}
-use Rattle.std.specs.Prelude.{suc, ◌-◌, Option, Some, None, reverse, option_map}
-use Rattle.std.specs.List.{list_any, enumerate_from}
+use Rattle.std.proofs.Common.{◌≡◌, ℕ, ◌+◌, Bool, true, false, not, cond, is_none, ◌&&◌, ◌||◌, ◌==◌, List, [], ◌∷◌, ◌++◌, length, refl, sym, ap, ◌∙◌, eq-eqb, true≢false}
+use Rattle.std.specs.Prelude.{suc, ◌-◌, if◌then◌else◌, Option, Some, None, reverse, option_map}
+use Rattle.std.specs.List.{list_any, list_all, enumerate_from}
 use Rattle.std.specs.Map.{lookup}
 use Rattle.std.specs.Option.{option_or}
 use Rattle.std.proofs.lemmas.Slice.Eq.{bytes_eq-Decides}
@@ -22,7 +22,9 @@ use Rattle.rhd_manifest.specs.Rank.{find_entry}
 use Rattle.rhd_module.proofs.Absent.{absent_qualified}
 use Rattle.rhd_module.proofs.Listed.{shown_past, none_dynamic}
 use Rattle.rhd_table.specs.Marks.{may_be_dynamic, lists_dynamic}
+use Rattle.rhd_module.specs.Below.{some_below, declares_dynamic}
 use Rattle.rhd_module.specs.Matching.{may_match}
+use Rattle.rhd_module.specs.Shown.{shown, own_decl}
 use Rattle.rhd_module.specs.Tree.{ModuleTree}
 use Rattle.rhd_table.specs.Pairs.{Pairs}
 use Rattle.rhd_call.specs.declared.pick.Layer.{Layer}
@@ -30,14 +32,16 @@ use Rattle.rhd_call.specs.declared.pick.Layer.TheVariants.{Library, Global, Impo
 use Rattle.rhd_call.specs.declared.pick.Pick.{Pick}
 use Rattle.rhd_engine.specs.Engine.{EngineLists, Imports}
 use Rattle.rhd_layers.specs.Lists.{all_indexed}
-use Rattle.rhd_layers.proofs.Bools.{parts}
+use Rattle.rhd_layers.specs.Marks.{lacks, lacks_dynamic}
+use Rattle.rhd_layers.proofs.Bools.{both, parts}
 use Rattle.rhd_names.specs.declared.token.OpToken.{OpToken}
 use Rattle.rhd_dispatch.specs.Asks.{Asked, typed, script, native, asked_of, key_of, native_found, declared, builtin, looked}
 use Rattle.rhd_dispatch.specs.Looks.{keys_of}
 use Rattle.rhd_dispatch.specs.Patterns.{patterns}
 use Rattle.rhd_dispatch.specs.Searched.{pick_at, found}
-use Rattle.rhd_dispatch.specs.Walks.{with_types, alone, rooted, place_of, place_of_tree, library_places, global_places, import_trees, static_trees, found_in, first_typed, any_dynamic, may_have, any_may_have, may_list, may_show, any_may_show}
+use Rattle.rhd_dispatch.specs.Walks.{with_types, alone, rooted, place_of, place_of_tree, library_places, global_places, import_trees, static_trees, found_in, first_typed, any_dynamic, may_have, any_may_have, may_list, may_show, any_may_show, in_tree, ShowsNone}
 use Rattle.rhd_dispatch.proofs.Firsts.{or_nones, of_append, of_map, none_reverse}
+use Rattle.rhd_dispatch.proofs.Lacking.{nothing_found, latest_lack, numbered_lack}
 
 pub any_parts : (a b : Bool) → (a || b) ≡ false → (a ≡ false) × (b ≡ false)
 any_parts true b h = absurd cc
@@ -79,29 +83,69 @@ none_listed seeds name types params (e ∷ es) dynamic l none =
     ] in
     by (key_eq (Native None name types) (entry_key e)) refl
 
-no_own : (layer : Layer) (n : ℕ) (name : Bytes) (kinds types : List TypeTag) (params : ℕ) (m : ModuleTree) → types_match n types kinds ≡ true → any_dynamic types ≡ true → length types ≡ params → may_show n name params kinds m ≡ false
-    → pick_at (Native None name types) (alone layer m) ≡ None
-unfolding pick_at
-no_own layer n name kinds types params m matches dynamic l h =
-    let r = any_parts (may_match m n name kinds) (may_list name params m) h in
-    ap (option_map (λ (d : Declaration). record { layer = layer; func = d.func; source = m.own.id }))
-    (shown_past m.own.seeds m.own.eager m.own.listed (Native None name types) (no_entry n name kinds types m.own.eager matches r.0)
-    ∙ ap (option_map (entry_decl m.own.seeds)) (none_listed m.own.seeds name types params m.own.listed dynamic l (none_dynamic m.own.seeds (untyped m.own.seeds name params) m.own.eager m.own.listed r.1)))
-
-no_place : (layer : ℕ → Layer) (n : ℕ) (name : Bytes) (kinds types : List TypeTag) (params k : ℕ) (ms : List ModuleTree) → types_match n types kinds ≡ true → any_dynamic types ≡ true → length types ≡ params
-    → any_may_show n name params kinds ms ≡ false → first_of (λ y. pick_at (Native None name types) (place_of layer y)) (enumerate_from k ms) ≡ None
-no_place layer n name kinds types params k [] matches dynamic l h = refl
-no_place layer n name kinds types params k (m ∷ ms) matches dynamic l h =
-    let r = any_parts (may_show n name params kinds m) (any_may_show n name params kinds ms) h in
-    or_nones (pick_at (Native None name types) (place_of layer (k, m))) (first_of (λ y. pick_at (Native None name types) (place_of layer y)) (enumerate_from (k + 1) ms))
-    (no_own (layer k) n name kinds types params m matches dynamic l r.0) (no_place layer n name kinds types params (k + 1) ms matches dynamic l r.1)
-
 -- types that match are as many
 pub as_many : (n : ℕ) (types kinds : List TypeTag) → types_match n types kinds ≡ true → length types ≡ length kinds
 as_many n [] [] h = refl
 as_many n [] (k ∷ kinds) h = absurd cc
 as_many n (t ∷ types) [] h = absurd cc
 as_many n (t ∷ types) (k ∷ kinds) h = ap suc (as_many (n - 1) types kinds (parts _ (types_match (n - 1) types kinds) h).1)
+
+-- what a module shows has no native that it may not show
+no_own : (n : ℕ) (name : Bytes) (kinds types : List TypeTag) (params : ℕ) (m : ModuleTree) → types_match n types kinds ≡ true → any_dynamic types ≡ true → length types ≡ params → may_show n name params kinds m ≡ false → lacks (Native None name types) m ≡ true
+unfolding own_decl
+no_own n name kinds types params m matches dynamic l h =
+    let r = any_parts (may_match m n name kinds) (may_list name params m) h in
+    ap is_none
+    (shown_past m.own.seeds m.own.eager m.own.listed (Native None name types) (no_entry n name kinds types m.own.eager matches r.0)
+    ∙ ap (option_map (entry_decl m.own.seeds)) (none_listed m.own.seeds name types params m.own.listed dynamic l (none_dynamic m.own.seeds (untyped m.own.seeds name params) m.own.eager m.own.listed r.1)))
+
+none_show : (n : ℕ) (name : Bytes) (kinds types : List TypeTag) (params : ℕ) (ms : List ModuleTree) → types_match n types kinds ≡ true → any_dynamic types ≡ true → length types ≡ params → any_may_show n name params kinds ms ≡ false → list_all (lacks (Native None name types)) ms ≡ true
+none_show n name kinds types params [] matches dynamic l h = refl
+none_show n name kinds types params (m ∷ ms) matches dynamic l h =
+    let r = any_parts (may_show n name params kinds m) (any_may_show n name params kinds ms) h in
+    both (lacks (Native None name types) m) (list_all (lacks (Native None name types)) ms) (no_own n name kinds types params m matches dynamic l r.0) (none_show n name kinds types params ms matches dynamic l r.1)
+
+-- nor one whose hash its filter doesn't tell of
+undeclared : (seeds : Seeds) (name : Bytes) (types : List TypeTag) (params : ℕ) (ps : Pairs) → any_dynamic types ≡ true → length types ≡ params → list_any (λ p. may_be_dynamic seeds (untyped seeds name params) p.0) ps ≡ false
+    → lookup (key_eq (Native None name types)) ps ≡ None
+undeclared seeds name types params [] dynamic l none = refl
+undeclared seeds name types params (p ∷ ps) dynamic l none =
+    let hash = untyped seeds name params in
+    let r = any_parts (may_be_dynamic seeds hash p.0) (list_any (λ q. may_be_dynamic seeds hash q.0) ps) none in
+    let told : may_be_dynamic seeds hash (Native None name types) ≡ true =
+    ap (λ (b : Bool). b && (slot 8 hash == slot 8 (untyped seeds name (length types)))) dynamic ∙ eq-eqb (slot 8 hash) (slot 8 (untyped seeds name (length types))) (ap (λ (c : ℕ). slot 8 (untyped seeds name c)) (sym l)) in
+    let by : (b : Bool) → key_eq (Native None name types) p.0 ≡ b → cond b (Some p.1) (lookup (key_eq (Native None name types)) ps) ≡ None =
+    elim [
+      | true ↦ (λ s. absurd (true≢false (sym told ∙ ap (may_be_dynamic seeds hash) ((key_eq-Decides (Native None name types) p.0).0 s) ∙ r.0)))
+      | false ↦ (λ s. undeclared seeds name types params ps dynamic l r.1)
+    ] in
+    by (key_eq (Native None name types) p.0) refl
+
+-- what a tree doesn't contain, its module doesn't
+own_of : (indexed inner deeper : Bool) → not (if indexed then inner || deeper else inner) ≡ true → inner ≡ false
+own_of true true deeper e = absurd cc
+own_of true false deeper e = refl
+own_of false true deeper e = absurd cc
+own_of false false deeper e = refl
+
+no_dynamic : (name : Bytes) (types : List TypeTag) (params : ℕ) (m : ModuleTree) → any_dynamic types ≡ true → length types ≡ params → lacks_dynamic name params m ≡ true → lacks (Native None name types) m ≡ true
+unfolding own_decl
+no_dynamic name types params m dynamic l h =
+    let hash = untyped m.own.seeds name params in
+    ap is_none (undeclared m.own.seeds name types params (shown m.own) dynamic l (own_of m.own.indexed (declares_dynamic m.own.seeds hash m.own) (some_below (declares_dynamic m.own.seeds hash) m.subs) h))
+
+none_dynamic_own : (name : Bytes) (types : List TypeTag) (params : ℕ) (ms : List ModuleTree) → any_dynamic types ≡ true → length types ≡ params → list_all (lacks_dynamic name params) ms ≡ true → list_all (lacks (Native None name types)) ms ≡ true
+none_dynamic_own name types params [] dynamic l h = refl
+none_dynamic_own name types params (m ∷ ms) dynamic l h =
+    let r = parts (lacks_dynamic name params m) (list_all (lacks_dynamic name params) ms) h in
+    both (lacks (Native None name types) m) (list_all (lacks (Native None name types)) ms) (no_dynamic name types params m dynamic l r.0) (none_dynamic_own name types params ms dynamic l r.1)
+
+-- Modules that may not match.
+pub none_by_names : (n : ℕ) (key : Key) (ms : List ModuleTree) → length (key_types key) ≡ key_params key → any_may_show n (key_name key) (key_params key) (key_types key) ms ≡ false → ShowsNone n key ms
+none_by_names n key ms count h types matches dynamic = none_show n (key_name key) (key_types key) types (key_params key) ms matches dynamic (as_many n types (key_types key) matches ∙ count) h
+
+pub none_by_filter : (n : ℕ) (key : Key) (ms : List ModuleTree) → length (key_types key) ≡ key_params key → list_all (lacks_dynamic (key_name key) (key_params key)) ms ≡ true → ShowsNone n key ms
+none_by_filter n key ms count h types matches dynamic = none_dynamic_own (key_name key) types (key_params key) ms dynamic (as_many n types (key_types key) matches ∙ count) h
 
 -- Trees, by their filters, below a path and without one.
 
@@ -131,22 +175,14 @@ no_tree layer name types params k (e ∷ es) is dynamic l h =
 
 -- where no module may have a native, none of these types is found
 pub not_found : (libs globals : List ModuleTree) (imports statics : Imports) (n : ℕ) (name : Bytes) (kinds types : List TypeTag) → all_indexed imports ≡ true → all_indexed statics ≡ true → types_match n types kinds ≡ true → any_dynamic types ≡ true
-    → any_may_show n name (length kinds) kinds globals ≡ false → any_may_show n name (length kinds) kinds libs ≡ false → any_may_have name (length kinds) imports ≡ false → any_may_have name (length kinds) statics ≡ false
+    → list_all (lacks (Native None name types)) globals ≡ true → list_all (lacks (Native None name types)) libs ≡ true → any_may_have name (length kinds) imports ≡ false → any_may_have name (length kinds) statics ≡ false
     → found_in libs globals imports statics (Native None name types) ≡ None
 not_found libs globals imports statics n name kinds types ii si matches dynamic g l i s =
     let key = Native None name types in
     let many = as_many n types kinds matches in
-    of_append (pick_at key) (library_places libs) (global_places globals ++ (import_trees imports ++ static_trees statics))
-    ∙ or_nones (first_of (pick_at key) (library_places libs)) (first_of (pick_at key) (global_places globals ++ (import_trees imports ++ static_trees statics)))
-    (of_map (pick_at key) (place_of Library) (reverse (enumerate_from 0 libs))
-    ∙ none_reverse (λ y. pick_at key (place_of Library y)) (enumerate_from 0 libs) (no_place Library n name kinds types (length kinds) 0 libs matches dynamic many l))
-    (of_append (pick_at key) (global_places globals) (import_trees imports ++ static_trees statics)
-    ∙ or_nones (first_of (pick_at key) (global_places globals)) (first_of (pick_at key) (import_trees imports ++ static_trees statics))
-    (of_map (pick_at key) (place_of Global) (enumerate_from 0 globals) ∙ no_place Global n name kinds types (length kinds) 0 globals matches dynamic many g)
-    (of_append (pick_at key) (import_trees imports) (static_trees statics)
-    ∙ or_nones (first_of (pick_at key) (import_trees imports)) (first_of (pick_at key) (static_trees statics))
-    (of_map (pick_at key) (place_of_tree Import) (reverse (enumerate_from 0 imports)) ∙ none_reverse (λ y. pick_at key (place_of_tree Import y)) (enumerate_from 0 imports) (no_tree Import name types (length kinds) 0 imports ii dynamic many i))
-    (of_map (pick_at key) (place_of_tree Static) (enumerate_from 0 statics) ∙ no_tree Static name types (length kinds) 0 statics si dynamic many s)))
+    nothing_found libs globals imports statics key (latest_lack key Library libs l) (numbered_lack key Global 0 globals g)
+    (none_reverse (in_tree Import key) (enumerate_from 0 imports) (no_tree Import name types (length kinds) 0 imports ii dynamic many i))
+    (no_tree Static name types (length kinds) 0 statics si dynamic many s)
 
 -- what an engine's lists say
 pub found_is : (e : EngineLists) (libs : List ModuleTree) (imports : Imports) (key : Key) → found e libs imports key ≡ found_in libs e.globals imports e.statics key

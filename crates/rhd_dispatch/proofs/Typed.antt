@@ -13,8 +13,9 @@ use Rattle.rhd_hash.specs.Parts.{untyped}
 use Rattle.rhd_hash.specs.Matching.{types_match}
 use Rattle.rhd_call.specs.declared.pick.Pick.{Pick}
 use Rattle.rhd_dispatch.specs.Patterns.{patterns_to}
-use Rattle.rhd_dispatch.specs.declared.filters.UntypedHash.{UntypedHash}
-use Rattle.rhd_dispatch.specs.Walks.{IsUntyped, with_types, first_match, first_typed, any_dynamic}
+use Rattle.rhd_hash.specs.declared.hashed.UntypedHash.{UntypedHash}
+use Rattle.rhd_hash.specs.Untyped.{IsUntyped}
+use Rattle.rhd_dispatch.specs.Walks.{with_types, first_match, first_typed, any_dynamic}
 use Rattle.rhd_dispatch.proofs.PatternWalk.{walk_prunes, walk_last, walk_over, walk_found, walk_changed, walk_missed_last, walk_missed_over, missed_prunes, dynamic_kept, put_back, or_true, exact_found}
 
 pub own_types : (key : Key) → with_types (key_types key) key ≡ key

@@ -1,6 +1,6 @@
 -- The machine's own words, by which its loops are proved; nothing here has to be believed.
-use Rattle.std.specs.Prelude.{◌≡◌, ℕ, ◌-◌, Bool, ◌||◌, List, ◌++◌, map, take, drop, reverse, Option, None, Some, if◌then◌else◌}
-use Rattle.std.specs.List.{enumerate_from, list_any}
+use Rattle.std.specs.Prelude.{◌≡◌, ℕ, ◌-◌, Bool, true, ◌||◌, List, ◌++◌, map, take, drop, reverse, Option, None, Some, if◌then◌else◌}
+use Rattle.std.specs.List.{enumerate_from, list_any, list_all}
 use Rattle.std.specs.Option.{option_or}
 use Rattle.rhd_value.specs.Tree.{Bytes}
 use Rattle.rhd_value.specs.Firsts.{first_of}
@@ -10,6 +10,7 @@ use Rattle.rhd_value.specs.declared.tag.TypeTag.TheVariants.{Dynamic}
 use Rattle.rhd_hash.specs.declared.key.Key.{Key}
 use Rattle.rhd_hash.specs.declared.key.Key.TheVariants.{Script, Typed, Native}
 use Rattle.rhd_hash.specs.Keys.{key_name, key_params, key_types}
+use Rattle.rhd_hash.specs.Matching.{types_match}
 use Rattle.rhd_hash.specs.Parts.{untyped}
 use Rattle.rhd_func.specs.declared.func.RhaiFunc.{RhaiFunc}
 use Rattle.rhd_module.specs.Below.{may_contain, may_list_dynamic}
@@ -17,11 +18,11 @@ use Rattle.rhd_module.specs.Matching.{may_match}
 use Rattle.rhd_module.specs.Shown.{shown}
 use Rattle.rhd_module.specs.Tree.{ModuleTree}
 use Rattle.rhd_module.specs.Walk.{tree}
+use Rattle.rhd_layers.specs.Marks.{lacks}
 use Rattle.rhd_call.specs.declared.pick.Layer.{Layer}
 use Rattle.rhd_call.specs.declared.pick.Layer.TheVariants.{Library, Global, Import, Static}
 use Rattle.rhd_call.specs.declared.pick.Pick.{Pick}
 use Rattle.rhd_engine.specs.Engine.{Imports}
-use Rattle.rhd_dispatch.specs.declared.filters.UntypedHash.{UntypedHash}
 use Rattle.rhd_dispatch.specs.Patterns.{patterns, patterns_to}
 use Rattle.rhd_dispatch.specs.Picks.{AskedBelow, script_below}
 use Rattle.rhd_dispatch.specs.Searched.{Place, pick_at}
@@ -78,10 +79,6 @@ picked layer func m = record { layer = layer; func = func; source = m.own.id }
 abbrev pub found_in : List ModuleTree → List ModuleTree → Imports → Imports → Key → Option Pick
 found_in libs globals imports statics key = first_of (pick_at key) (all_places libs globals imports statics)
 
--- the hash of a key by its name and its number of parameters
-abbrev pub IsUntyped : UntypedHash → Key → Type 0
-IsUntyped h key = h.hash ≡ untyped h.seeds (key_name key) (key_params key)
-
 -- a native's key with these types
 abbrev pub with_types : List TypeTag → Key → Key
 with_types types (Script path name params) = Script path name params
@@ -113,6 +110,10 @@ may_show n name params kinds m = may_match m n name kinds || may_list name param
 
 abbrev pub any_may_show : ℕ → Bytes → ℕ → List TypeTag → List ModuleTree → Bool
 any_may_show n name params kinds ms = list_any (may_show n name params kinds) ms
+
+-- no module has a native of a key's name for other types, one of which is `Dynamic`, and each of which is that of the key, or, behind the first n ones, `Dynamic`
+abbrev pub ShowsNone : ℕ → Key → List ModuleTree → Type 0
+ShowsNone n key ms = (types : List TypeTag) → types_match n types (key_types key) ≡ true → any_dynamic types ≡ true → list_all (lacks (Native None (key_name key) types)) ms ≡ true
 
 -- the root of a path's first name
 abbrev pub named_at : (ℕ → Layer) → Bytes → ℕ × (Bytes × ModuleTree) → Option Place

@@ -136,7 +136,7 @@ fn look_up<'a>(
 }
 
 /// What answers a question: a declaration, or else, for a native, the built-in operator.
-fn find_answer(
+pub(crate) fn find_answer(
     alloc: Global,
     engine: &Engine,
     state: &GlobalRuntimeState,

@@ -7,7 +7,7 @@ ghost use Rattle.rhd_engine.specs.Of.{lists_of};
 ghost use Rattle.rhd_dispatch.specs.Asks.{looked, native_ask, typed_asks, allowed_asks, asks, pick_unqualified};
 ghost use Rattle.rhd_dispatch.specs.Looks.{most_looks};
 
-use crate::ask::{Ask, resolve};
+use crate::ask::{Ask, find_answer};
 use crate::keys::{kinds_of, params_of};
 use rhd_call::Pick;
 use rhd_engine::{Engine, GlobalRuntimeState};
@@ -26,8 +26,6 @@ fn find_method(
     shape: &CallShape,
     steps: &mut Steps,
 ) -> Result<Option<Pick>, OutOfMemory>
-    requires libs { all_held (length engine.now.natives.items.items) state.now.lib ≡ true }
-    requires imports { named_held (length engine.now.natives.items.items) state.now.imports ≡ true }
     ensures pick { IfOk result (λ pick. pick ≡ first_of (looked (lists_of info engine.now) state.now.lib state.now.imports) (typed_asks (lists_of info engine.now) name.now shape.now)) }
     ensures steps { steps.new ≤ steps.old + most_looks (lists_of info engine.now) state.now.lib state.now.imports (typed_asks (lists_of info engine.now) name.now shape.now) }
 {
@@ -37,7 +35,7 @@ fn find_method(
         CallShape::Method(object, args) => {
             let this_type = engine.display_type(alloc, object)?;
             let mut ask = Ask::typed(alloc, name, args.len() as u64, &this_type)?;
-            resolve(alloc, engine, state, &mut ask, steps)
+            find_answer(alloc, engine, state, &mut ask, steps)
         }
     }
 }
@@ -52,8 +50,6 @@ fn find_script(
     shape: &CallShape,
     steps: &mut Steps,
 ) -> Result<Option<Pick>, OutOfMemory>
-    requires libs { all_held (length engine.now.natives.items.items) state.now.lib ≡ true }
-    requires imports { named_held (length engine.now.natives.items.items) state.now.imports ≡ true }
     ensures pick { IfOk result (λ pick. pick ≡ first_of (looked (lists_of info engine.now) state.now.lib state.now.imports) (allowed_asks (lists_of info engine.now) name.now native_only shape.now)) }
     ensures steps { steps.new ≤ steps.old + most_looks (lists_of info engine.now) state.now.lib state.now.imports (allowed_asks (lists_of info engine.now) name.now native_only shape.now) }
 {
@@ -64,7 +60,7 @@ fn find_script(
         Some(pick) => Ok(Some(pick)),
         None => {
             let mut ask = Ask::script(alloc, name, params_of(shape))?;
-            resolve(alloc, engine, state, &mut ask, steps)
+            find_answer(alloc, engine, state, &mut ask, steps)
         }
     }
 }
@@ -79,14 +75,12 @@ fn find_native(
     shape: &CallShape,
     steps: &mut Steps,
 ) -> Result<Option<Pick>, OutOfMemory>
-    requires libs { all_held (length engine.now.natives.items.items) state.now.lib ≡ true }
-    requires imports { named_held (length engine.now.natives.items.items) state.now.imports ≡ true }
     ensures pick { IfOk result (λ pick. pick ≡ looked (lists_of info engine.now) state.now.lib state.now.imports (native_ask name.now token shape.now)) }
     ensures steps { steps.new ≤ steps.old + most_looks (lists_of info engine.now) state.now.lib state.now.imports (native_ask name.now token shape.now ∷ []) }
 {
     let kinds = kinds_of(alloc, shape)?;
     let mut ask = Ask::of_kinds(alloc, name, kinds, token)?;
-    resolve(alloc, engine, state, &mut ask, steps)
+    find_answer(alloc, engine, state, &mut ask, steps)
 }
 
 /// The function that a call by name means: of the scripts, where they are allowed, and then of the

@@ -1,8 +1,9 @@
 //! The filters of imports and static modules.
 
-ghost use Rattle.std.specs.Prelude.{◌≡◌, false};
+ghost use Rattle.std.specs.Prelude.{◌≡◌, false, true};
 ghost use Rattle.rhd_hash.specs.Keys.{key_name, key_params};
 ghost use Rattle.rhd_hash.specs.Untyped.{IsUntyped};
+ghost use Rattle.rhd_layers.specs.Lists.{all_indexed};
 ghost use Rattle.rhd_dispatch.specs.Walks.{may_have, any_may_have};
 
 use rhd_engine::ModuleMap;
@@ -36,15 +37,20 @@ fn any_tree_may_have(modules: &[(Text, SharedModule)], hash: UntypedHash, key: &
 /// The same of some import, by the filter of all and then by that of each.
 pub(crate) fn any_import_may_have(imports: &ImportList, hash: UntypedHash, key: &Key) -> bool
     requires { IsUntyped hash key.now }
-    ensures { result ≡ false → any_may_have (key_name key.now) (key_params key.now) imports.now ≡ false }
+    ensures none { result ≡ false → any_may_have (key_name key.now) (key_params key.now) imports.now ≡ false }
+    ensures indexed { all_indexed imports.now ≡ true }
 {
-    imports.may_have_dynamic(hash, key) && any_tree_may_have(imports.as_slice(), hash, key)
+    if !imports.may_have_dynamic(hash, key) {
+        return false;
+    }
+    any_tree_may_have(imports.as_slice(), hash, key)
 }
 
 /// The same of some static module.
 pub(crate) fn any_static_may_have(statics: &ModuleMap, hash: UntypedHash, key: &Key) -> bool
     requires { IsUntyped hash key.now }
-    ensures { result ≡ false → any_may_have (key_name key.now) (key_params key.now) statics.now ≡ false }
+    ensures none { result ≡ false → any_may_have (key_name key.now) (key_params key.now) statics.now ≡ false }
+    ensures indexed { all_indexed statics.now ≡ true }
 {
     if !statics.may_have_dynamic(hash, key) {
         return false;

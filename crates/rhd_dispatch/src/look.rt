@@ -8,7 +8,7 @@ ghost use Rattle.rhd_hash.specs.Keys.{key_name, key_params, key_types};
 ghost use Rattle.rhd_hash.specs.Matching.{types_match};
 ghost use Rattle.rhd_call.specs.declared.pick.Pick.{Pick};
 ghost use Rattle.rhd_hash.specs.Untyped.{IsUntyped};
-ghost use Rattle.rhd_dispatch.specs.Walks.{found_in, with_types, picked, any_dynamic, any_may_show};
+ghost use Rattle.rhd_dispatch.specs.Walks.{found_in, with_types, picked, any_dynamic, any_may_show, ShowsNone};
 
 use crate::filters::{any_import_may_have, any_static_may_have};
 use crate::search::{AllModules, Found, find};
@@ -61,10 +61,14 @@ fn any_may_show(modules: &[SharedModule], hash: UntypedHash, place: usize, key: 
 
 /// The same, where one of them may have a native that has a type `Dynamic`, by their filter.
 fn any_may_match(modules: &ModuleList, hash: UntypedHash, place: usize, key: &Key) -> bool
-    requires { IsUntyped hash key.now }
-    ensures { result ≡ false → MayNotShow place key.now modules.now }
+    requires hash { IsUntyped hash key.now }
+    requires count { length (key_types key.now) ≡ key_params key.now }
+    ensures { result ≡ false → ShowsNone place key.now modules.now }
 {
-    modules.may_have_dynamic(hash, key) && any_may_show(modules.as_slice(), hash, place, key)
+    if !modules.may_have_dynamic(hash, key) {
+        return false;
+    }
+    any_may_show(modules.as_slice(), hash, place, key)
 }
 
 impl<'a> Look for AllModules<'a> {

@@ -38,9 +38,10 @@ pub struct QualifiedAsk {
 /// A function of its own, so that what drops the questions doesn't ask what their keys are.
 impl Drop for QualifiedAsk {
     fn drop(self) {
-        let QualifiedAsk { script, native } = self;
-        drop(script);
-        drop(native);
+        let QualifiedAsk {
+            script: _script,
+            native: _native,
+        } = self;
     }
 }
 

@@ -6,6 +6,7 @@ ghost use Rattle.rhd_value.specs.Firsts.{first_of};
 ghost use Rattle.rhd_hash.specs.declared.key.Key.{Key};
 ghost use Rattle.rhd_hash.specs.Keys.{is_script_key};
 ghost use Rattle.rhd_call.specs.declared.pick.Layer.TheVariants as layers;
+ghost use Rattle.rhd_layers.specs.Lists.{all_indexed};
 ghost use Rattle.rhd_dispatch.specs.Searched.{pick_at};
 ghost use Rattle.rhd_dispatch.specs.Walks.{numbered, latest, alone, rooted, in_own, in_tree, found_in, picked};
 
@@ -13,9 +14,9 @@ use rhd_call::{Layer, Pick};
 use rhd_engine::{Engine, GlobalRuntimeState, ModuleMap};
 use rhd_func::RhaiFunc;
 use rhd_hash::{HashedKey, Key, Seeds, Steps};
-use rhd_layers::{ImportList, ModuleList};
+use rhd_layers::{ImportList, ModuleList, SharedModule};
 use rhd_module::Module;
-use rhd_value::OutOfMemory;
+use rhd_value::{OutOfMemory, Text};
 use std::alloc::Global;
 
 /// A function that was found, with the module in which it was, or the root of that one's tree.
@@ -89,10 +90,6 @@ fn find_library<'a>(libs: &'a ModuleList, key: &HashedKey, steps: &mut Steps) ->
     ensures found { option_map (λ f. picked f.layer f.func.now f.place.now) result ≡ first_of (in_own layers.Library key.now) (latest libs.now) }
     ensures steps { steps.new ≤ steps.old + length libs.now }
 {
-    if !libs.may_have(key) {
-        return None;
-    }
-    let libs = libs.as_slice();
     for number in (0..libs.len()).rev() {
         let library = libs[number].module();
         let found = look_own(library, Layer::Library(number as u64), key, steps);
@@ -103,15 +100,26 @@ fn find_library<'a>(libs: &'a ModuleList, key: &HashedKey, steps: &mut Steps) ->
     None
 }
 
+/// The same, where some library may have the key.
+fn search_libraries<'a>(
+    libs: &'a ModuleList,
+    key: &HashedKey,
+    steps: &mut Steps,
+) -> Option<Found<'a>>
+    ensures found { option_map (λ f. picked f.layer f.func.now f.place.now) result ≡ first_of (in_own layers.Library key.now) (latest libs.now) }
+    ensures steps { steps.new ≤ steps.old + length libs.now }
+{
+    if !libs.may_have(key) {
+        return None;
+    }
+    find_library(libs.as_slice(), key, steps)
+}
+
 /// What the first global module has that has the key.
 fn find_global<'a>(globals: &'a ModuleList, key: &HashedKey, steps: &mut Steps) -> Option<Found<'a>>
     ensures found { option_map (λ f. picked f.layer f.func.now f.place.now) result ≡ first_of (in_own layers.Global key.now) (numbered globals.now) }
     ensures steps { steps.new ≤ steps.old + length globals.now }
 {
-    if !globals.may_have(key) {
-        return None;
-    }
-    let globals = globals.as_slice();
     for number in 0..globals.len() {
         let global = globals[number].module();
         let found = look_own(global, Layer::Global(number as u64), key, steps);
@@ -122,15 +130,26 @@ fn find_global<'a>(globals: &'a ModuleList, key: &HashedKey, steps: &mut Steps) 
     None
 }
 
+/// The same, where some global module may have the key.
+fn search_globals<'a>(
+    globals: &'a ModuleList,
+    key: &HashedKey,
+    steps: &mut Steps,
+) -> Option<Found<'a>>
+    ensures found { option_map (λ f. picked f.layer f.func.now f.place.now) result ≡ first_of (in_own layers.Global key.now) (numbered globals.now) }
+    ensures steps { steps.new ≤ steps.old + length globals.now }
+{
+    if !globals.may_have(key) {
+        return None;
+    }
+    find_global(globals.as_slice(), key, steps)
+}
+
 /// What the tree of the latest import has that has the key.
 fn find_import<'a>(imports: &'a ImportList, key: &HashedKey, steps: &mut Steps) -> Option<Found<'a>>
     ensures found { option_map (λ f. picked f.layer f.func.now f.place.now) result ≡ first_of (in_tree layers.Import key.now) (latest imports.now) }
     ensures steps { steps.new ≤ steps.old + length imports.now }
 {
-    if !imports.may_have(key) {
-        return None;
-    }
-    let imports = imports.as_slice();
     for number in (0..imports.len()).rev() {
         let import = imports[number].1.module();
         let found = look_tree(import, Layer::Import(number as u64), key, steps);
@@ -141,14 +160,26 @@ fn find_import<'a>(imports: &'a ImportList, key: &HashedKey, steps: &mut Steps) 
     None
 }
 
+/// The same, where the tree of some import may have the key.
+fn search_imports<'a>(
+    imports: &'a ImportList,
+    key: &HashedKey,
+    steps: &mut Steps,
+) -> Option<Found<'a>>
+    ensures found { option_map (λ f. picked f.layer f.func.now f.place.now) result ≡ first_of (in_tree layers.Import key.now) (latest imports.now) }
+    ensures steps { steps.new ≤ steps.old + length imports.now }
+{
+    if !imports.may_have(key) {
+        return None;
+    }
+    find_import(imports.as_slice(), key, steps)
+}
+
 /// What the tree of the first static module has that has the key.
 fn find_static<'a>(statics: &'a ModuleMap, key: &HashedKey, steps: &mut Steps) -> Option<Found<'a>>
     ensures found { option_map (λ f. picked f.layer f.func.now f.place.now) result ≡ first_of (in_tree layers.Static key.now) (numbered statics.now) }
     ensures steps { steps.new ≤ steps.old + length statics.now }
 {
-    if !statics.may_have(key) {
-        return None;
-    }
     // Numbers are below the length.
     let _count = statics.len();
     let mut number = 0;
@@ -160,6 +191,21 @@ fn find_static<'a>(statics: &'a ModuleMap, key: &HashedKey, steps: &mut Steps) -
         number += 1;
     }
     None
+}
+
+/// The same, where the tree of some static module may have the key.
+fn search_statics<'a>(
+    statics: &'a ModuleMap,
+    key: &HashedKey,
+    steps: &mut Steps,
+) -> Option<Found<'a>>
+    ensures found { option_map (λ f. picked f.layer f.func.now f.place.now) result ≡ first_of (in_tree layers.Static key.now) (numbered statics.now) }
+    ensures steps { steps.new ≤ steps.old + length statics.now }
+{
+    if !statics.may_have(key) {
+        return None;
+    }
+    find_static(statics, key, steps)
 }
 
 /// All modules in which a call looks.
@@ -194,19 +240,19 @@ fn find_hashed<'a>(modules: AllModules<'a>, key: &HashedKey, steps: &mut Steps) 
     ensures found { option_map (λ f. picked f.layer f.func.now f.place.now) result ≡ found_in modules.entry.state.now.lib modules.entry.globals.now modules.entry.state.now.imports modules.entry.statics.now key.now }
     ensures steps { steps.new ≤ steps.old + (length modules.entry.state.now.lib + length modules.entry.globals.now + length modules.entry.state.now.imports + length modules.entry.statics.now) }
 {
-    let in_library = find_library(&modules.state.lib, key, steps);
+    let in_library = search_libraries(&modules.state.lib, key, steps);
     if in_library.is_some() {
         return in_library;
     }
-    let in_global = find_global(modules.globals, key, steps);
+    let in_global = search_globals(modules.globals, key, steps);
     if in_global.is_some() {
         return in_global;
     }
-    let in_import = find_import(&modules.state.imports, key, steps);
+    let in_import = search_imports(&modules.state.imports, key, steps);
     if in_import.is_some() {
         return in_import;
     }
-    find_static(modules.statics, key, steps)
+    search_statics(modules.statics, key, steps)
 }
 
 /// Whether some module in which a call looks may have a script.
@@ -215,9 +261,9 @@ fn may_have_script(modules: AllModules) -> bool
         → found_in modules.entry.state.now.lib modules.entry.globals.now modules.entry.state.now.imports modules.entry.statics.now key ≡ None }
 {
     modules.globals.may_have_script()
-        || modules.state.lib.may_have_script()
-        || modules.state.imports.may_have_script()
-        || modules.statics.may_have_script()
+        | modules.state.lib.may_have_script()
+        | modules.state.imports.may_have_script()
+        | modules.statics.may_have_script()
 }
 
 /// The same for a key that isn't hashed yet. It is hashed once, under the seeds of the engine, and not at
@@ -226,7 +272,7 @@ pub(crate) fn find<'a>(modules: AllModules<'a>, key: &Key, steps: &mut Steps) ->
     ensures found { option_map (λ f. picked f.layer f.func.now f.place.now) result ≡ found_in modules.entry.state.now.lib modules.entry.globals.now modules.entry.state.now.imports modules.entry.statics.now key.now }
     ensures steps { steps.new ≤ steps.old + (length modules.entry.state.now.lib + length modules.entry.globals.now + length modules.entry.state.now.imports + length modules.entry.statics.now) }
 {
-    if key.is_script() && !may_have_script(modules) {
+    if key.is_script() & !may_have_script(modules) {
         return None;
     }
     find_hashed(modules, &HashedKey::new(key, modules.seeds), steps)

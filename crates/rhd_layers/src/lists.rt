@@ -287,7 +287,6 @@ impl ImportList {
     }
 
     /// Puts an indexed module with a name last.
-    #[tactic(auto, using(crate::proofs::Indexed::pushed))]
     pub fn push(&mut self, name: Text, added: SharedModule) -> Result<(), OutOfMemory>
         requires { added.own.indexed ≡ true }
         ensures { self.new ≡ (if is_ok result then self.old ++ (name, added) ∷ [] else self.old) }
@@ -305,7 +304,7 @@ impl ImportList {
     }
 
     /// Puts an indexed module in the place of the last one, if there is one, under its name.
-    #[tactic(auto, using(crate::proofs::Indexed::last_set, crate::proofs::Indexed::last_indexed))]
+    #[tactic(auto, using(crate::proofs::Indexed::last_set))]
     pub fn set_last(&mut self, added: SharedModule)
         requires { added.own.indexed ≡ true }
         ensures { self.new ≡ with_last added self.old }
@@ -328,7 +327,6 @@ impl ImportList {
     }
 
     /// Takes all modules off but so many, the oldest.
-    #[tactic(auto, using(crate::proofs::Indexed::taken))]
     pub fn truncate(&mut self, len: usize)
         ensures { self.new ≡ take len self.old }
     {
@@ -366,7 +364,8 @@ impl ImportList {
     /// which is of any type.
     pub fn may_have_dynamic(&self, hash: UntypedHash, key: &Key) -> bool
         requires { IsUntyped hash key.now }
-        ensures { result ≡ false → list_all (λ e. lacks_dynamic (key_name key.now) (key_params key.now) e.1) self.now ≡ true }
+        ensures indexed { all_indexed self.now ≡ true }
+        ensures lack { result ≡ false → list_all (λ e. lacks_dynamic (key_name key.now) (key_params key.now) e.1) self.now ≡ true }
     {
         self.marks.may_have_dynamic(hash, key)
     }

@@ -2,9 +2,11 @@
 
 ghost use Rattle.std.specs.Prelude.{◌≡◌, ◌<◌, ℕ, List, Some, false, true, IfOk};
 ghost use Rattle.rhd_hash.specs.declared.key.Key.{Key};
+ghost use Rattle.rhd_hash.specs.Covers.{Covers};
 ghost use Rattle.rhd_hash.specs.Filter.{is_marked};
 ghost use Rattle.rhd_hash.specs.Keys.{key_name, key_params};
 ghost use Rattle.rhd_hash.specs.Untyped.{IsUntyped};
+ghost use Rattle.rhd_module.specs.Shown.{shown};
 ghost use Rattle.rhd_layers.specs.Marks.{may_have, may_have_dynamic, lacks, lacks_below, lacks_dynamic, Grows, Meets};
 
 use rhd_hash::{BloomFilterU64, HashedKey, Key, Seeds, UntypedHash};
@@ -26,10 +28,25 @@ pub(crate) struct Marks {
     dynamic: BloomFilterU64<8>,
 }
 
+/// Takes the keys of a module into their filter. Answers whether it lists functions, so that they aren't
+/// known.
+fn join_own(keys: &mut BloomFilterU64<128>, module: &Module) -> bool
+    ensures kept { (v : ℕ) → is_marked 128 keys.new v ≡ false → is_marked 128 keys.old v ≡ false }
+    ensures covers { result ≡ false → Covers 128 keys.new module.now.own.seeds (shown module.now.own) }
+{
+    match module.own_marks() {
+        Some(marks) => {
+            *keys += marks;
+            false
+        }
+        None => true,
+    }
+}
+
 impl Marks {
     /// That of no modules.
     pub fn new() -> Marks
-        ensures keys { (size : ℕ) (keys : List ℕ) (key : Key) → ((v : ℕ) → is_marked size keys v ≡ false) → may_have size result keys key ≡ false }
+        ensures keys { (size : ℕ) (keys : List ℕ) (key : Key) → may_have size result keys key ≡ false }
         ensures dynamic { (name : List ℕ) (params : ℕ) → may_have_dynamic result name params ≡ false }
     {
         Marks {
@@ -110,10 +127,7 @@ impl Marks {
         ensures dynamic { (name : List ℕ) (params : ℕ) → may_have_dynamic self.new name params ≡ false → lacks_dynamic name params module.now ≡ true }
     {
         self.meet(module.seeds());
-        match module.own_marks() {
-            Some(marks) => *keys += marks,
-            None => self.lists = true,
-        }
+        self.lists |= join_own(keys, module);
         self.dynamic += module.dynamic_marks();
         self.scripts |= module.may_have_script();
     }

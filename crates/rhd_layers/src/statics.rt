@@ -105,7 +105,8 @@ impl ModuleMap {
     /// which is of any type.
     pub fn may_have_dynamic(&self, hash: UntypedHash, key: &Key) -> bool
         requires { IsUntyped hash key.now }
-        ensures { result ≡ false → list_all (λ e. lacks_dynamic (key_name key.now) (key_params key.now) e.1) self.now ≡ true }
+        ensures indexed { all_indexed self.now ≡ true }
+        ensures lack { result ≡ false → list_all (λ e. lacks_dynamic (key_name key.now) (key_params key.now) e.1) self.now ≡ true }
     {
         self.marks.may_have_dynamic(hash, key)
     }

@@ -3,8 +3,8 @@
 use crate::given::{CLASHING, SEEDS, is_text, native_key, script_key, text, texts};
 use crate::must::{holds, must};
 use rhd_hash::{
-    BloomFilterU64, FnCallHashes, HashedKey, HashedName, Key, KeyTable, Seeds, Steps,
-    StraightHashMap, StraightHasher, StraightHasherBuilder, TableFault, calc_fn_hash,
+    BloomFilterU64, FnCallHashes, HashedKey, Key, KeyTable, Seeds, Steps, StraightHashMap,
+    StraightHasher, StraightHasherBuilder, TableFault, UntypedHash, calc_fn_hash,
     calc_fn_hash_full, calc_native_fn_hash, calc_typed_method_hash, calc_untyped_fn_hash,
     calc_var_hash, get_hasher,
 };
@@ -152,11 +152,9 @@ fn keys_are_changed(rt: HostRuntime) {
     drop(key);
     let mut script = script_key(alloc, "f");
     script.set_type(0, TypeTag::Dynamic);
-    holds(
-        &rt,
-        script == script_key(alloc, "f"),
-        "a script has no types",
-    );
+    let same = script_key(alloc, "f");
+    holds(&rt, script == same, "a script has no types");
+    drop(same);
     drop(script);
 }
 
@@ -301,14 +299,29 @@ fn hashes_are_at_hand(rt: HostRuntime) {
     holds(&rt, table.get_hashed(&hashed) == Some(&3), "by its hash");
     let other = HashedKey::new(&key, CLASHING);
     holds(&rt, table.get_hashed(&other) == Some(&3), "of other seeds");
-    let name = HashedName::new(key.name(), 0, SEEDS);
-    let hash = name.hash_under(SEEDS);
-    holds(
-        &rt,
-        name.params() == 0 && hash == key.untyped(SEEDS),
-        "a name",
-    );
+    let name = UntypedHash::new(&key, SEEDS);
+    holds(&rt, name.under(&key, SEEDS) == key.untyped(SEEDS), "a name");
+    let hash = key.untyped(CLASHING);
+    holds(&rt, name.under(&key, CLASHING) == hash, "of other seeds");
     drop(key);
+    drop(table);
+}
+
+#[test]
+fn tables_mark_their_keys(rt: HostRuntime) {
+    let alloc = rt.alloc();
+    let mut table = KeyTable::<u32>::new(alloc, SEEDS);
+    let none = native(alloc);
+    let hash = none.mixed(SEEDS);
+    holds(&rt, table.marks().is_absent(hash), "nothing is marked");
+    let _ = put(&mut table, none, 1);
+    holds(&rt, !table.marks().is_absent(hash), "the key is marked");
+    holds(&rt, !table.may_have_script(), "a native is no script");
+    let _ = put(&mut table, script_key(alloc, "f"), 2);
+    holds(&rt, table.may_have_script(), "a script");
+    let mut wide = BloomFilterU64::<256>::new();
+    table.mark_keys(&mut wide);
+    holds(&rt, !wide.is_absent(hash), "marked in another filter");
     drop(table);
 }
 

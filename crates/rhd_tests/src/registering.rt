@@ -39,7 +39,7 @@ fn engines_are_made(rt: HostRuntime) {
 /// Whether the first of the modules whose functions all calls find has one of the three natives under a
 /// name.
 fn finds(alloc: Global, engine: &Engine, name: &str, number: u32) -> bool {
-    match engine.global_modules() {
+    match engine.global_modules().as_slice() {
         [] => false,
         [first, ..] => has(alloc, first.module(), name, number),
     }
@@ -129,7 +129,7 @@ fn is_made(made: Result<Text, OutOfMemory>, word: &str) -> bool {
 
 /// Whether the first of the modules whose functions all calls find shows a type by its own name.
 fn shows_itself(engine: &Engine, name: &Text) -> bool {
-    match engine.global_modules() {
+    match engine.global_modules().as_slice() {
         [] => false,
         [first, ..] => {
             let shown = first.module().get_custom_type_display_by_name(name);

@@ -199,6 +199,7 @@ fn run_bytes<K: Sink>(alloc: Global, natives: Natives, bytes: &[u8], sink: &mut 
     ensures short { result.status ≡ 4 → WroteLess (K.written sink.old) (K.written sink.new) (all_printed result.replies) }
     ensures bad { result.status ≡ 2 → IsFirstBad (infos_of info natives) result.line (lines bytes.now) × (K.written sink.new ≡ K.written sink.old) × (result.replies ≡ []) }
     ensures untouched { result.status ≡ 2 → sink.new ≡ sink.old }
+    ensures idle { result.status ≡ 2 → result.session ≡ None }
     ensures fault { result.status ≡ 4 → Rose (K.faults sink.old) (K.faults sink.new) }
     ensures later { K.faults sink.old ≤ K.faults sink.new }
     ensures text { (text : SessionText) → IsSession (infos_of info natives) (lines bytes.now) text → result.status ≢ 2 }
@@ -261,6 +262,8 @@ pub fn run_tool<S: Source, K: Sink>(
     ensures unread { result.status ≡ 1 → source.new ≡ source.old }
     // For 1, 2, 3 and 6 the sink was not asked to write, also where it tells no bytes.
     ensures untouched { (result.status ≡ 1) ⊎ (result.status ≡ 2) ⊎ (result.status ≡ 3) ⊎ (result.status ≡ 6) → sink.new ≡ sink.old }
+    // Nor was a session made.
+    ensures idle { (result.status ≡ 1) ⊎ (result.status ≡ 2) ⊎ (result.status ≡ 3) ⊎ (result.status ≡ 6) → result.session ≡ None }
     // 4: what was written is less than all.
     ensures short { result.status ≡ 4 → WroteLess (K.written sink.old) (K.written sink.new) (all_printed result.replies) }
     // A session text of at most that many bytes ends with 0, unless the source or the sink failed or
