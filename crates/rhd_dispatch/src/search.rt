@@ -86,7 +86,11 @@ pub(crate) fn look_tree<'a>(
 }
 
 /// What the latest library has that has the key.
-fn find_library<'a>(libs: &'a ModuleList, key: &HashedKey, steps: &mut Steps) -> Option<Found<'a>>
+fn find_library<'a>(
+    libs: &'a [SharedModule],
+    key: &HashedKey,
+    steps: &mut Steps,
+) -> Option<Found<'a>>
     ensures found { option_map (λ f. picked f.layer f.func.now f.place.now) result ≡ first_of (in_own layers.Library key.now) (latest libs.now) }
     ensures steps { steps.new ≤ steps.old + length libs.now }
 {
@@ -116,7 +120,11 @@ fn search_libraries<'a>(
 }
 
 /// What the first global module has that has the key.
-fn find_global<'a>(globals: &'a ModuleList, key: &HashedKey, steps: &mut Steps) -> Option<Found<'a>>
+fn find_global<'a>(
+    globals: &'a [SharedModule],
+    key: &HashedKey,
+    steps: &mut Steps,
+) -> Option<Found<'a>>
     ensures found { option_map (λ f. picked f.layer f.func.now f.place.now) result ≡ first_of (in_own layers.Global key.now) (numbered globals.now) }
     ensures steps { steps.new ≤ steps.old + length globals.now }
 {
@@ -146,7 +154,12 @@ fn search_globals<'a>(
 }
 
 /// What the tree of the latest import has that has the key.
-fn find_import<'a>(imports: &'a ImportList, key: &HashedKey, steps: &mut Steps) -> Option<Found<'a>>
+fn find_import<'a>(
+    imports: &'a [(Text, SharedModule)],
+    key: &HashedKey,
+    steps: &mut Steps,
+) -> Option<Found<'a>>
+    requires { all_indexed imports.now ≡ true }
     ensures found { option_map (λ f. picked f.layer f.func.now f.place.now) result ≡ first_of (in_tree layers.Import key.now) (latest imports.now) }
     ensures steps { steps.new ≤ steps.old + length imports.now }
 {

@@ -17,8 +17,8 @@ counted key name own = sym (ap key_params own)
 pub any_may_match-requires-clause-count : goal.any_may_match-requires-clause-count
 any_may_match-requires-clause-count c = counted c.args.key.now _ (native_is_key c.args.key.now _ (sym c.native_name.ensures ∙ ap option_copied c.in-Some.is))
 
-pub any_may_match-2-requires-clause-count : goal.any_may_match-2-requires-clause-count
-any_may_match-2-requires-clause-count c = counted c.args.key.now _ (native_is_key c.args.key.now _ (sym c.native_name.ensures ∙ ap option_copied c.in-Some.is))
+pub any_may_match-requires-2-clause-count : goal.any_may_match-requires-2-clause-count
+any_may_match-requires-2-clause-count c = counted c.args.key.now _ (native_is_key c.args.key.now _ (sym c.native_name.ensures ∙ ap option_copied c.in-Some.is))
 
 pub returns : goal.returns
 returns c none types matches dynamic =
