@@ -1,6 +1,6 @@
 -- Where no module may have a native, none is found.
-use Rattle.std.proofs.Common.{◌≡◌, ℕ, ◌+◌, Bool, true, false, not, cond, is_none, ◌&&◌, ◌||◌, ◌==◌, List, [], ◌∷◌, ◌++◌, length, refl, sym, ap, ◌∙◌, eq-eqb, true≢false}
-use Rattle.std.specs.Prelude.{suc, ◌-◌, if◌then◌else◌, Option, Some, None, reverse, option_map}
+use Rattle.std.proofs.Common.{◌≡◌, ℕ, ◌+◌, Bool, true, false, not, cond, is_none, ◌&&◌, ◌||◌, ◌==◌, List, [], ◌∷◌, length, refl, sym, ap, ◌∙◌, eq-eqb, true≢false}
+use Rattle.std.specs.Prelude.{suc, ◌-◌, if◌then◌else◌, Option, Some, None, option_map}
 use Rattle.std.specs.List.{list_any, list_all, enumerate_from}
 use Rattle.std.specs.Map.{lookup}
 use Rattle.std.specs.Option.{option_or}
@@ -39,8 +39,8 @@ use Rattle.rhd_dispatch.specs.Asks.{Asked, typed, script, native, asked_of, key_
 use Rattle.rhd_dispatch.specs.Looks.{keys_of}
 use Rattle.rhd_dispatch.specs.Patterns.{patterns}
 use Rattle.rhd_dispatch.specs.Searched.{pick_at, found}
-use Rattle.rhd_dispatch.specs.Walks.{with_types, alone, rooted, place_of, place_of_tree, library_places, global_places, import_trees, static_trees, found_in, first_typed, any_dynamic, may_have, any_may_have, may_list, may_show, any_may_show, in_tree, ShowsNone}
-use Rattle.rhd_dispatch.proofs.Firsts.{or_nones, of_append, of_map, none_reverse}
+use Rattle.rhd_dispatch.specs.Walks.{with_types, rooted, place_of_tree, found_in, first_typed, any_dynamic, may_have, any_may_have, may_list, may_show, any_may_show, in_tree, ShowsNone}
+use Rattle.rhd_dispatch.proofs.Firsts.{or_nones, none_reverse}
 use Rattle.rhd_dispatch.proofs.Lacking.{nothing_found, latest_lack, numbered_lack}
 
 pub any_parts : (a b : Bool) → (a || b) ≡ false → (a ≡ false) × (b ≡ false)
