@@ -126,27 +126,27 @@ fn is_unknown(
 }
 
 #[test]
-fn questions_are_asked_in_each_module(rt: HostRuntime) {
+fn questions_are_asked_where_filters_tell(rt: HostRuntime) {
     let alloc = rt.alloc();
     let (engine, state) = (engine(&rt, alloc), importing(&rt, alloc));
     let (name, this_type) = (text(alloc, "s"), text(alloc, "t"));
     let ask = must(&rt, Ask::script(alloc, &name, 0), "a question");
     holds(
         &rt,
-        is_unknown(&rt, alloc, &engine, &state, ask, 2),
+        is_unknown(&rt, alloc, &engine, &state, ask, 0),
         "script",
     );
     let ask = must(&rt, Ask::typed(alloc, &name, 0, &this_type), "a question");
     holds(
         &rt,
-        is_unknown(&rt, alloc, &engine, &state, ask, 2),
+        is_unknown(&rt, alloc, &engine, &state, ask, 0),
         "typed",
     );
     let ask = Ask::native(alloc, &name, &[TypeTag::Int], None);
     let ask = must(&rt, ask, "a question");
     holds(
         &rt,
-        is_unknown(&rt, alloc, &engine, &state, ask, 2),
+        is_unknown(&rt, alloc, &engine, &state, ask, 0),
         "native",
     );
     drop(state);
