@@ -52,6 +52,10 @@ impl Carries {
     pub fn push(&mut self, carry: Carry) -> Result<(), OutOfMemory>
         ensures { self.new ≡ (if is_ok result then self.old ++ carry ∷ [] else self.old) }
     {
+        if self.items.is_empty() {
+            // Most functions ask once.
+            self.items.reserve_exact(1)?;
+        }
         self.items.push(carry)?;
         Ok(())
     }
@@ -107,6 +111,10 @@ impl Nodes {
     pub fn push(&mut self, node: CallNode) -> Result<(), OutOfMemory>
         ensures { nodes_in self.new ≡ (if is_ok result then nodes_in self.old ++ node ∷ [] else nodes_in self.old) }
     {
+        if self.items.is_empty() {
+            // Most calls have one child, if any.
+            self.items.reserve_exact(1)?;
+        }
         self.items.push(node)?;
         Ok(())
     }

@@ -16,7 +16,8 @@ mod search;
 
 pub use ask::{Ask, resolve};
 pub use asks::resolve_call;
-pub use qualified::{QualifiedAsk, has_root, resolve_qualified, resolve_qualified_call};
+pub use qualified::{QualifiedAsk, resolve_qualified, resolve_qualified_call};
 pub use races::ensure_no_data_race;
 pub use rhd_call::{Layer, Pick};
+pub use root::has_root;
 pub use search::Found;

@@ -31,15 +31,15 @@ fn find_from<L: Look>(
     ensures kept { key.new ≡ key.old }
     ensures steps { steps.new ≤ steps.old + length (patterns_to (16 - place) (drop place (key_types key.old))) * L.modules look }
 {
-    if !look.may_match(hash, place, key) {
-        return None;
-    }
     if place >= MOST_CHANGED {
         return look.find(key, steps);
     }
     let types = key.types();
     if place >= types.len() {
         return look.find(key, steps);
+    }
+    if !look.may_match(hash, place, key) {
+        return None;
     }
     let exact = types[place];
     let kept = find_from(look, hash, key, place + 1, steps);
@@ -67,14 +67,14 @@ fn find_others<L: Look>(
     ensures kept { key.new ≡ key.old }
     ensures steps { steps.new + L.modules look ≤ steps.old + length (patterns_to (16 - place) (drop place (key_types key.old))) * L.modules look }
 {
-    if !look.may_match(hash, place, key) {
-        return None;
-    }
     if place >= MOST_CHANGED {
         return None;
     }
     let types = key.types();
     if place >= types.len() {
+        return None;
+    }
+    if !look.may_match(hash, place, key) {
         return None;
     }
     let kind = types[place];

@@ -1,6 +1,6 @@
 //! What a call below a path means: one module is searched, by the further names of the path.
 
-ghost use Rattle.std.specs.Prelude.{◌≡◌, ◌≤◌, ◌+◌, ◌++◌, ◌∷◌, [], true, IfOk, IfSome, None, Some, OnOk, length, map, is_some};
+ghost use Rattle.std.specs.Prelude.{◌≡◌, ◌≤◌, ◌+◌, ◌++◌, ◌∷◌, [], true, IfOk, IfSome, None, Some, OnOk, length, map};
 ghost use Rattle.std.specs.Option.{option_map};
 ghost use Rattle.rhd_value.specs.Firsts.{first_of};
 ghost use Rattle.rhd_value.specs.Kinds.{tag_of};
@@ -127,13 +127,6 @@ fn find_in<'a>(root: Root<'a>, asks: &mut QualifiedAsk, steps: &mut Steps) -> Op
         return script;
     }
     find_typed(root, root.place.seeds(), &mut asks.native, steps)
-}
-
-/// Whether some import or static module has the first name of a path.
-pub fn has_root(engine: &Engine, state: &GlobalRuntimeState, path: &[Text]) -> bool
-    ensures { result ≡ is_some (root_of (lists_of info engine.now) state.now.imports path.now) }
-{
-    find_root(engine, state, path).is_some()
 }
 
 /// What answers the questions below their path. The module in which it begins is searched alone. It makes at

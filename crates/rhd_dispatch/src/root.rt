@@ -1,6 +1,6 @@
 //! The module in which a path begins.
 
-ghost use Rattle.std.specs.Prelude.{◌≡◌, true};
+ghost use Rattle.std.specs.Prelude.{◌≡◌, true, is_some};
 ghost use Rattle.std.specs.Option.{option_map};
 ghost use Rattle.std.specs.Map.{lookup};
 ghost use Rattle.rhd_value.specs.Firsts.{first_of};
@@ -76,6 +76,25 @@ fn named_root<'a>(
         return import;
     }
     static_root(engine.static_modules(), name)
+}
+
+/// Whether some import or static module has a name.
+fn has_named(engine: &Engine, state: &GlobalRuntimeState, name: &Text) -> bool
+    ensures { result ≡ is_some (lookup (text_eq name.now) (named_places (lists_of info engine.now) state.now.imports)) }
+{
+    import_root(state.imports.as_slice(), name).is_some()
+        || engine.static_modules().get(name).is_some()
+}
+
+/// Whether some import or static module has the first name of a path.
+#[tactic(auto, unfolding(crate::specs::Picks::root_of))]
+pub fn has_root(engine: &Engine, state: &GlobalRuntimeState, path: &[Text]) -> bool
+    ensures { result ≡ is_some (root_of (lists_of info engine.now) state.now.imports path.now) }
+{
+    match path {
+        [] => false,
+        [name, _rest @ ..] => has_named(engine, state, name),
+    }
 }
 
 /// The module in which a path begins: that of its first name.

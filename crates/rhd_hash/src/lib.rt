@@ -16,7 +16,7 @@ mod table;
 pub use call_hashes::FnCallHashes;
 pub use fault::TableFault;
 pub use filter::BloomFilterU64;
-pub use hashed::{HashedKey, UntypedHash};
+pub use hashed::{HashedKey, OwnHashedKey, UntypedHash};
 pub use hashing::{
     calc_fn_hash, calc_fn_hash_full, calc_native_fn_hash, calc_typed_method_hash,
     calc_untyped_fn_hash, calc_var_hash,

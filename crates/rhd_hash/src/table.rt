@@ -11,17 +11,17 @@ ghost use Rattle.rhd_hash.specs.Keys.{key_eq};
 ghost use Rattle.rhd_hash.specs.Parts.{mixed};
 ghost use Rattle.rhd_hash.specs.PutIn.{put_in};
 ghost use Rattle.rhd_hash.specs.Refusal.{IsRefusal};
-ghost use Rattle.rhd_hash.specs.Slots.{IsFree};
+ghost use Rattle.rhd_hash.specs.Slots.{IsFree, hashed};
 ghost use Rattle.rhd_hash.specs.Table.{first_hashed, HasOwnHashes, Clashes};
 
 use crate::fault::TableFault;
 use crate::filter::BloomFilterU64;
-use crate::hashed::HashedKey;
+use crate::hashed::{HashedKey, OwnHashedKey};
 use crate::key::Key;
 use crate::mixer::Seeds;
 use crate::straight::StraightHasherBuilder;
 use indexmap::IndexMap;
-use indexmap::map::Values;
+use indexmap::map::{Iter, Values};
 use rhd_value::OutOfMemory;
 use std::alloc::Global;
 use std::marker::Model;
@@ -120,6 +120,14 @@ impl<V> KeyTable<V> {
         self.slots.values()
     }
 
+    /// The pairs behind the hashes of their keys, in order.
+    pub fn hashed_iter(&self) -> Iter<'_, u64, (Key, V)>
+        ensures pairs { result ≡ hashed (mixed self.now.seeds) self.now.pairs }
+        ensures apart { HasOwnHashes self.now.seeds (keys_of self.now.pairs) }
+    {
+        self.slots.iter()
+    }
+
     /// The pair at a place, counted from 0; none where there is nothing.
     pub fn get_index(&self, place: usize) -> Option<(&Key, &V)>
         ensures { option_map (λ p. (p.0.now, p.1.now)) result ≡ slice_get self.now.pairs place }
@@ -145,6 +153,9 @@ impl<V> KeyTable<V> {
     pub fn get(&self, key: &Key) -> Option<&V>
         ensures { option_copied result ≡ lookup (key_eq key.now) self.now.pairs }
     {
+        if self.slots.is_empty() {
+            return None;
+        }
         self.get_hashed(&HashedKey::new(key, self.seeds))
     }
 
@@ -181,7 +192,23 @@ impl<V> KeyTable<V> {
         ensures apart { OnOk result (HasOwnHashes self.new.seeds (keys_of self.new.pairs)) }
         ensures refuses { (held : _) → Contains (keys_of self.old.pairs) held → Clashes self.old.seeds held key → IsErr result }
     {
-        let hash = key.mixed(self.seeds);
+        self.insert_hashed(OwnHashedKey::new(key, self.seeds), value)
+    }
+
+    /// The same under a key whose hash is at hand.
+    pub fn insert_hashed(&mut self, key: OwnHashedKey, value: V) -> Result<Option<V>, TableFault>
+    where
+        V: Drop,
+        ensures old { IfOk result (λ old. old ≡ lookup (key_eq key) self.old.pairs) }
+        ensures pairs { OnOk result (self.new ≡ record self.old { pairs = put_in key_eq key value self.old.pairs }) }
+        ensures unchanged { OnErr result (self.new ≡ self.old) }
+        ensures absent { OnErr result (lookup (key_eq key) self.old.pairs ≡ None) }
+        ensures refused { IfErr result (IsRefusal self.old key) }
+        ensures apart { OnOk result (HasOwnHashes self.new.seeds (keys_of self.new.pairs)) }
+        ensures refuses { (held : _) → Contains (keys_of self.old.pairs) held → Clashes self.old.seeds held key → IsErr result }
+    {
+        let hash = key.hash_under(self.seeds);
+        let key = key.into_key();
         if let Some(held) = self.clash_with(&key, hash)? {
             return Err(TableFault::Clash { held, new: key });
         }

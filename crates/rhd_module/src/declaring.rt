@@ -14,7 +14,7 @@ ghost use Rattle.rhd_module.specs.Registered.{Puts};
 
 use crate::module::Module;
 use rhd_decl::{DeclFault, Declaration};
-use rhd_hash::Key;
+use rhd_hash::{Key, OwnHashedKey};
 use rhd_manifest::FnManifestEntry;
 use std::alloc::Global;
 
@@ -30,7 +30,9 @@ fn put_listed(
     ensures ok { OnOk result (target.new ≡ with_pairs (put_back (entry_pair target.old.own.seeds entry.now ∷ []) target.old.own.eager) target.new.own.indexed target.old) }
     ensures clash { IfErr result (IsClash target.old.own.seeds (keys_of (put_back (entry_pair target.old.own.seeds entry.now ∷ []) target.old.own.eager))) }
 {
-    target.put_fn(alloc, entry.key().dup(alloc)?, declaration)
+    let hash = declaration.metadata().hash;
+    let key = OwnHashedKey::known(entry.key().dup(alloc)?, target.seeds(), hash);
+    target.put_fn(alloc, key, declaration)
 }
 
 /// Declares a listed function, in the place of one of an equal key, else last.
@@ -59,7 +61,8 @@ fn register_pair(
     ensures err { OnErr result (target.new ≡ target.old) }
 {
     let declaration = declaration.dup(alloc)?;
-    target.put_fn(alloc, key.dup(alloc)?, declaration)
+    let key = OwnHashedKey::new(key.dup(alloc)?, target.seeds());
+    target.put_fn(alloc, key, declaration)
 }
 
 /// Declares what another module declares once more, each in the place of one of an equal key, else last.

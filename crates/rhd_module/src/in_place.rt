@@ -16,9 +16,9 @@ ghost use Rattle.rhd_module.specs.Tree.{subs_of};
 
 use crate::module::Module;
 use rhd_decl::{DeclFault, Declaration};
-use rhd_hash::Key;
+use rhd_hash::{Key, OwnHashedKey};
 use rhd_map::{put_all, take_back};
-use rhd_table::{copies_that, mark_pairs};
+use rhd_table::{Copies, copies_that, mark_pairs, split_copies};
 use rhd_value::{Dynamic, Entries, OutOfMemory, Text};
 use std::alloc::Global;
 use std::collections::BTreeMap;
@@ -97,8 +97,8 @@ impl Module {
     fn put_copies(
         &mut self,
         alloc: Global,
-        there: Vec<(Key, Declaration)>,
-        new: Vec<(Key, Declaration)>,
+        there: Vec<(OwnHashedKey, Declaration)>,
+        new: Vec<(OwnHashedKey, Declaration)>,
         named: Named,
     ) -> Result<(), DeclFault>
         requires there { AllByRecursion (λ p. is_some (lookup (key_eq p.0) self.old.own.eager) ≡ true) there.items }
@@ -139,16 +139,7 @@ impl Module {
         ensures clash { IfErr result (IsClash self.old.own.seeds (keys_of (put_all other.now.own.eager self.old.own.eager))) }
         ensures err { OnErr result (self.new ≡ self.old) }
     {
-        let there = copies_that(
-            alloc,
-            &other.eager,
-            &|key: &Key| self.eager.get(key).is_some(),
-        )?;
-        let new = copies_that(
-            alloc,
-            &other.eager,
-            &|key: &Key| self.eager.get(key).is_none(),
-        )?;
+        let Copies { there, new } = split_copies(alloc, &other.eager, &self.eager)?;
         let _apart = other.iter_fn();
         self.put_copies(alloc, there, new, named)
     }

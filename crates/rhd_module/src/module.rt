@@ -18,7 +18,7 @@ ghost use Rattle.rhd_module.specs.Tree.{empty_module, subs_of};
 use indexmap::map::Values;
 use rhd_decl::{CustomTypesCollection, DeclFault, Declaration, Switches};
 use rhd_func::{ManifestId, RhaiFunc, SharedText};
-use rhd_hash::{BloomFilterU64, HashedKey, Key, Seeds, Steps};
+use rhd_hash::{BloomFilterU64, HashedKey, Key, OwnHashedKey, Seeds, Steps};
 use rhd_manifest::Listing;
 use rhd_table::{Declarations, TreeIndex, mark_dynamic};
 use rhd_value::{Entries, OutOfMemory, Text, Texts, TypeTag};
@@ -153,12 +153,12 @@ impl Module {
     pub(crate) fn put_fn(
         &mut self,
         alloc: Global,
-        key: Key,
+        key: OwnHashedKey,
         declaration: Declaration,
     ) -> Result<(), DeclFault>
         ensures { Puts None key declaration self.old result self.new }
     {
-        let dynamic = key.dynamic_hash(self.eager.seeds());
+        let dynamic = key.key().dynamic_hash(self.eager.seeds());
         match self.eager.put(alloc, key, declaration) {
             Err(fault) => Err(fault),
             Ok(true) => {

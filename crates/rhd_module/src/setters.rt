@@ -10,11 +10,11 @@ ghost use Rattle.rhd_module.specs.Registered.{Puts, Registers, RegistersRaw, Reg
 
 use crate::module::Module;
 use rhd_decl::{
-    DeclFault, FuncMetadata, FuncRegistration, is_banned, native_key, raw_refusal, refuse_pair,
-    script_declaration, script_key, unknown,
+    DeclFault, FuncMetadata, FuncRegistration, SharedMetadata, is_banned, native_key, raw_refusal,
+    refuse_pair, script_declaration, script_key, unknown,
 };
 use rhd_func::{EnvId, Natives, PluginFunc, RhaiFunc, SharedDef};
-use rhd_hash::Key;
+use rhd_hash::{Key, OwnHashedKey};
 use rhd_value::{FnId, Text, Texts, TypeTag};
 use std::alloc::Global;
 
@@ -63,7 +63,8 @@ impl RegisterIntoModule for FuncRegistration {
         natives: &Natives,
         id: FnId,
     ) -> Result<FuncMetadata, DeclFault> {
-        target.put_registered(alloc, natives, self, id)
+        let metadata = target.put_registered(alloc, natives, self, id)?;
+        Ok(metadata.metadata().dup(alloc)?)
     }
 
     fn set_into_module_raw(
@@ -78,7 +79,8 @@ impl RegisterIntoModule for FuncRegistration {
             return Err(fault);
         }
         let is_method = func.is_method(natives);
-        target.put_allowed(alloc, self, is_method, types, func)
+        let metadata = target.put_allowed(alloc, self, is_method, types, func)?;
+        Ok(metadata.metadata().dup(alloc)?)
     }
 }
 
@@ -91,12 +93,13 @@ impl Module {
         is_method: bool,
         types: &[TypeTag],
         func: RhaiFunc,
-    ) -> Result<FuncMetadata, DeclFault>
+    ) -> Result<SharedMetadata, DeclFault>
         ensures puts { Puts None (native_key is_method reg.name types.now) (native_decl self.old.own.seeds reg is_method types.now func) self.old result self.new }
         ensures metadata { IfOk result (λ metadata. metadata ≡ (native_decl self.old.own.seeds reg is_method types.now func).metadata) }
     {
         let (key, declaration) = reg.into_pair(alloc, self.seeds(), is_method, types, func)?;
-        let metadata = declaration.metadata().dup(alloc)?;
+        let metadata = declaration.metadata.dup(alloc)?;
+        let key = OwnHashedKey::known(key, self.seeds(), metadata.metadata().hash);
         self.put_fn(alloc, key, declaration)?;
         Ok(metadata)
     }
@@ -109,7 +112,7 @@ impl Module {
         is_method: bool,
         types: &[TypeTag],
         func: RhaiFunc,
-    ) -> Result<FuncMetadata, DeclFault>
+    ) -> Result<SharedMetadata, DeclFault>
         ensures puts { Puts (banned is_method reg.name types.now) (native_key is_method reg.name types.now) (native_decl self.old.own.seeds reg is_method types.now func) self.old result self.new }
         ensures metadata { IfOk result (λ metadata. metadata ≡ (native_decl self.old.own.seeds reg is_method types.now func).metadata) }
     {
@@ -127,7 +130,7 @@ impl Module {
         reg: FuncRegistration,
         native: &Box<dyn PluginFunc>,
         id: FnId,
-    ) -> Result<FuncMetadata, DeclFault>
+    ) -> Result<SharedMetadata, DeclFault>
         ensures puts { Puts (banned (info native.now).is_method reg.name (info native.now).types) (native_key (info native.now).is_method reg.name (info native.now).types)
             (registered_decl self.old.own.seeds reg (info native.now) id) self.old result self.new }
         ensures metadata { IfOk result (λ metadata. metadata ≡ (registered_decl self.old.own.seeds reg (info native.now) id).metadata) }
@@ -144,7 +147,7 @@ impl Module {
         natives: &Natives,
         reg: FuncRegistration,
         id: FnId,
-    ) -> Result<FuncMetadata, DeclFault>
+    ) -> Result<SharedMetadata, DeclFault>
         ensures registers { Registers (infos_of info natives.now) reg id self.old result self.new }
         ensures metadata { IfOk result (λ metadata. metadata ≡ (registered_decl self.old.own.seeds reg (native_at (infos_of info natives.now) id) id).metadata) }
     {
@@ -152,6 +155,20 @@ impl Module {
             Some(native) => self.put_held(alloc, reg, native, id),
             None => Err(unknown(natives, id)),
         }
+    }
+
+    /// Registers the native of a number as `FuncRegistration::set_into_module` does, and answers nothing.
+    pub fn register(
+        &mut self,
+        alloc: Global,
+        natives: &Natives,
+        reg: FuncRegistration,
+        id: FnId,
+    ) -> Result<(), DeclFault>
+        ensures { Registers (infos_of info natives.now) reg id self.old result self.new }
+    {
+        self.put_registered(alloc, natives, reg, id)?;
+        Ok(())
     }
 
     /// Does what `FuncRegistration::set_into_module_raw` does.
@@ -262,11 +279,11 @@ impl Module {
         refuse_pair(alloc, natives, &get_reg.name, get, &set_reg.name, set)?;
         let mut copy = self.dup(alloc)?;
         let getter = match copy.put_registered(alloc, natives, get_reg, get) {
-            Ok(metadata) => metadata.hash,
+            Ok(metadata) => metadata.metadata().hash,
             Err(fault) => return Err(fault),
         };
         let setter = match copy.put_registered(alloc, natives, set_reg, set) {
-            Ok(metadata) => metadata.hash,
+            Ok(metadata) => metadata.metadata().hash,
             Err(fault) => return Err(fault),
         };
         *self = copy;
@@ -344,6 +361,7 @@ impl Module {
         let key = script_key(alloc, def.def())?;
         let declaration = script_declaration(alloc, self.seeds(), def, env)?;
         let hash = declaration.metadata().hash;
+        let key = OwnHashedKey::known(key, self.seeds(), hash);
         self.put_fn(alloc, key, declaration)?;
         Ok(hash)
     }

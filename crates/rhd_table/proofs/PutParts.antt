@@ -25,7 +25,6 @@ use Rattle.rhd_table.proofs.Places.{index_put_there}
 use Rattle.rhd_table.proofs.Puts.{there, kept}
 use Rattle.std.proofs.Common.{◌||◌}
 use Rattle.std.specs.List.{list_any}
-use Rattle.rhd_hash.specs.Keys.{is_script_key}
 use Rattle.rhd_table.proofs.Kept.{any_put}
 
 -- what a list has given, and what is left of it

@@ -7,7 +7,9 @@ ghost use Rattle.std.specs.Option.{option_copied, option_map};
 ghost use Rattle.rhd_hash.specs.Covers.{Covers, HasNoScript};
 ghost use Rattle.rhd_hash.specs.Keys.{key_eq};
 ghost use Rattle.rhd_hash.specs.Matching.{key_matches};
+ghost use Rattle.rhd_hash.specs.Parts.{mixed};
 ghost use Rattle.rhd_hash.specs.Refusal.{IsRefusal};
+ghost use Rattle.rhd_hash.specs.Slots.{hashed};
 ghost use Rattle.rhd_hash.specs.Table.{HasOwnHashes};
 ghost use Rattle.rhd_hash.specs.declared.fault.TableFault.{TableFault};
 ghost use Rattle.rhd_decl.specs.Collisions.{collision};
@@ -19,10 +21,10 @@ ghost use Rattle.rhd_table.specs.Pairs.{put, put_all};
 use crate::growing::grow;
 use crate::native_index::NativeIndex;
 use crate::script_search::{typed_script, untyped_script};
-use indexmap::map::Values;
+use indexmap::map::{Iter, Values};
 use rhd_decl::{DeclFault, Declaration, SharedMetadata};
 use rhd_func::SharedDef;
-use rhd_hash::{BloomFilterU64, HashedKey, Key, KeyTable, Seeds};
+use rhd_hash::{BloomFilterU64, HashedKey, Key, KeyTable, OwnHashedKey, Seeds};
 use rhd_value::{OutOfMemory, Text, Texts, TypeTag};
 use std::alloc::Global;
 use std::marker::Model;
@@ -70,7 +72,7 @@ pub(crate) fn note_place(
 /// Puts a declaration under a key of a table. Answers whether one stood there.
 pub(crate) fn put_pair(
     table: &mut KeyTable<Declaration>,
-    key: Key,
+    key: OwnHashedKey,
     declaration: Declaration,
 ) -> Result<bool, DeclFault>
     ensures replaced { IfOk result (λ replaced. replaced ≡ is_some (lookup (key_eq key) table.old.pairs)) }
@@ -80,7 +82,7 @@ pub(crate) fn put_pair(
     ensures absent { OnErr result (lookup (key_eq key) table.old.pairs ≡ None) }
     ensures refused { IfErr result (λ fault. (clash : TableFault) × (fault ≡ collision clash) × IsRefusal table.old key clash) }
 {
-    match table.insert(key, declaration) {
+    match table.insert_hashed(key, declaration) {
         Ok(old) => Ok(old.is_some()),
         Err(fault) => Err(DeclFault::from(fault)),
     }
@@ -138,6 +140,14 @@ impl Declarations {
         self.table.iter()
     }
 
+    /// The declarations with their keys behind the hashes of these, in order.
+    pub fn hashed_iter(&self) -> Iter<'_, u64, (Key, Declaration)>
+        ensures pairs { result ≡ hashed (mixed self.now.seeds) self.now.pairs }
+        ensures apart { HasOwnHashes self.now.seeds (keys_of self.now.pairs) }
+    {
+        self.table.hashed_iter()
+    }
+
     /// The declaration under a key.
     pub fn get(&self, key: &Key) -> Option<&Declaration>
         ensures { option_copied result ≡ lookup (key_eq key.now) self.now.pairs }
@@ -190,7 +200,7 @@ impl Declarations {
     pub fn put(
         &mut self,
         alloc: Global,
-        key: Key,
+        key: OwnHashedKey,
         declaration: Declaration,
     ) -> Result<bool, DeclFault>
         ensures replaced { IfOk result (λ replaced. replaced ≡ is_some (lookup (key_eq key) self.old.pairs)) }
@@ -219,8 +229,8 @@ impl Declarations {
     pub fn grow(
         &mut self,
         alloc: Global,
-        there: Vec<(Key, Declaration)>,
-        new: Vec<(Key, Declaration)>,
+        there: Vec<(OwnHashedKey, Declaration)>,
+        new: Vec<(OwnHashedKey, Declaration)>,
     ) -> Result<(), DeclFault>
         requires there { AllByRecursion (λ p. is_some (lookup (key_eq p.0) self.old.pairs) ≡ true) there.items }
         requires new { AllByRecursion (λ p. lookup (key_eq p.0) self.old.pairs ≡ None) new.items }
@@ -288,7 +298,7 @@ fn comment_pair(
         Some(declaration) => commented(alloc, declaration, comments)?,
         None => return Ok(false),
     };
-    let key = key.dup(alloc)?;
+    let key = OwnHashedKey::new(key.dup(alloc)?, table.seeds());
     match put_pair(table, key, declaration) {
         Ok(_replaced) => Ok(true),
         Err(_fault) => Err(OutOfMemory),
@@ -303,23 +313,25 @@ fn dup_declarations(
     ensures { IfOk result (λ copy. copy ≡ table.now) }
 {
     let mut copy = KeyTable::new(alloc, table.seeds());
-    for (key, declaration) in table.iter() {
-        copy_pair(alloc, &mut copy, key, declaration)?;
+    for (hash, pair) in table.hashed_iter() {
+        copy_pair(alloc, &mut copy, *hash, &pair.0, &pair.1)?;
     }
     Ok(copy)
 }
 
-/// Puts an equal declaration under an equal key.
+/// Puts an equal declaration under an equal key, which has this hash.
 fn copy_pair(
     alloc: Global,
     copy: &mut KeyTable<Declaration>,
+    hash: u64,
     key: &Key,
     declaration: &Declaration,
 ) -> Result<(), OutOfMemory>
+    requires { hash ≡ mixed copy.old.seeds key.now }
     ensures { OnOk result (copy.new ≡ record copy.old { pairs = put key.now declaration.now copy.old.pairs }) }
 {
     let declaration = declaration.dup(alloc)?;
-    let key = key.dup(alloc)?;
+    let key = OwnHashedKey::known(key.dup(alloc)?, copy.seeds(), hash);
     match put_pair(copy, key, declaration) {
         Ok(_replaced) => Ok(()),
         Err(_fault) => Err(OutOfMemory),

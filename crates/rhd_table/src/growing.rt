@@ -1,11 +1,12 @@
 //! Many declarations put in at once: a refusal leaves all as it was, and what was there isn't copied.
 
-ghost use Rattle.std.specs.Prelude.{◌≡◌, ◌≤◌, ◌++◌, Bool, true, take, length, is_some, None, OnOk, OnErr, IfOk, IfErr};
+ghost use Rattle.std.specs.Prelude.{◌≡◌, ◌≤◌, ◌++◌, Bool, true, take, length, is_some, is_none, None, OnOk, OnErr, IfOk, IfErr};
 ghost use Rattle.std.specs.List.{AllByRecursion, filter};
 ghost use Rattle.std.specs.Map.{keys_of, lookup};
 ghost use Rattle.std.specs.Fn.{FnReturnsAt};
 ghost use Rattle.rhd_hash.specs.declared.key.Key.{Key as TheKey};
 ghost use Rattle.rhd_hash.specs.Keys.{key_eq};
+ghost use Rattle.rhd_hash.specs.Parts.{mixed};
 ghost use Rattle.rhd_table.specs.Indexed.{IsClash};
 ghost use Rattle.rhd_table.specs.NativeIndex.{IsIndex};
 ghost use Rattle.rhd_table.specs.Pairs.{Pairs, put, put_all};
@@ -14,7 +15,7 @@ ghost use Rattle.rhd_table.specs.Tells.{Tells};
 use crate::declarations::{Declarations, note_place, put_pair};
 use crate::native_index::NativeIndex;
 use rhd_decl::{DeclFault, Declaration};
-use rhd_hash::{Key, KeyTable};
+use rhd_hash::{HashedKey, Key, KeyTable, OwnHashedKey, Seeds};
 use rhd_value::OutOfMemory;
 use std::alloc::Global;
 
@@ -57,28 +58,75 @@ fn note_places(
     Ok(())
 }
 
+/// A copy of a declaration, with its key, which has this hash.
+fn copy_of(
+    alloc: Global,
+    seeds: Seeds,
+    hash: u64,
+    key: &Key,
+    declaration: &Declaration,
+) -> Result<(OwnHashedKey, Declaration), OutOfMemory>
+    requires { hash ≡ mixed seeds key.now }
+    ensures { IfOk result (λ copy. copy ≡ (key.now, declaration.now)) }
+{
+    let key = OwnHashedKey::known(key.dup(alloc)?, seeds, hash);
+    Ok((key, declaration.dup(alloc)?))
+}
+
 /// Copies of the declarations whose keys pass a test.
 pub fn copies_that<F: Fn(&Key) -> bool>(
     alloc: Global,
     of: &Declarations,
     passes: &F,
-) -> Result<Vec<(Key, Declaration)>, OutOfMemory>
+) -> Result<Vec<(OwnHashedKey, Declaration)>, OutOfMemory>
     requires { F.IsAlwaysCallable passes.now }
     ensures { (tells : TheKey → Bool) → Tells (FnReturnsAt F.Fn passes.now) tells → IfOk result (λ copies. copies.items ≡ filter (λ p. tells p.0) of.now.pairs) }
 {
     let mut copies = Vec::new(alloc);
-    for (key, declaration) in of.iter() {
-        if passes(key) {
-            copies.push((key.dup(alloc)?, declaration.dup(alloc)?))?;
+    for (hash, pair) in of.hashed_iter() {
+        if passes(&pair.0) {
+            copies.push(copy_of(alloc, of.seeds(), *hash, &pair.0, &pair.1)?)?;
         }
     }
     Ok(copies)
 }
 
+/// Copies of declarations.
+#[derive(Drop)]
+pub struct Copies {
+    /// Those under whose keys others have one too.
+    pub there: Vec<(OwnHashedKey, Declaration)>,
+    pub new: Vec<(OwnHashedKey, Declaration)>,
+}
+
+/// Copies of declarations, apart by whether others have one under an equal key.
+pub fn split_copies(
+    alloc: Global,
+    of: &Declarations,
+    others: &Declarations,
+) -> Result<Copies, OutOfMemory>
+    ensures there { IfOk result (λ copies. copies.there.items ≡ filter (λ p. is_some (lookup (key_eq p.0) others.now.pairs)) of.now.pairs) }
+    ensures new { IfOk result (λ copies. copies.new.items ≡ filter (λ p. is_none (lookup (key_eq p.0) others.now.pairs)) of.now.pairs) }
+{
+    let mut there = Vec::new(alloc);
+    let mut new = Vec::new(alloc);
+    for (hash, pair) in of.hashed_iter() {
+        let key = HashedKey::known(&pair.0, of.seeds(), *hash);
+        let is_there = others.get_hashed(&key).is_some();
+        let copy = copy_of(alloc, of.seeds(), *hash, &pair.0, &pair.1)?;
+        if is_there {
+            there.push(copy)?;
+        } else {
+            new.push(copy)?;
+        }
+    }
+    Ok(Copies { there, new })
+}
+
 /// Puts declarations under keys that aren't there. Where one is refused, what was there stands in front.
 fn insert_all(
     table: &mut KeyTable<Declaration>,
-    pairs: Vec<(Key, Declaration)>,
+    pairs: Vec<(OwnHashedKey, Declaration)>,
 ) -> Result<(), DeclFault>
     requires new { AllByRecursion (λ p. lookup (key_eq p.0) table.old.pairs ≡ None) pairs.items }
     ensures ok { OnOk result (table.new ≡ record table.old { pairs = put_all pairs.items table.old.pairs }) }
@@ -92,7 +140,7 @@ fn insert_all(
 }
 
 /// Puts a declaration in the place of that of an equal key, which is there.
-fn replace(table: &mut KeyTable<Declaration>, key: Key, declaration: Declaration)
+fn replace(table: &mut KeyTable<Declaration>, key: OwnHashedKey, declaration: Declaration)
     requires there { is_some (lookup (key_eq key) table.old.pairs) ≡ true }
     ensures { table.new ≡ record table.old { pairs = put key declaration table.old.pairs } }
 {
@@ -100,7 +148,7 @@ fn replace(table: &mut KeyTable<Declaration>, key: Key, declaration: Declaration
 }
 
 /// Puts declarations in the place of those of equal keys.
-fn replace_all(table: &mut KeyTable<Declaration>, pairs: Vec<(Key, Declaration)>)
+fn replace_all(table: &mut KeyTable<Declaration>, pairs: Vec<(OwnHashedKey, Declaration)>)
     requires there { AllByRecursion (λ p. is_some (lookup (key_eq p.0) table.old.pairs) ≡ true) pairs.items }
     ensures { table.new ≡ record table.old { pairs = put_all pairs.items table.old.pairs } }
 {
@@ -115,8 +163,8 @@ pub(crate) fn grow(
     table: &mut KeyTable<Declaration>,
     natives: &mut NativeIndex,
     alloc: Global,
-    there: Vec<(Key, Declaration)>,
-    new: Vec<(Key, Declaration)>,
+    there: Vec<(OwnHashedKey, Declaration)>,
+    new: Vec<(OwnHashedKey, Declaration)>,
 ) -> Result<(), DeclFault>
     requires there { AllByRecursion (λ p. is_some (lookup (key_eq p.0) table.old.pairs) ≡ true) there.items }
     requires new { AllByRecursion (λ p. lookup (key_eq p.0) table.old.pairs ≡ None) new.items }

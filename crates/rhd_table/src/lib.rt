@@ -9,6 +9,6 @@ mod script_search;
 mod tree_index;
 
 pub use declarations::Declarations;
-pub use growing::copies_that;
+pub use growing::{Copies, copies_that, split_copies};
 pub use marks::{mark_dynamic, mark_pairs, mark_parts};
 pub use tree_index::TreeIndex;

@@ -11,6 +11,7 @@ ghost use Rattle.rhd_hash.specs.PutIn.{put_in};
 ghost use Rattle.rhd_hash.specs.Refusal.{IsRefusal};
 ghost use Rattle.rhd_hash.specs.Table.{HasOwnHashes};
 ghost use Rattle.rhd_hash.specs.declared.fault.TableFault.{TableFault};
+ghost use Rattle.rhd_hash.specs.declared.mixer.Seeds.{Seeds as TheSeeds};
 ghost use Rattle.rhd_decl.specs.Collisions.{collision};
 ghost use Rattle.rhd_func.specs.Access.{is_global_namespace};
 ghost use Rattle.rhd_manifest.specs.Entry.{entry_key, entry_pair};
@@ -246,6 +247,51 @@ impl TreeIndex {
         Ok(())
     }
 
+    /// Puts a listed function under its key with a path.
+    fn put_entry_pathed(
+        &mut self,
+        alloc: Global,
+        path: &Texts,
+        entry: &FnManifestEntry,
+    ) -> Result<(), DeclFault>
+        ensures fills { (seeds : TheSeeds) → OnOk result (Fills self.old self.new (pathed path.now (entry_pair seeds entry.now)) (λ _. false) false) }
+        ensures clash { (seeds : TheSeeds) → IfErr result (IsClash self.old.seeds (keys_of (pathed path.now (entry_pair seeds entry.now)) ++ keys_of self.old.pairs)) }
+    {
+        let func = entry.plugin().dup(alloc)?;
+        self.put(entry.key().dup_at(alloc, path)?, func)
+    }
+
+    /// Puts a listed function under its key without a path, if it is found there.
+    fn put_entry_unpathed(
+        &mut self,
+        alloc: Global,
+        entry: &FnManifestEntry,
+    ) -> Result<(), DeclFault>
+        ensures fills { (seeds : TheSeeds) → OnOk result (Fills self.old self.new (unpathed (entry_pair seeds entry.now)) (λ _. false) (is_global_namespace entry.now.namespace)) }
+        ensures clash { (seeds : TheSeeds) → IfErr result (IsClash self.old.seeds (keys_of (unpathed (entry_pair seeds entry.now)) ++ keys_of self.old.pairs)) }
+    {
+        if !entry.namespace().is_global_namespace() {
+            return Ok(());
+        }
+        self.has_global = true;
+        let func = entry.plugin().dup(alloc)?;
+        self.put(entry.key().dup(alloc)?, func)
+    }
+
+    /// Puts a listed function under the keys by which it is found.
+    fn put_entry_pairs(
+        &mut self,
+        alloc: Global,
+        path: &Texts,
+        entry: &FnManifestEntry,
+    ) -> Result<(), DeclFault>
+        ensures fills { (seeds : TheSeeds) → OnOk result (Fills self.old self.new (unpathed (entry_pair seeds entry.now) ++ pathed path.now (entry_pair seeds entry.now)) (λ _. false) (is_global_namespace entry.now.namespace)) }
+        ensures clash { (seeds : TheSeeds) → IfErr result (IsClash self.old.seeds (keys_of (unpathed (entry_pair seeds entry.now) ++ pathed path.now (entry_pair seeds entry.now)) ++ keys_of self.old.pairs)) }
+    {
+        self.put_entry_pathed(alloc, path, entry)?;
+        self.put_entry_unpathed(alloc, entry)
+    }
+
     /// Puts a listed function under the keys by which it is found at a path, if no declaration hides it.
     fn put_entry(
         &mut self,
@@ -261,8 +307,7 @@ impl TreeIndex {
         if declarations.get(entry.key()).is_some() {
             return Ok(());
         }
-        let declaration = entry.declaration(alloc, declarations.seeds())?;
-        self.put_pairs(alloc, path, entry.key(), &declaration)
+        self.put_entry_pairs(alloc, path, entry)
     }
 
     /// The same of some listed functions, the last first.
