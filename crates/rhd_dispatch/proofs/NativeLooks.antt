@@ -22,6 +22,7 @@ use Rattle.rhd_manifest.specs.Rank.{find_entry}
 use Rattle.rhd_module.proofs.Absent.{absent_qualified}
 use Rattle.rhd_module.proofs.Listed.{shown_past, none_dynamic}
 use Rattle.rhd_table.specs.Marks.{may_be_dynamic, lists_dynamic}
+use Rattle.rhd_table.specs.NativeIndex.{dynamic_matches}
 use Rattle.rhd_module.specs.Below.{some_below, declares_dynamic}
 use Rattle.rhd_module.specs.Matching.{may_match}
 use Rattle.rhd_module.specs.Shown.{shown, own_decl}
@@ -50,20 +51,22 @@ any_parts false b h = (refl, h)
 same_text : (t : Bytes) → text_eq t t ≡ true
 same_text t = (bytes_eq-Decides t t).1 refl
 
-own_matches : (n : ℕ) (name : Bytes) (kinds types : List TypeTag) → types_match n types kinds ≡ true → key_matches n name kinds (Native None name types) ≡ true
-own_matches n name kinds types m = ap (λ (b : Bool). b && types_match n types kinds) (same_text name) ∙ m
+own_matches : (n : ℕ) (name : Bytes) (kinds types : List TypeTag) → types_match n types kinds ≡ true → any_dynamic types ≡ true → dynamic_matches n name kinds (Native None name types) ≡ true
+own_matches n name kinds types m dynamic =
+    ap (λ (b : Bool). b && key_matches n name kinds (Native None name types)) dynamic ∙ ap (λ (b : Bool). b && types_match n types kinds) (same_text name) ∙ m
 
-no_entry : (n : ℕ) (name : Bytes) (kinds types : List TypeTag) (ps : Pairs) → types_match n types kinds ≡ true → list_any (λ p. key_matches n name kinds p.0) ps ≡ false → lookup (key_eq (Native None name types)) ps ≡ None
-no_entry n name kinds types [] m h = refl
-no_entry n name kinds types (p ∷ ps) m h =
-    let r = any_parts (key_matches n name kinds p.0) (list_any (λ q. key_matches n name kinds q.0) ps) h in
+no_entry : (n : ℕ) (name : Bytes) (kinds types : List TypeTag) (ps : Pairs) → types_match n types kinds ≡ true → any_dynamic types ≡ true → list_any (λ p. dynamic_matches n name kinds p.0) ps ≡ false
+    → lookup (key_eq (Native None name types)) ps ≡ None
+no_entry n name kinds types [] m dynamic h = refl
+no_entry n name kinds types (p ∷ ps) m dynamic h =
+    let r = any_parts (dynamic_matches n name kinds p.0) (list_any (λ q. dynamic_matches n name kinds q.0) ps) h in
     let by : (b : Bool) → key_eq (Native None name types) p.0 ≡ b → cond b (Some p.1) (lookup (key_eq (Native None name types)) ps) ≡ None =
     elim [
       | true ↦ (λ e.
           let same : Native None name types ≡ p.0 = (key_eq-Decides (Native None name types) p.0).0 e in
-          let q : true ≡ false = sym (own_matches n name kinds types m) ∙ ap (key_matches n name kinds) same ∙ r.0 in
+          let q : true ≡ false = sym (own_matches n name kinds types m dynamic) ∙ ap (dynamic_matches n name kinds) same ∙ r.0 in
           absurd cc)
-      | false ↦ (λ e. no_entry n name kinds types ps m r.1)
+      | false ↦ (λ e. no_entry n name kinds types ps m dynamic r.1)
     ] in
     by (key_eq (Native None name types) p.0) refl
 
@@ -96,7 +99,7 @@ unfolding own_decl
 no_own n name kinds types params m matches dynamic l h =
     let r = any_parts (may_match m n name kinds) (may_list name params m) h in
     ap is_none
-    (shown_past m.own.seeds m.own.eager m.own.listed (Native None name types) (no_entry n name kinds types m.own.eager matches r.0)
+    (shown_past m.own.seeds m.own.eager m.own.listed (Native None name types) (no_entry n name kinds types m.own.eager matches dynamic r.0)
     ∙ ap (option_map (entry_decl m.own.seeds)) (none_listed m.own.seeds name types params m.own.listed dynamic l (none_dynamic m.own.seeds (untyped m.own.seeds name params) m.own.eager m.own.listed r.1)))
 
 none_show : (n : ℕ) (name : Bytes) (kinds types : List TypeTag) (params : ℕ) (ms : List ModuleTree) → types_match n types kinds ≡ true → any_dynamic types ≡ true → length types ≡ params → any_may_show n name params kinds ms ≡ false → list_all (lacks (Native None name types)) ms ≡ true

@@ -41,8 +41,8 @@ pub(crate) trait Look: Copy {
         ensures { result ≡ false → (types : List TypeTag) → types_match place types (key_types key.now) ≡ true → any_dynamic types ≡ true → look self (with_types types key.now) ≡ None };
 }
 
-/// Whether some module declares a native of a key's name for its types, where those before a place are
-/// exact, or may list one that has a type `Dynamic`.
+/// Whether some module declares a native of a key's name for its types that has a type `Dynamic`, where those
+/// before a place are exact, or may list one that has.
 fn any_may_show(modules: &[SharedModule], hash: UntypedHash, place: usize, key: &Key) -> bool
     requires { IsUntyped hash key.now }
     ensures { result ≡ any_may_show place (key_name key.now) (key_params key.now) (key_types key.now) modules.now }

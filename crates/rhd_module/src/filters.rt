@@ -1,8 +1,9 @@
 //! What filters tell of a module, for those who join them.
 
-ghost use Rattle.std.specs.Prelude.{ℕ, ◌≡◌, true, false, IfSome};
+ghost use Rattle.std.specs.Prelude.{ℕ, ◌≡◌, true, false, is_some, IfSome};
 ghost use Rattle.rhd_hash.specs.Covers.{Covers, HasNoScript};
 ghost use Rattle.rhd_hash.specs.Filter.{is_marked};
+ghost use Rattle.rhd_manifest.specs.Listing.{is_none_of};
 ghost use Rattle.rhd_module.specs.Below.{may_contain};
 ghost use Rattle.rhd_module.specs.Shown.{shown};
 ghost use Rattle.rhd_module.specs.Walk.{tree};
@@ -11,9 +12,10 @@ use crate::module::Module;
 use rhd_hash::BloomFilterU64;
 
 impl Module {
-    /// A filter that has a mark for the hash of each key that it declares, if it lists no functions.
+    /// A filter that has a mark for the hash of each key that it declares, where it lists no functions.
     pub fn own_marks(&self) -> Option<&BloomFilterU64<128>>
-        ensures { IfSome result (λ marks. Covers 128 marks.now self.now.own.seeds (shown self.now.own)) }
+        ensures some { is_some result ≡ is_none_of self.now.own.listed }
+        ensures covers { IfSome result (λ marks. Covers 128 marks.now self.now.own.seeds (shown self.now.own)) }
     {
         if self.listed.is_empty() {
             Some(self.eager.key_marks())

@@ -331,8 +331,8 @@ impl Module {
         self.eager.iter()
     }
 
-    /// Whether a native that isn't listed is declared under this name each of whose types is the
-    /// argument's kind, or, behind the first `exact` ones, `Dynamic`.
+    /// Whether a native that isn't listed and has a parameter of any type is declared under this name, each
+    /// of whose types is the argument's kind, or, behind the first `exact` ones, `Dynamic`.
     pub fn may_match(&self, exact: usize, name: &Text, kinds: &[TypeTag]) -> bool
         ensures { result ≡ may_match self.now exact name.now kinds.now }
     {

@@ -1,5 +1,6 @@
 -- The places of the natives of a name: after a declaration is put, and in a search for a native that matches.
-use Rattle.std.proofs.Common.{◌≡◌, ℕ, suc, ◌+◌, ◌&&◌, ◌||◌, Bool, true, false, cond, List, [], ◌∷◌, ◌++◌, length, take, slice_get, Option, None, Some, is_none, refl, sym, ap, append-nil, arith, ◌∙◌}
+use Rattle.std.proofs.Common.{◌≡◌, ℕ, suc, ◌+◌, ◌&&◌, ◌||◌, Bool, true, false, cond, List, [], ◌∷◌, ◌++◌, length, take, slice_get, Option, None, Some, is_none, refl, sym, ap, append-nil, arith, true≢false, ◌∙◌}
+use Rattle.std.specs.Prelude.{if◌then◌else◌}
 use Rattle.std.specs.List.{list_any}
 use Rattle.std.specs.Option.{option_map_or}
 use Rattle.std.specs.Map.{lookup}
@@ -13,8 +14,9 @@ use Rattle.rhd_decl.specs.declared.declaration.Declaration.{Declaration}
 use Rattle.rhd_table.specs.declared.native_index.NativeIndex.{NativeIndex}
 use Rattle.rhd_hash.specs.Keys.{key_eq}
 use Rattle.rhd_table.specs.Pairs.{Pairs, put}
+use Rattle.rhd_hash.specs.Keys.{has_dynamic}
 use Rattle.rhd_hash.specs.Matching.{types_match, key_matches}
-use Rattle.rhd_table.specs.NativeIndex.{is_native_of, places_from, place_at, noted, IsIndex}
+use Rattle.rhd_table.specs.NativeIndex.{dynamic_matches, is_native_of, places_from, place_at, noted, IsIndex}
 
 behind : (own : Bool) (n : ℕ) (xs ys : List ℕ) → cond own (n ∷ (xs ++ ys)) (xs ++ ys) ≡ cond own (n ∷ xs) xs ++ ys
 behind true n xs ys = refl
@@ -95,16 +97,26 @@ first_true : (a b : Bool) → (a && b) ≡ true → a ≡ true
 first_true true b e = refl
 first_true false b e = e
 
+second_true : (a b : Bool) → (a && b) ≡ true → b ≡ true
+second_true true b e = e
+second_true false b e = absurd cc
+
 -- a key that matches is a native's of the name
-own_matches : (n : ℕ) (name : Bytes) (kinds : List TypeTag) (k : Key) → key_matches n name kinds k ≡ true → is_native_of name k ≡ true
+own_matches : (n : ℕ) (name : Bytes) (kinds : List TypeTag) (k : Key) → dynamic_matches n name kinds k ≡ true → is_native_of name k ≡ true
 own_matches n name kinds (Script path other params) e = absurd cc
 own_matches n name kinds (Typed path other params this_type) e = absurd cc
-own_matches n name kinds (Native None other types) e = text_turned other name (first_true (text_eq other name) (types_match n types kinds) e)
-own_matches n name kinds (Native (Some path) other types) e = absurd cc
+own_matches n name kinds (Native None other types) e =
+    let k : Key = Native None other types in
+    let matches = second_true (has_dynamic k) (key_matches n name kinds k) e in
+    ap (λ (b : Bool). option_map_or (text_eq name) (if b then Some other else None) false) (first_true (has_dynamic k) (key_matches n name kinds k) e)
+    ∙ text_turned other name (first_true (text_eq other name) (types_match n types kinds) matches)
+own_matches n name kinds (Native (Some path) other types) e =
+    let k : Key = Native (Some path) other types in
+    absurd (true≢false (sym (second_true (has_dynamic k) (key_matches n name kinds k) e)))
 
 -- a search at the places of a name finds what a search of all declarations does
 pub matches_at_places : (natives : NativeIndex) (ps : Pairs) (n : ℕ) (name : Bytes) (kinds : List TypeTag) → IsIndex natives ps
-    → list_any (λ place. option_map_or (λ p. key_matches n name kinds p.0) (slice_get ps place) false) (noted natives name) ≡ list_any (λ p. key_matches n name kinds p.0) ps
+    → list_any (λ place. option_map_or (λ p. dynamic_matches n name kinds p.0) (slice_get ps place) false) (noted natives name) ≡ list_any (λ p. dynamic_matches n name kinds p.0) ps
 matches_at_places natives ps n name kinds index =
-    ap (list_any (λ place. option_map_or (λ p. key_matches n name kinds p.0) (slice_get ps place) false)) (index name)
-    ∙ any_places ps (key_matches n name kinds) name (own_matches n name kinds) 0 ps (λ j. let same : 0 + j ≡ j = omega arith in ap (slice_get ps) same)
+    ap (list_any (λ place. option_map_or (λ p. dynamic_matches n name kinds p.0) (slice_get ps place) false)) (index name)
+    ∙ any_places ps (dynamic_matches n name kinds) name (own_matches n name kinds) 0 ps (λ j. let same : 0 + j ≡ j = omega arith in ap (slice_get ps) same)

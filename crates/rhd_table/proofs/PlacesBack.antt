@@ -6,11 +6,10 @@ use Rattle.std.proofs.lemmas.Slice.Eq.{bytes_eq-Decides}
 use Rattle.rhd_value.specs.Tree.{Bytes}
 use Rattle.rhd_value.specs.Same.{text_eq}
 use Rattle.rhd_hash.specs.declared.key.Key.{Key}
-use Rattle.rhd_hash.specs.Keys.{native_name}
 use Rattle.rhd_decl.specs.declared.declaration.Declaration.{Declaration}
 use Rattle.rhd_table.specs.declared.native_index.NativeIndex.{NativeIndex}
 use Rattle.rhd_table.specs.Pairs.{Pairs}
-use Rattle.rhd_table.specs.NativeIndex.{is_native_of, places_from, place_at, but_last, noted, IsIndex}
+use Rattle.rhd_table.specs.NativeIndex.{dynamic_name, is_native_of, places_from, place_at, but_last, noted, IsIndex}
 use Rattle.rhd_table.proofs.Noted.{turned}
 
 -- what is left of a list once its last element is taken
@@ -84,15 +83,15 @@ module _ (ps : Pairs) (p n : ℕ) (last : p + 1 ≡ n) (old : NativeIndex) (inde
   index_less_past at = index_less old (λ name. ap (λ (o : Option (Key × Declaration)). cond (option_map_or (λ q. is_native_of name q.0) o false) (but_last (noted old name)) (noted old name)) at)
 
   module _ (k : Key) (d : Declaration) (at : Some (k, d) ≡ slice_get ps p) where
-    -- where the key there isn't a native's
-    pub index_less_other : None ≡ native_name k → IsIndex old (take p ps)
+    -- where the key there isn't such a native's
+    pub index_less_other : None ≡ dynamic_name k → IsIndex old (take p ps)
     index_less_other none =
         index_less old (λ name.
         ap (λ (o : Option Bytes). cond (option_map_or (text_eq name) o false) (but_last (noted old name)) (noted old name)) none
         ∙ ap (λ (o : Option (Key × Declaration)). cond (option_map_or (λ q. is_native_of name q.0) o false) (but_last (noted old name)) (noted old name)) at)
 
     -- where it is a native's, and its name loses a place
-    pub index_less_named : (new : NativeIndex) (own : Bytes) → Some own ≡ native_name k → ((name : Bytes) → noted new name ≡ cond (text_eq name own) (but_last (noted old name)) (noted old name))
+    pub index_less_named : (new : NativeIndex) (own : Bytes) → Some own ≡ dynamic_name k → ((name : Bytes) → noted new name ≡ cond (text_eq name own) (but_last (noted old name)) (noted old name))
         → IsIndex new (take p ps)
     index_less_named new own named takes =
         index_less new (λ name.

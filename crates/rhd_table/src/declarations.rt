@@ -6,7 +6,6 @@ ghost use Rattle.std.specs.Map.{lookup, keys_of};
 ghost use Rattle.std.specs.Option.{option_copied, option_map};
 ghost use Rattle.rhd_hash.specs.Covers.{Covers, HasNoScript};
 ghost use Rattle.rhd_hash.specs.Keys.{key_eq};
-ghost use Rattle.rhd_hash.specs.Matching.{key_matches};
 ghost use Rattle.rhd_hash.specs.Parts.{mixed};
 ghost use Rattle.rhd_hash.specs.Refusal.{IsRefusal};
 ghost use Rattle.rhd_hash.specs.Slots.{hashed};
@@ -15,7 +14,7 @@ ghost use Rattle.rhd_hash.specs.declared.fault.TableFault.{TableFault};
 ghost use Rattle.rhd_decl.specs.Collisions.{collision};
 ghost use Rattle.rhd_table.specs.Found.{commented, comment_on, script_in};
 ghost use Rattle.rhd_table.specs.Indexed.{IsClash};
-ghost use Rattle.rhd_table.specs.NativeIndex.{noted, place_at, matches_at};
+ghost use Rattle.rhd_table.specs.NativeIndex.{dynamic_name, dynamic_matches, noted, place_at, matches_at};
 ghost use Rattle.rhd_table.specs.Pairs.{put, put_all};
 
 use crate::growing::grow;
@@ -34,7 +33,7 @@ use std::marker::Model;
 #[derive(Drop)]
 pub struct Declarations {
     table: KeyTable<Declaration>,
-    /// Where the natives of a name stand.
+    /// Where the natives of a name stand that have a parameter of any type.
     natives: NativeIndex,
 }
 
@@ -50,7 +49,19 @@ impl Model for Declarations {
     ghost invariant = { λ d. IsIndex d.natives d.table.pairs };
 }
 
-/// Notes the place of a declaration under its name, if it is a native's without a path.
+/// The name of a native that has a parameter of any type, where its key has no path.
+pub(crate) fn dynamic_name(key: &Key) -> Option<&Text>
+    ensures { option_copied result ≡ dynamic_name key.now }
+{
+    if key.has_dynamic() {
+        key.native_name()
+    } else {
+        None
+    }
+}
+
+/// Notes the place of a declaration under its name, if it is a native's that has a parameter of any type,
+/// without a path.
 pub(crate) fn note_place(
     natives: &mut NativeIndex,
     alloc: Global,
@@ -63,7 +74,7 @@ pub(crate) fn note_place(
     let Some((key, _declaration)) = declarations.get_index(place) else {
         return Ok(());
     };
-    match key.native_name() {
+    match dynamic_name(key) {
         Some(name) => natives.note(alloc, name, place),
         None => Ok(()),
     }
@@ -172,10 +183,10 @@ impl Declarations {
         }
     }
 
-    /// Whether a native is declared under this name each of whose types is the argument's kind, or, behind
-    /// the first `exact` ones, `Dynamic`.
+    /// Whether a native that has a parameter of any type is declared under this name, each of whose types is
+    /// the argument's kind, or, behind the first `exact` ones, `Dynamic`.
     pub fn may_match(&self, exact: usize, name: &Text, kinds: &[TypeTag]) -> bool
-        ensures { result ≡ list_any (λ p. key_matches exact name.now kinds.now p.0) self.now.pairs }
+        ensures { result ≡ list_any (λ p. dynamic_matches exact name.now kinds.now p.0) self.now.pairs }
     {
         for place in self.natives.places(name) {
             if self.matches_at(*place, exact, name, kinds) {
@@ -190,7 +201,7 @@ impl Declarations {
         ensures { result ≡ matches_at self.now.pairs exact name.now kinds.now place }
     {
         match self.table.get_index(place) {
-            Some((key, _declaration)) => key.matches(exact, name, kinds),
+            Some((key, _declaration)) => key.has_dynamic() && key.matches(exact, name, kinds),
             None => false,
         }
     }

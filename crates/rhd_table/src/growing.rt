@@ -12,7 +12,7 @@ ghost use Rattle.rhd_table.specs.NativeIndex.{IsIndex};
 ghost use Rattle.rhd_table.specs.Pairs.{Pairs, put, put_all};
 ghost use Rattle.rhd_table.specs.Tells.{Tells};
 
-use crate::declarations::{Declarations, note_place, put_pair};
+use crate::declarations::{Declarations, dynamic_name, note_place, put_pair};
 use crate::native_index::NativeIndex;
 use rhd_decl::{DeclFault, Declaration};
 use rhd_hash::{HashedKey, Key, KeyTable, OwnHashedKey, Seeds};
@@ -30,7 +30,7 @@ fn forget_places(natives: &mut NativeIndex, table: &KeyTable<Declaration>, from:
     while place > from {
         place -= 1;
         if let Some((key, _declaration)) = table.get_index(place) {
-            if let Some(name) = key.native_name() {
+            if let Some(name) = dynamic_name(key) {
                 natives.unnote(name);
             }
         }

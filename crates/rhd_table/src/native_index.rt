@@ -1,4 +1,4 @@
-//! Where natives stand among declarations.
+//! Where natives that have a parameter of any type stand among declarations.
 
 ghost use Rattle.std.specs.Prelude.{◌≡◌, ℕ, List, ◌++◌, [], ◌∷◌, OnOk, OnErr, IfOk, if◌then◌else◌};
 ghost use Rattle.rhd_value.specs.Same.{text_eq};

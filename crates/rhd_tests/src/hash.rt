@@ -3,8 +3,8 @@
 use crate::given::{CLASHING, SEEDS, is_text, native_key, script_key, text, texts};
 use crate::must::{holds, must};
 use rhd_hash::{
-    BloomFilterU64, FnCallHashes, HashedKey, Key, KeyTable, Seeds, Steps, StraightHashMap,
-    StraightHasher, StraightHasherBuilder, TableFault, UntypedHash, calc_fn_hash,
+    BloomFilterU64, FnCallHashes, HashedKey, Key, KeyTable, OwnHashedKey, Seeds, Steps,
+    StraightHashMap, StraightHasher, StraightHasherBuilder, TableFault, UntypedHash, calc_fn_hash,
     calc_fn_hash_full, calc_native_fn_hash, calc_typed_method_hash, calc_untyped_fn_hash,
     calc_var_hash, get_hasher,
 };
@@ -281,6 +281,31 @@ fn faults_are_copied(rt: HostRuntime) {
     let memory = TableFault::from(OutOfMemory);
     holds(&rt, !is_clash(&memory), "want of memory");
     drop(memory);
+}
+
+#[test]
+fn keys_are_put_in_by_hashes_at_hand(rt: HostRuntime) {
+    let alloc = rt.alloc();
+    let mut table = KeyTable::<u32>::new(alloc, SEEDS);
+    let key = script_key(alloc, "f");
+    let hash = key.mixed(SEEDS);
+    let first = table.insert_hashed(OwnHashedKey::known(key, SEEDS, hash), 1);
+    holds(&rt, first.is_ok_and(|old| old.is_none()), "a first pair");
+    let other = OwnHashedKey::new(script_key(alloc, "g"), OTHERS);
+    holds(&rt, other.key().num_params() == 0, "its key");
+    holds(&rt, other.hash_under(SEEDS) == other.key().mixed(SEEDS), "under others");
+    holds(&rt, other.hash_under(OTHERS) == other.key().mixed(OTHERS), "its own");
+    let second = table.insert_hashed(other, 2);
+    holds(&rt, second.is_ok_and(|old| old.is_none()), "of other seeds");
+    let key = script_key(alloc, "g");
+    holds(&rt, table.get(&key) == Some(&2), "found");
+    let known = HashedKey::known(&key, SEEDS, key.mixed(SEEDS));
+    holds(&rt, table.get_hashed(&known) == Some(&2), "by its hash");
+    for (hash, pair) in table.hashed_iter() {
+        holds(&rt, *hash == pair.0.mixed(SEEDS), "behind their hashes");
+    }
+    drop(key);
+    drop(table);
 }
 
 #[test]

@@ -1,12 +1,15 @@
 //! Tables of declarations: what is found in them.
 
 use crate::decl::declaration;
-use crate::given::{SEEDS, script_key, text, texts};
+use crate::given::{SEEDS, native_key, script_key, text, texts};
 use crate::must::{holds, must, shared_script};
 use rhd_decl::script_declaration;
-use rhd_hash::{BloomFilterU64, HashedKey, Key};
-use rhd_table::{Declarations, TreeIndex, copies_that, mark_dynamic, mark_pairs, mark_parts};
-use rhd_value::{Texts, TypeTag, Types};
+use rhd_hash::{BloomFilterU64, HashedKey, Key, OwnHashedKey};
+use rhd_table::{
+    Copies, Declarations, TreeIndex, copies_that, mark_dynamic, mark_pairs, mark_parts,
+    split_copies,
+};
+use rhd_value::{Texts, TypeTag};
 use std::alloc::Global;
 use std::process::Abort;
 
@@ -16,7 +19,8 @@ fn with_script(rt: &impl Abort, alloc: Global) -> Declarations {
     let shared = shared_script(rt, alloc, "s");
     let made = script_declaration(alloc, SEEDS, shared, None);
     let made = must(rt, made, "a declaration");
-    let put = table.put(alloc, script_key(alloc, "s"), made);
+    let key = OwnHashedKey::new(script_key(alloc, "s"), SEEDS);
+    let put = table.put(alloc, key, made);
     holds(rt, !must(rt, put, "put in"), "nothing stood there");
     table
 }
@@ -50,17 +54,19 @@ fn comments_are_set(rt: HostRuntime) {
 fn natives_are_matched(rt: HostRuntime) {
     let alloc = rt.alloc();
     let mut table = Declarations::new(alloc, SEEDS);
-    let key = Key::Native {
-        path: None,
-        name: text(alloc, "f"),
-        types: Types::new(alloc),
-    };
-    let put = table.put(alloc, key, declaration(&rt, alloc));
-    holds(&rt, !must(&rt, put, "put in"), "nothing stood there");
-    let f = text(alloc, "f");
-    holds(&rt, table.may_match(0, &f, &[]), "without types");
-    let matches = table.may_match(0, &f, &[TypeTag::Int]);
-    holds(&rt, !matches, "and with none");
+    for (name, tag) in [("f", TypeTag::Dynamic), ("g", TypeTag::Int)] {
+        let key = OwnHashedKey::new(native_key(alloc, name, tag), SEEDS);
+        let put = table.put(alloc, key, declaration(&rt, alloc));
+        holds(&rt, !must(&rt, put, "put in"), "nothing stood there");
+    }
+    let (f, g) = (text(alloc, "f"), text(alloc, "g"));
+    holds(&rt, table.may_match(0, &f, &[TypeTag::Int]), "of any type");
+    let matches = table.may_match(1, &f, &[TypeTag::Int]);
+    holds(&rt, !matches, "and not where the type is exact");
+    let matches = table.may_match(0, &g, &[TypeTag::Int]);
+    holds(&rt, !matches, "nor one of that type alone");
+    drop(g);
+    drop(f);
     drop(table);
 }
 
@@ -76,6 +82,38 @@ fn copies_are_made_of_what_passes(rt: HostRuntime) {
     holds(&rt, natives.is_empty(), "no native");
     drop(natives);
     drop(scripts);
+    drop(table);
+}
+
+#[test]
+fn copies_are_split_by_what_others_have(rt: HostRuntime) {
+    let alloc = rt.alloc();
+    let table = with_script(&rt, alloc);
+    let none = Declarations::new(alloc, SEEDS);
+    let split = split_copies(alloc, &table, &none);
+    let Copies { there, new } = must(&rt, split, "copies");
+    holds(&rt, there.is_empty() && new.len() == 1, "all are new");
+    drop(new);
+    drop(there);
+    let split = split_copies(alloc, &table, &table);
+    let Copies { there, new } = must(&rt, split, "copies");
+    holds(&rt, there.len() == 1 && new.is_empty(), "all are there");
+    drop(new);
+    drop(there);
+    drop(none);
+    drop(table);
+}
+
+#[test]
+fn hashes_stand_before_declarations(rt: HostRuntime) {
+    let alloc = rt.alloc();
+    let table = with_script(&rt, alloc);
+    let copy = must(&rt, table.dup(alloc), "a copy");
+    for (hash, pair) in copy.hashed_iter() {
+        holds(&rt, *hash == pair.0.mixed(SEEDS), "of its key");
+    }
+    holds(&rt, copy.len() == 1, "one declaration");
+    drop(copy);
     drop(table);
 }
 

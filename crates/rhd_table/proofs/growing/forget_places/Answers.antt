@@ -8,8 +8,8 @@ loop-place-preserved c =
     let last : n - 1 + 1 ≡ n = omega arith in
     record { above = omega arith; below = omega arith; index = index_less_past c.args.table.now.pairs (n - 1) n last c.loop-place.natives c.loop-place.invariant.index c.in_default.ensures }
 
-pub loop-place-preserved-in_default-native_name : goal.loop-place-preserved-in_default-native_name
-loop-place-preserved-in_default-native_name c =
+pub loop-place-preserved-in_default-dynamic_name : goal.loop-place-preserved-in_default-dynamic_name
+loop-place-preserved-in_default-dynamic_name c =
     let n = c.loop-place.place in
     let last : n - 1 + 1 ≡ n = omega arith in
     record {
@@ -17,11 +17,11 @@ loop-place-preserved-in_default-native_name c =
       below = omega arith;
       index =
           index_less_other c.args.table.now.pairs (n - 1) n last c.loop-place.natives c.loop-place.invariant.index c.in-Some.key.now c.in-Some._declaration.now c.in-Some.ensures
-          c.in_default-native_name.ensures;
+          c.in_default-dynamic_name.ensures;
     }
 
-pub loop-place-preserved-in-Some-native_name : goal.loop-place-preserved-in-Some-native_name
-loop-place-preserved-in-Some-native_name c =
+pub loop-place-preserved-in-Some-dynamic_name : goal.loop-place-preserved-in-Some-dynamic_name
+loop-place-preserved-in-Some-dynamic_name c =
     let n = c.loop-place.place in
     let last : n - 1 + 1 ≡ n = omega arith in
     record {
@@ -29,5 +29,5 @@ loop-place-preserved-in-Some-native_name c =
       below = omega arith;
       index =
           index_less_named c.args.table.now.pairs (n - 1) n last c.loop-place.natives c.loop-place.invariant.index c.in-Some.key.now c.in-Some._declaration.now c.in-Some.ensures
-          c.unnote.new.self c.in-Some-native_name.name.now c.in-Some-native_name.ensures c.unnote.ensures;
+          c.unnote.new.self c.in-Some-dynamic_name.name.now c.in-Some-dynamic_name.ensures c.unnote.ensures;
     }
