@@ -167,7 +167,8 @@ impl SharedModule {
         ensures { Registers (infos_of info natives.now) reg id self.old result self.new }
     {
         let module = Rc::make_mut(&mut self.module)?;
-        module.register(alloc, natives, reg, id)
+        reg.set_into_module(alloc, module, natives, id)?;
+        Ok(())
     }
 
     /// The same, and answers what is said of the native, as that call does.

@@ -1,5 +1,5 @@
 -- What filters tell of a module and of its tree.
-use Rattle.std.proofs.Common.{◌≡◌, ℕ, true, false, List, [], ◌∷◌, Option, None, Some, refl, ap, ◌∙◌, sym, subst}
+use Rattle.std.proofs.Common.{◌≡◌, ℕ, true, List, [], ◌∷◌, Option, None, Some, refl, ap, ◌∙◌, sym, subst}
 use Rattle.std.specs.Map.{lookup}
 use Rattle.std.specs.Option.{option_map}
 use Rattle.rhd_hash.specs.declared.key.Key.{Key}
@@ -8,7 +8,6 @@ use Rattle.rhd_hash.specs.Covers.{Covers, HasNoScript}
 use Rattle.rhd_hash.specs.Filter.{is_marked}
 use Rattle.rhd_hash.specs.Keys.{key_eq}
 use Rattle.rhd_hash.specs.Parts.{mixed}
-use Rattle.rhd_func.specs.declared.func.RhaiFunc.{RhaiFunc}
 use Rattle.rhd_manifest.specs.Entry.{Entry, entry_decl}
 use Rattle.rhd_manifest.specs.Listing.{is_none_of}
 use Rattle.rhd_manifest.specs.Rank.{find_entry}

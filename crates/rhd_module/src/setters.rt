@@ -10,8 +10,8 @@ ghost use Rattle.rhd_module.specs.Registered.{Puts, Registers, RegistersRaw, Reg
 
 use crate::module::Module;
 use rhd_decl::{
-    DeclFault, FuncMetadata, FuncRegistration, SharedMetadata, is_banned, native_key, raw_refusal,
-    refuse_pair, script_declaration, script_key, unknown,
+    DeclFault, FuncMetadata, FuncRegistration, is_banned, native_key, raw_refusal, refuse_pair,
+    script_declaration, script_key, unknown,
 };
 use rhd_func::{EnvId, Natives, PluginFunc, RhaiFunc, SharedDef};
 use rhd_hash::{Key, OwnHashedKey};
@@ -63,8 +63,7 @@ impl RegisterIntoModule for FuncRegistration {
         natives: &Natives,
         id: FnId,
     ) -> Result<FuncMetadata, DeclFault> {
-        let metadata = target.put_registered(alloc, natives, self, id)?;
-        Ok(metadata.metadata().dup(alloc)?)
+        target.put_registered(alloc, natives, self, id)
     }
 
     fn set_into_module_raw(
@@ -79,8 +78,7 @@ impl RegisterIntoModule for FuncRegistration {
             return Err(fault);
         }
         let is_method = func.is_method(natives);
-        let metadata = target.put_allowed(alloc, self, is_method, types, func)?;
-        Ok(metadata.metadata().dup(alloc)?)
+        target.put_allowed(alloc, self, is_method, types, func)
     }
 }
 
@@ -93,13 +91,13 @@ impl Module {
         is_method: bool,
         types: &[TypeTag],
         func: RhaiFunc,
-    ) -> Result<SharedMetadata, DeclFault>
+    ) -> Result<FuncMetadata, DeclFault>
         ensures puts { Puts None (native_key is_method reg.name types.now) (native_decl self.old.own.seeds reg is_method types.now func) self.old result self.new }
         ensures metadata { IfOk result (λ metadata. metadata ≡ (native_decl self.old.own.seeds reg is_method types.now func).metadata) }
     {
         let (key, declaration) = reg.into_pair(alloc, self.seeds(), is_method, types, func)?;
-        let metadata = declaration.metadata.dup(alloc)?;
-        let key = OwnHashedKey::known(key, self.seeds(), metadata.metadata().hash);
+        let metadata = declaration.metadata().dup(alloc)?;
+        let key = OwnHashedKey::known(key, self.seeds(), metadata.hash);
         self.put_fn(alloc, key, declaration)?;
         Ok(metadata)
     }
@@ -112,7 +110,7 @@ impl Module {
         is_method: bool,
         types: &[TypeTag],
         func: RhaiFunc,
-    ) -> Result<SharedMetadata, DeclFault>
+    ) -> Result<FuncMetadata, DeclFault>
         ensures puts { Puts (banned is_method reg.name types.now) (native_key is_method reg.name types.now) (native_decl self.old.own.seeds reg is_method types.now func) self.old result self.new }
         ensures metadata { IfOk result (λ metadata. metadata ≡ (native_decl self.old.own.seeds reg is_method types.now func).metadata) }
     {
@@ -130,7 +128,7 @@ impl Module {
         reg: FuncRegistration,
         native: &Box<dyn PluginFunc>,
         id: FnId,
-    ) -> Result<SharedMetadata, DeclFault>
+    ) -> Result<FuncMetadata, DeclFault>
         ensures puts { Puts (banned (info native.now).is_method reg.name (info native.now).types) (native_key (info native.now).is_method reg.name (info native.now).types)
             (registered_decl self.old.own.seeds reg (info native.now) id) self.old result self.new }
         ensures metadata { IfOk result (λ metadata. metadata ≡ (registered_decl self.old.own.seeds reg (info native.now) id).metadata) }
@@ -147,7 +145,7 @@ impl Module {
         natives: &Natives,
         reg: FuncRegistration,
         id: FnId,
-    ) -> Result<SharedMetadata, DeclFault>
+    ) -> Result<FuncMetadata, DeclFault>
         ensures registers { Registers (infos_of info natives.now) reg id self.old result self.new }
         ensures metadata { IfOk result (λ metadata. metadata ≡ (registered_decl self.old.own.seeds reg (native_at (infos_of info natives.now) id) id).metadata) }
     {
@@ -155,20 +153,6 @@ impl Module {
             Some(native) => self.put_held(alloc, reg, native, id),
             None => Err(unknown(natives, id)),
         }
-    }
-
-    /// Registers the native of a number as `FuncRegistration::set_into_module` does, and answers nothing.
-    pub fn register(
-        &mut self,
-        alloc: Global,
-        natives: &Natives,
-        reg: FuncRegistration,
-        id: FnId,
-    ) -> Result<(), DeclFault>
-        ensures { Registers (infos_of info natives.now) reg id self.old result self.new }
-    {
-        self.put_registered(alloc, natives, reg, id)?;
-        Ok(())
     }
 
     /// Does what `FuncRegistration::set_into_module_raw` does.
@@ -279,11 +263,11 @@ impl Module {
         refuse_pair(alloc, natives, &get_reg.name, get, &set_reg.name, set)?;
         let mut copy = self.dup(alloc)?;
         let getter = match copy.put_registered(alloc, natives, get_reg, get) {
-            Ok(metadata) => metadata.metadata().hash,
+            Ok(metadata) => metadata.hash,
             Err(fault) => return Err(fault),
         };
         let setter = match copy.put_registered(alloc, natives, set_reg, set) {
-            Ok(metadata) => metadata.metadata().hash,
+            Ok(metadata) => metadata.hash,
             Err(fault) => return Err(fault),
         };
         *self = copy;

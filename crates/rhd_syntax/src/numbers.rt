@@ -47,6 +47,11 @@ fn may_be_number(word: &[u8]) -> bool
 pub fn num_of(word: &[u8]) -> Option<u32>
     ensures { result ≡ num_of 32 word.now }
 {
+    if let Some(number) = small_number(word) {
+        if number <= u64::from(u32::MAX) && word.len() <= 20 {
+            return Some(number as u32);
+        }
+    }
     if may_be_number(word) {
         parse_u32(word)
     } else {

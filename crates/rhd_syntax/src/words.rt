@@ -1,6 +1,6 @@
 //! Blanks and words.
 
-ghost use Rattle.std.specs.Prelude.{◌≡◌, ◌≤◌, length};
+ghost use Rattle.std.specs.Prelude.{◌≡◌, ◌≤◌, false, length};
 ghost use Rattle.std.specs.List.{list_all, prefix_len};
 ghost use Rattle.std.specs.Option.{option_map};
 ghost use Rattle.std.specs.Char.{is_ascii_digit};
@@ -101,11 +101,27 @@ fn find_word(bytes: &[u8]) -> Option<(&[u8], &[u8])>
     find_run(skip_blanks(bytes))
 }
 
+/// False only where this word doesn't come next, since what comes begins with another byte.
+fn may_come(bytes: &[u8], word: &[u8]) -> bool
+    ensures { result ≡ false → flag_at word.now bytes.now ≡ (false, bytes.now) }
+{
+    match skip_blanks(bytes) {
+        [first, ..] => match word {
+            [own, ..] => *first == *own,
+            [] => true,
+        },
+        [] => true,
+    }
+}
+
 /// Whether this word comes next, and the bytes after it if it does.
 #[tactic(auto, unfolding(crate::specs::Reading::flag_at))]
 pub fn flag_at<'a>(bytes: &'a [u8], word: &[u8]) -> (bool, &'a [u8])
     ensures { (result.0, result.1.now) ≡ flag_at word.now bytes.now }
 {
+    if !may_come(bytes, word) {
+        return (false, bytes);
+    }
     let Some((next, rest)) = find_word(bytes) else {
         return (false, bytes);
     };

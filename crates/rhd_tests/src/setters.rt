@@ -129,10 +129,16 @@ fn natives_may_match(rt: HostRuntime) {
     let mut module = empty(&rt, alloc, SEEDS);
     let hash = module.set_native_fn(alloc, &natives, text(alloc, "f"), FnId(0));
     let hash = must(&rt, hash, "a native");
-    let f = text(alloc, "f");
-    holds(&rt, module.may_match(0, &f, &[TypeTag::Int]), "an integer");
-    holds(&rt, !module.may_match(0, &f, &[TypeTag::Bool]), "no other");
+    let reg = for_all(&rt, alloc, "g");
+    let (any, func) = ([TypeTag::Dynamic], RhaiFunc::plugin(FnId(1)));
+    let told = module.set_fn_raw_with_options(alloc, reg, &natives, &any, func);
+    drop(must(&rt, told, "of any type"));
+    let (f, g) = (text(alloc, "f"), text(alloc, "g"));
+    holds(&rt, module.may_match(0, &g, &[TypeTag::Int]), "any type");
+    holds(&rt, !module.may_match(0, &f, &[TypeTag::Int]), "one alone");
     holds(&rt, !module.may_list_dynamic_fn(hash), "nothing is listed");
+    drop(g);
+    drop(f);
     drop(module);
     drop(natives);
 }

@@ -3,7 +3,6 @@ use Rattle.std.specs.Prelude.{if◌then◌else◌}
 use Rattle.rhd_hash.specs.Filter.{is_marked}
 use Rattle.rhd_module.specs.Below.{some_in, declares_dynamic, may_contain}
 use Rattle.rhd_module.specs.Tree.{ModuleTree}
-use Rattle.rhd_table.specs.Indexed.{Indexed}
 use Rattle.rhd_table.specs.Marks.{may_be_dynamic}
 use Rattle.rhd_module.specs.contracts.module.Module.{the_view}
 use Rattle.rhd_module.proofs.Covered.{index_of}

@@ -1,4 +1,4 @@
-use Rattle.std.proofs.Common.{◌≡◌, true, sym, ap, ◌∙◌}
+use Rattle.std.proofs.Common.{◌≡◌, true, sym, ◌∙◌}
 use Rattle.rhd_manifest.specs.Listing.{is_none_of}
 use Rattle.rhd_module.proofs.Covered.{shown_covered}
 use Rattle.rhd_module.proofs.module.Module.own_marks.Goals as goal

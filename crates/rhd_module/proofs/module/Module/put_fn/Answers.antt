@@ -3,7 +3,6 @@ use Rattle.std.specs.Map.{lookup}
 use Rattle.rhd_hash.specs.Keys.{key_eq}
 use Rattle.rhd_hash.specs.Parts.{dynamic_hash}
 use Rattle.rhd_hash.specs.Table.{Table}
-use Rattle.rhd_hash.specs.declared.mixer.Seeds.{Seeds}
 use Rattle.rhd_decl.specs.Flags.{Flagged}
 use Rattle.rhd_decl.specs.declared.declaration.Declaration.{Declaration}
 use Rattle.rhd_table.specs.Pairs.{put}
@@ -49,6 +48,6 @@ invariant_of-self-in-Ok-false c =
     let puts : c.put.new.self.pairs ≡ put key d es = ap (λ (t : Table Declaration). t.pairs) c.in-Ok-false.ensures.pairs in
     let seeds = ap (λ (t : Table Declaration). t.seeds) c.in-Ok-false.ensures.pairs in (
       filter_last c.self.inside.filter c.mark_dynamic.new.filter c.self.inside.eager.seeds c.put.new.self.seeds key d es c.put.new.self.pairs c.self.inside.listed c.dynamic_hash-dynamic.result c.self.invariant.0
-          (c.dynamic_hash-dynamic.ensures ∙ ap (λ (s : Seeds). dynamic_hash s key) c.seeds.ensures) c.mark_dynamic.ensures seeds puts,
+          (c.dynamic_hash-dynamic.ensures ∙ (λ i. dynamic_hash (c.seeds.ensures i) (c.key.ensures i))) c.mark_dynamic.ensures seeds puts,
       λ is. absurd (true≢false (sym is ∙ ap (λ (f : Flagged). f.indexed) c.set_indexed-in-Ok-false.ensures)),
     )
