@@ -31,7 +31,7 @@ module _ (key : Key) (layer : ℕ → Layer) where
   unfolding pick_at own_decl
   own_none at m e = ap (option_map (λ (d : Declaration). record { layer = at; func = d.func; source = m.own.id })) (none_is (lookup (key_eq key) (shown m.own)) e)
 
-  tree_none : (at : Layer) (m : ModuleTree) → lacks_below key m ≡ true → pick_at key (rooted at m) ≡ None
+  pub tree_none : (at : Layer) (m : ModuleTree) → lacks_below key m ≡ true → pick_at key (rooted at m) ≡ None
   unfolding pick_at qualified
   tree_none at m e = ap (option_map (λ (d : Declaration). record { layer = at; func = d.func; source = m.own.id })) (none_is (lookup (key_eq key) (tree m)) e)
 

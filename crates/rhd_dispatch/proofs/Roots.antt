@@ -1,6 +1,7 @@
 -- The module in which a path begins, and what it has for a call.
-use Rattle.std.proofs.Common.{◌≡◌, ℕ, Bool, true, false, cond, List, [], ◌∷◌, ◌++◌, length, map, refl, sym, ap, ◌∙◌}
+use Rattle.std.proofs.Common.{◌≡◌, ℕ, ◌+◌, ◌||◌, Bool, true, false, cond, List, [], ◌∷◌, ◌++◌, length, map, refl, sym, ap, ◌∙◌}
 use Rattle.std.specs.Prelude.{Option, None, Some, is_some, if◌then◌else◌}
+use Rattle.std.specs.List.{enumerate_from}
 use Rattle.std.specs.Map.{lookup}
 use Rattle.std.specs.Option.{option_or, option_and_then}
 use Rattle.std.proofs.lemmas.List.{length-map}
@@ -57,6 +58,25 @@ pub static_is_root : (e : EngineLists) (imports same statics : Imports) (name : 
 static_is_root e imports same statics name o last l s is none h =
     h ∙ ap (λ (es : Imports). first_of (named_at Static name) (numbered es)) s
     ∙ sym (two_parts e imports name ∙ ap (λ (a : Option Place). option_or a (first_of (named_at Static name) (numbered e.statics))) (ap (λ (es : Imports). first_of (named_at Import name) (latest es)) (sym l) ∙ sym is ∙ none))
+
+-- whether there is a module of a name
+or_some : {A B : Type 0} (a b : Option A) (c : Option B) → is_some b ≡ is_some c → is_some (option_or a b) ≡ (is_some a || is_some c)
+or_some None b c e = e
+or_some (Some x) b c e = refl
+
+static_there : (name : Bytes) (n : ℕ) (xs : Imports) → is_some (first_of (named_at Static name) (enumerate_from n xs)) ≡ is_some (lookup (text_eq name) xs)
+static_there name n [] = refl
+static_there name n (x ∷ xs) =
+    let by : (b : Bool) → is_some (option_or (if b then Some (place_of_tree Static (n, x)) else None) (first_of (named_at Static name) (enumerate_from (n + 1) xs))) ≡ is_some (cond b (Some x.1) (lookup (text_eq name) xs)) =
+    elim [ true ↦ refl | false ↦ static_there name (n + 1) xs ]
+    in by (text_eq name x.0)
+
+pub some_named : (e : EngineLists) (imports same statics : Imports) (name : Bytes) (o : Option Place) (static : Option ModuleTree) → same ≡ imports → statics ≡ e.statics → o ≡ first_of (named_at Import name) (latest same) → static ≡ lookup (text_eq name) statics
+    → is_some (lookup (text_eq name) (named_places e imports)) ≡ (is_some o || is_some static)
+some_named e imports same statics name o static l s is there =
+    ap is_some (two_parts e imports name)
+    ∙ or_some (first_of (named_at Import name) (latest imports)) (first_of (named_at Static name) (numbered e.statics)) static (static_there name 0 e.statics ∙ ap is_some (ap (lookup (text_eq name)) (sym s) ∙ sym there))
+    ∙ ap (λ (a : Option Place). is_some a || is_some static) (ap (λ (es : Imports). first_of (named_at Import name) (latest es)) (sym l) ∙ sym is)
 
 pub named_hit : (layer : ℕ → Layer) (name : Bytes) (y : ℕ × (Bytes × ModuleTree)) (place : Place) → text_eq name y.1.0 ≡ true → place ≡ place_of_tree layer y → ◌≡◌ {A = Option Place} (Some place) (named_at layer name y)
 named_hit layer name y place e is = ap (λ (p : Place). Some p) is ∙ ap (λ (b : Bool). if b then Some (place_of_tree layer y) else None) (sym e)

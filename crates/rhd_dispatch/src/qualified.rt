@@ -5,6 +5,7 @@ ghost use Rattle.std.specs.Option.{option_map};
 ghost use Rattle.rhd_value.specs.Firsts.{first_of};
 ghost use Rattle.rhd_value.specs.Kinds.{tag_of};
 ghost use Rattle.rhd_func.specs.Shapes.{all_args};
+ghost use Rattle.rhd_hash.specs.Keys.{is_script_key};
 ghost use Rattle.rhd_hash.specs.declared.key.Key.TheVariants as keys;
 ghost use Rattle.rhd_engine.specs.Held.{func_held, named_held};
 ghost use Rattle.rhd_engine.specs.Of.{lists_of};
@@ -116,13 +117,25 @@ fn after_root(alloc: Global, path: &[Text]) -> Result<Texts, OutOfMemory>
     Ok(names)
 }
 
+/// What one tree has under a script's key. It isn't even asked where it has no script.
+fn find_script<'a>(root: Root<'a>, key: &Key, steps: &mut Steps) -> Option<Found<'a>>
+    requires { is_script_key key.now ≡ true }
+    ensures found { option_map (λ f. picked f.layer f.func.now f.place.now) result ≡ pick_at key.now (rooted root.entry.layer root.entry.place.now) }
+    ensures steps { steps.new ≤ steps.old + 1 }
+{
+    if !root.place.tree_may_have_script() {
+        return None;
+    }
+    root.find(key, steps)
+}
+
 /// What one tree has for the questions below a path.
 fn find_in<'a>(root: Root<'a>, asks: &mut QualifiedAsk, steps: &mut Steps) -> Option<Found<'a>>
     ensures found { option_map (λ f. picked f.layer f.func.now f.place.now) result ≡ pick_below asks.old (rooted root.entry.layer root.entry.place.now) }
     ensures kept { asks.new ≡ asks.old }
     ensures steps { steps.new ≤ steps.old + (1 + length (patterns asks.old.kinds)) }
 {
-    let script = root.find(&asks.script, steps);
+    let script = find_script(root, &asks.script, steps);
     if script.is_some() {
         return script;
     }

@@ -14,7 +14,7 @@ use rhd_call::{Layer, Pick};
 use rhd_engine::{Engine, GlobalRuntimeState, ModuleMap};
 use rhd_func::RhaiFunc;
 use rhd_hash::{HashedKey, Key, Seeds, Steps};
-use rhd_layers::{ImportList, ModuleList, SharedModule};
+use rhd_layers::{ImportList, MarkedModule, ModuleList, SharedModule};
 use rhd_module::Module;
 use rhd_value::{OutOfMemory, Text};
 use std::alloc::Global;
@@ -83,6 +83,24 @@ pub(crate) fn look_tree<'a>(
         Some(func) => Some(Found { layer, func, place }),
         None => None,
     }
+}
+
+/// The same of a module with its marks.
+#[tactic(auto, using(crate::proofs::Looks::raised_once))]
+fn look_marked<'a>(
+    place: &'a MarkedModule,
+    layer: Layer,
+    key: &HashedKey,
+    steps: &mut Steps,
+) -> Option<Found<'a>>
+    requires { place.now.own.indexed ≡ true }
+    ensures found { option_map (λ f. picked f.layer f.func.now f.place.now) result ≡ pick_at key.now (rooted layer place.now) }
+    ensures steps { steps.new ≤ steps.old + 1 }
+{
+    if !place.may_have(key) {
+        return None;
+    }
+    look_tree(place.module(), layer, key, steps)
 }
 
 /// What the latest library has that has the key.
@@ -196,8 +214,8 @@ fn find_static<'a>(statics: &'a ModuleMap, key: &HashedKey, steps: &mut Steps) -
     // Numbers are below the length.
     let _count = statics.len();
     let mut number = 0;
-    for (_name, shared) in statics.iter() {
-        let found = look_tree(shared.module(), Layer::Static(number), key, steps);
+    for (_name, marked) in statics.iter() {
+        let found = look_marked(marked, Layer::Static(number), key, steps);
         if found.is_some() {
             return found;
         }

@@ -1,6 +1,6 @@
 //! How types and signatures are shown.
 
-ghost use Rattle.std.specs.Prelude.{◌≡◌, ◌++◌, ◌∷◌, IfOk, OnOk, codes};
+ghost use Rattle.std.specs.Prelude.{◌≡◌, ◌++◌, ◌∷◌, IfOk, OnOk, codes, string_bytes};
 ghost use Rattle.std.specs.List.{flat_map, join_by, list_any};
 ghost use Rattle.std.specs.Option.{option_copied};
 ghost use Rattle.rhd_value.specs.Firsts.{first_of};
@@ -14,6 +14,9 @@ use rhd_func::CallShape;
 use rhd_layers::SharedModule;
 use rhd_value::{Dynamic, OutOfMemory, Text, Value, Values};
 use std::alloc::Global;
+
+/// For how many bytes a signature makes room at first.
+const ROOM: usize = 64;
 
 /// Whether a type name is one of the eight names of kinds that are no custom types.
 fn is_standard_name(name: &Text) -> bool
@@ -62,30 +65,56 @@ impl Engine {
         self.map_type_name(alloc, &name)
     }
 
-    /// Puts a value's type at the end, as a signature shows it.
-    fn push_type(&self, alloc: Global, out: &mut Text, value: &Dynamic) -> Result<(), OutOfMemory>
-        ensures { OnOk result (out.new ≡ out.old ++ in_signature (lists_of info self.now) value.now) }
+    /// Puts the type of a value of a custom type at the end.
+    fn push_display(
+        &self,
+        alloc: Global,
+        out: &mut String,
+        value: &Dynamic,
+    ) -> Result<(), OutOfMemory>
+        ensures { OnOk result (string_bytes out.new ≡ string_bytes out.old ++ display (lists_of info self.now) value.now) }
     {
-        match &value.value {
-            Value::Text(_) => out.push("&str | ImmutableString | String"),
-            _ => {
-                let name = self.display_type(alloc, value)?;
-                out.push(name.as_str())
-            }
-        }
+        let name = self.display_type(alloc, value)?;
+        out.push_str(name.as_str())?;
+        Ok(())
+    }
+
+    /// Puts a value's type at the end, as a signature shows it.
+    #[tactic(auto, unfolding(crate::specs::Display::map_type_name))]
+    fn push_type(
+        &self,
+        alloc: Global,
+        out: &mut String,
+        value: &Dynamic,
+    ) -> Result<(), OutOfMemory>
+        ensures { OnOk result (string_bytes out.new ≡ string_bytes out.old ++ in_signature (lists_of info self.now) value.now) }
+    {
+        let name = match &value.value {
+            Value::Unit => "()",
+            Value::Bool(_) => "bool",
+            Value::Int(_) => "i64",
+            Value::Char(_) => "char",
+            Value::Text(_) => "&str | ImmutableString | String",
+            Value::Array(_) => "array",
+            Value::Map(_) => "map",
+            Value::FnPtr(_) => "Fn",
+            Value::Custom(..) => return self.push_display(alloc, out, value),
+        };
+        out.push_str(name)?;
+        Ok(())
     }
 
     /// Puts further types at the end, each after a comma.
     fn push_more_types(
         &self,
         alloc: Global,
-        out: &mut Text,
+        out: &mut String,
         values: &[Dynamic],
     ) -> Result<(), OutOfMemory>
-        ensures { OnOk result (out.new ≡ out.old ++ flat_map (λ v. codes ", " ++ in_signature (lists_of info self.now) v) values.now) }
+        ensures { OnOk result (string_bytes out.new ≡ string_bytes out.old ++ flat_map (λ v. codes ", " ++ in_signature (lists_of info self.now) v) values.now) }
     {
         for value in values {
-            out.push(", ")?;
+            out.push_str(", ")?;
             self.push_type(alloc, out, value)?;
         }
         Ok(())
@@ -95,11 +124,11 @@ impl Engine {
     fn push_first_types(
         &self,
         alloc: Global,
-        out: &mut Text,
+        out: &mut String,
         first: &Dynamic,
         more: &[Dynamic],
     ) -> Result<(), OutOfMemory>
-        ensures { OnOk result (out.new ≡ out.old ++ join_by (in_signature (lists_of info self.now)) (codes ", ") (first.now ∷ more.now)) }
+        ensures { OnOk result (string_bytes out.new ≡ string_bytes out.old ++ join_by (in_signature (lists_of info self.now)) (codes ", ") (first.now ∷ more.now)) }
     {
         self.push_type(alloc, out, first)?;
         self.push_more_types(alloc, out, more)
@@ -109,10 +138,10 @@ impl Engine {
     fn push_types(
         &self,
         alloc: Global,
-        out: &mut Text,
+        out: &mut String,
         values: &[Dynamic],
     ) -> Result<(), OutOfMemory>
-        ensures { OnOk result (out.new ≡ out.old ++ join_by (in_signature (lists_of info self.now)) (codes ", ") values.now) }
+        ensures { OnOk result (string_bytes out.new ≡ string_bytes out.old ++ join_by (in_signature (lists_of info self.now)) (codes ", ") values.now) }
     {
         match values {
             [] => Ok(()),
@@ -124,10 +153,10 @@ impl Engine {
     fn push_shape(
         &self,
         alloc: Global,
-        out: &mut Text,
+        out: &mut String,
         shape: &CallShape,
     ) -> Result<(), OutOfMemory>
-        ensures { OnOk result (out.new ≡ out.old ++ join_by (in_signature (lists_of info self.now)) (codes ", ") (all_args shape.now)) }
+        ensures { OnOk result (string_bytes out.new ≡ string_bytes out.old ++ join_by (in_signature (lists_of info self.now)) (codes ", ") (all_args shape.now)) }
     {
         match shape {
             CallShape::Plain(args) => self.push_types(alloc, out, args.as_slice()),
@@ -149,11 +178,12 @@ impl Engine {
     ) -> Result<Text, OutOfMemory>
         ensures { IfOk result (λ text. text ≡ signature (lists_of info self.now) name.now (all_args shape.now)) }
     {
-        let mut text = name.dup(alloc)?;
-        text.push(" (")?;
+        let mut text = String::with_capacity(alloc, ROOM)?;
+        text.push_str(name.as_str())?;
+        text.push_str(" (")?;
         self.push_shape(alloc, &mut text, shape)?;
-        text.push(")")?;
-        Ok(text)
+        text.push_str(")")?;
+        Text::from_string(alloc, text)
     }
 
     /// The same of a call with these arguments.
@@ -165,10 +195,11 @@ impl Engine {
     ) -> Result<Text, OutOfMemory>
         ensures { IfOk result (λ text. text ≡ signature (lists_of info self.now) name.now args.now) }
     {
-        let mut text = name.dup(alloc)?;
-        text.push(" (")?;
+        let mut text = String::with_capacity(alloc, ROOM)?;
+        text.push_str(name.as_str())?;
+        text.push_str(" (")?;
         self.push_types(alloc, &mut text, args.as_slice())?;
-        text.push(")")?;
-        Ok(text)
+        text.push_str(")")?;
+        Text::from_string(alloc, text)
     }
 }

@@ -1,5 +1,5 @@
 -- Marks of modules: what they tell, and that more of them tell no more.
-use Rattle.std.proofs.Common.{◌≡◌, ℕ, Bool, true, false, not, ◌||◌, ◌&&◌, List, Option, None, Some, is_none, refl, sym, ap, ◌∙◌, true≢false}
+use Rattle.std.proofs.Common.{◌≡◌, ℕ, Bool, true, false, not, ◌||◌, ◌&&◌, List, Option, None, Some, refl, sym, ap, ◌∙◌, true≢false}
 use Rattle.std.specs.Map.{lookup}
 use Rattle.rhd_value.specs.Tree.{Bytes}
 use Rattle.rhd_hash.specs.declared.key.Key.{Key}

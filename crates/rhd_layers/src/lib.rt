@@ -2,6 +2,7 @@
 #![tactic(auto)]
 
 mod lists;
+mod marked_module;
 mod marks;
 mod parts;
 mod paths;
@@ -10,6 +11,7 @@ mod shared;
 mod statics;
 
 pub use lists::{ImportList, ModuleList};
+pub use marked_module::MarkedModule;
 pub use paths::path_of;
 pub use shared::SharedModule;
 pub use statics::ModuleMap;

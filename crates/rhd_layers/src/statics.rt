@@ -14,6 +14,7 @@ ghost use Rattle.rhd_layers.specs.Lists.{all_indexed, module_of, put_module};
 ghost use Rattle.rhd_layers.specs.Marks.{lacks_below, lacks_dynamic};
 ghost use Rattle.rhd_layers.specs.Statics.{placed, made, put_static, made_by, TreeClear, IsTreeRefusal, Places};
 
+use crate::marked_module::MarkedModule;
 use crate::marks::Marks;
 use crate::parts::parts_of;
 use crate::placing::placed;
@@ -29,7 +30,7 @@ use std::marker::Model;
 /// Indexed modules by name. Contracts see the list of them with their names, in ascending order of name.
 #[derive(Drop)]
 pub struct ModuleMap {
-    modules: BTreeMap<Text, SharedModule>,
+    modules: BTreeMap<Text, MarkedModule>,
     /// What these may have, and some that were replaced.
     marks: Marks,
     /// Marks the hashes of their keys. It has room for many, since each of these modules is asked last.
@@ -71,14 +72,14 @@ impl ModuleMap {
 
     /// The module of a name.
     #[tactic(auto, using(crate::proofs::Indexed::found_by_text))]
-    pub fn get(&self, name: &Text) -> Option<&SharedModule>
+    pub fn get(&self, name: &Text) -> Option<&MarkedModule>
         ensures { option_copied result ≡ module_of name.now self.now }
     {
         self.modules.get(name)
     }
 
     /// The modules with their names, in ascending order of name. Each is indexed.
-    pub fn iter(&self) -> Iter<'_, Text, SharedModule>
+    pub fn iter(&self) -> Iter<'_, Text, MarkedModule>
         ensures entries { result ≡ self.now }
         ensures sorted { IsStrictlySortedBy (slice_cmp nat_cmp) (keys_of self.now) }
         ensures indexed { all_indexed self.now ≡ true }
@@ -116,6 +117,7 @@ impl ModuleMap {
         requires { added.own.indexed ≡ true }
         ensures { self.new ≡ (if is_ok result then put_module name added self.old else self.old) }
     {
+        let added = MarkedModule::new(added)?;
         self.marks.add_wide(&mut self.keys, added.module());
         self.modules.insert(name, added)?;
         Ok(())
@@ -141,7 +143,7 @@ impl ModuleMap {
         ensures { option_copied result ≡ module_of name.now self.now }
     {
         match self.get(name) {
-            Some(shared) => Some(shared.module()),
+            Some(marked) => Some(marked.module()),
             None => None,
         }
     }

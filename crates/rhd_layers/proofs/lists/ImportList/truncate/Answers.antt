@@ -1,4 +1,4 @@
-use Rattle.std.proofs.Common.{◌≡◌, true, sym, ap, subst, ◌∙◌}
+use Rattle.std.proofs.Common.{◌≡◌, true, sym, subst}
 use Rattle.rhd_layers.specs.Lists.{Imports, all_indexed}
 use Rattle.rhd_layers.specs.Marks.{Tells, named_one, lacks_below}
 use Rattle.rhd_layers.proofs.Indexed.{taken}
