@@ -34,4 +34,4 @@ pub use quoted::wording_at;
 pub use utf8::is_text;
 pub use values::value_at;
 pub use wants::{value_kind_at, want_at};
-pub use words::{flag_at, is_end, skip_blanks, word_at};
+pub use words::{flag_at, is_end, same_word, skip_blanks, word_at};

@@ -1,6 +1,6 @@
 //! Blanks and words.
 
-ghost use Rattle.std.specs.Prelude.{◌≡◌, ◌≤◌, false, length};
+ghost use Rattle.std.specs.Prelude.{◌≡◌, ◌≤◌, false, length, bytes_eq};
 ghost use Rattle.std.specs.List.{list_all, prefix_len};
 ghost use Rattle.std.specs.Option.{option_map};
 ghost use Rattle.std.specs.Char.{is_ascii_digit};
@@ -101,6 +101,19 @@ fn find_word(bytes: &[u8]) -> Option<(&[u8], &[u8])>
     find_run(skip_blanks(bytes))
 }
 
+/// Whether two words are the same. It walks as far as they are alike, so one of them should be short.
+pub fn same_word(a: &[u8], b: &[u8]) -> bool
+    ensures { result ≡ bytes_eq a.now b.now }
+{
+    match a {
+        [] => b.is_empty(),
+        [x, xs @ ..] => match b {
+            [] => false,
+            [y, ys @ ..] => *x == *y && same_word(xs, ys),
+        },
+    }
+}
+
 /// False only where this word doesn't come next, since what comes begins with another byte.
 fn may_come(bytes: &[u8], word: &[u8]) -> bool
     ensures { result ≡ false → flag_at word.now bytes.now ≡ (false, bytes.now) }
@@ -125,7 +138,7 @@ pub fn flag_at<'a>(bytes: &'a [u8], word: &[u8]) -> (bool, &'a [u8])
     let Some((next, rest)) = find_word(bytes) else {
         return (false, bytes);
     };
-    if next == word {
+    if same_word(next, word) {
         (true, rest)
     } else {
         (false, bytes)

@@ -4,6 +4,8 @@ ghost use Rattle.std.specs.Prelude.{◌≡◌};
 ghost use Rattle.rhd_text.specs.Rows.{call_form, all_calls, step, manifest_form, join_spelling, form, all_keywords};
 ghost use Rattle.rhd_text.specs.ReadRows.{keyword_in};
 
+use rhd_syntax::same_word;
+
 /// The word of a call.
 #[derive(Clone, Copy, Debug, PartialEq, Eq)]
 pub enum CallWord {
@@ -187,7 +189,7 @@ fn call_in(calls: &[CallWord], word: &[u8]) -> Option<CallWord>
     ensures { result ≡ keyword_in step calls.now word.now }
 {
     for k in calls {
-        if k.spelling() == word {
+        if same_word(k.spelling(), word) {
             return Some(*k);
         }
     }
@@ -218,7 +220,7 @@ fn keyword_in(keywords: &[Keyword], word: &[u8]) -> Option<Keyword>
     ensures { result ≡ keyword_in form keywords.now word.now }
 {
     for k in keywords {
-        if k.spelling() == word {
+        if same_word(k.spelling(), word) {
             return Some(*k);
         }
     }
