@@ -81,12 +81,7 @@ impl Engine {
 
     /// Puts a value's type at the end, as a signature shows it.
     #[tactic(auto, unfolding(crate::specs::Display::map_type_name))]
-    fn push_type(
-        &self,
-        alloc: Global,
-        out: &mut String,
-        value: &Dynamic,
-    ) -> Result<(), OutOfMemory>
+    fn push_type(&self, alloc: Global, out: &mut String, value: &Dynamic) -> Result<(), OutOfMemory>
         ensures { OnOk result (string_bytes out.new ≡ string_bytes out.old ++ in_signature (lists_of info self.now) value.now) }
     {
         let name = match &value.value {
