@@ -118,7 +118,7 @@ fn after_root(alloc: Global, path: &[Text]) -> Result<Texts, OutOfMemory>
 }
 
 /// What one tree has under a script's key. It isn't even asked where it has no script.
-fn find_script<'a>(root: Root<'a>, key: &Key, steps: &mut Steps) -> Option<Found<'a>>
+fn look_for_script<'a>(root: Root<'a>, key: &Key, steps: &mut Steps) -> Option<Found<'a>>
     requires { is_script_key key.now ≡ true }
     ensures found { option_map (λ f. picked f.layer f.func.now f.place.now) result ≡ pick_at key.now (rooted root.entry.layer root.entry.place.now) }
     ensures steps { steps.new ≤ steps.old + 1 }
@@ -135,7 +135,7 @@ fn find_in<'a>(root: Root<'a>, asks: &mut QualifiedAsk, steps: &mut Steps) -> Op
     ensures kept { asks.new ≡ asks.old }
     ensures steps { steps.new ≤ steps.old + (1 + length (patterns asks.old.kinds)) }
 {
-    let script = find_script(root, &asks.script, steps);
+    let script = look_for_script(root, &asks.script, steps);
     if script.is_some() {
         return script;
     }

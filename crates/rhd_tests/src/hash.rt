@@ -293,8 +293,16 @@ fn keys_are_put_in_by_hashes_at_hand(rt: HostRuntime) {
     holds(&rt, first.is_ok_and(|old| old.is_none()), "a first pair");
     let other = OwnHashedKey::new(script_key(alloc, "g"), OTHERS);
     holds(&rt, other.key().num_params() == 0, "its key");
-    holds(&rt, other.hash_under(SEEDS) == other.key().mixed(SEEDS), "under others");
-    holds(&rt, other.hash_under(OTHERS) == other.key().mixed(OTHERS), "its own");
+    holds(
+        &rt,
+        other.hash_under(SEEDS) == other.key().mixed(SEEDS),
+        "under others",
+    );
+    holds(
+        &rt,
+        other.hash_under(OTHERS) == other.key().mixed(OTHERS),
+        "its own",
+    );
     let second = table.insert_hashed(other, 2);
     holds(&rt, second.is_ok_and(|old| old.is_none()), "of other seeds");
     let key = script_key(alloc, "g");

@@ -15,6 +15,8 @@ mod file_resolver;
 #[cfg(test)]
 mod files;
 #[cfg(test)]
+mod filters;
+#[cfg(test)]
 mod func;
 pub mod given;
 #[cfg(test)]

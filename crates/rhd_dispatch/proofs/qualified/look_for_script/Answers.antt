@@ -3,7 +3,7 @@ use Rattle.std.specs.Prelude.{option_map}
 use Rattle.rhd_decl.specs.declared.declaration.Declaration.{Declaration}
 use Rattle.rhd_hash.specs.Covers.{HasNoScript}
 use Rattle.rhd_dispatch.specs.Searched.{pick_at}
-use Rattle.rhd_dispatch.proofs.qualified.find_script.Goals as goal
+use Rattle.rhd_dispatch.proofs.qualified.look_for_script.Goals as goal
 
 pub returns-then-not-tree_may_have_script-clause-found : goal.returns-then-not-tree_may_have_script-clause-found
 unfolding HasNoScript pick_at
