@@ -15,3 +15,4 @@ pub mod CallLaws
 pub mod SessionLaws
 pub mod ManifestFits
 pub mod TextHolds
+pub mod KeywordLengths

@@ -1,5 +1,5 @@
 -- How rows and lines are read.
-use Rattle.std.specs.Prelude.{ℕ, Bool, true, not, List, [], ◌∷◌, Option, Some, None, ◌==◌, codes, if◌then◌else◌}
+use Rattle.std.specs.Prelude.{ℕ, Bool, true, not, List, [], ◌∷◌, length, filter, Option, Some, None, ◌==◌, nat_eq, codes, if◌then◌else◌}
 use Rattle.std.specs.Str.{is_utf8, bytes_eq}
 use Rattle.rhd_value.specs.declared.tag.Position.{Position}
 use Rattle.rhd_func.specs.declared.request.CallRequest.{CallRequest}
@@ -48,6 +48,10 @@ row_at place f bytes = operands_at f.operands (f.part place) bytes
 unfoldable pub keyword_in : {K P : Type 0} → (K → Form P) → List K → List ℕ → Option K
 keyword_in form [] word = None
 keyword_in form (k ∷ ks) word = if bytes_eq (form k).spelling word then Some k else keyword_in form ks word
+
+-- those of some keywords that are spelled with so many bytes
+abbrev pub of_length : {K P : Type 0} → (K → Form P) → ℕ → List K → List K
+of_length form n ks = filter (λ k. nat_eq (length (form k).spelling) n) ks
 
 -- a line of a table, by its first word and what stands after it
 abbrev pub form_of : {K P : Type 0} → Table K P → Place → List ℕ → List ℕ → Option P

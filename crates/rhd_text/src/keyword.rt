@@ -2,7 +2,7 @@
 
 ghost use Rattle.std.specs.Prelude.{◌≡◌};
 ghost use Rattle.rhd_text.specs.Rows.{call_form, all_calls, step, manifest_form, join_spelling, form, all_keywords};
-ghost use Rattle.rhd_text.specs.ReadRows.{keyword_in};
+ghost use Rattle.rhd_text.specs.ReadRows.{keyword_in, of_length};
 
 use rhd_syntax::same_word;
 
@@ -227,71 +227,90 @@ fn keyword_in(keywords: &[Keyword], word: &[u8]) -> Option<Keyword>
     None
 }
 
-/// All keywords, the more frequent ones first.
-const ALL: [Keyword; 58] = [
-    Keyword::Call(CallWord::Call),
-    Keyword::Call(CallWord::Ref),
-    Keyword::Call(CallWord::Method),
-    Keyword::Call(CallWord::CallNative),
-    Keyword::Call(CallWord::RefNative),
-    Keyword::Call(CallWord::MethodNative),
-    Keyword::Call(CallWord::Qual),
-    Keyword::Call(CallWord::QualRef),
-    Keyword::Register,
-    Keyword::RegisterRaw,
-    Keyword::RegisterType,
-    Keyword::Script,
-    Keyword::Native,
-    Keyword::Raw,
-    Keyword::Module,
-    Keyword::Lib,
-    Keyword::PopLib,
-    Keyword::Import,
-    Keyword::ImportPath,
-    Keyword::PopImport,
-    Keyword::Source,
-    Keyword::NoSource,
-    Keyword::Tag,
-    Keyword::Global,
-    Keyword::Static,
-    Keyword::Index,
-    Keyword::SetId,
-    Keyword::SetDoc,
-    Keyword::SetVar,
-    Keyword::SetType,
-    Keyword::Submodule,
-    Keyword::Clear,
-    Keyword::RawIter,
-    Keyword::RawScript,
-    Keyword::Count,
-    Keyword::HasNative,
-    Keyword::HasScript,
-    Keyword::Manifest(ManifestWord::FromManifest),
-    Keyword::Manifest(ManifestWord::CombineManifest),
-    Keyword::Manifest(ManifestWord::RegisterLazy),
-    Keyword::Manifest(ManifestWord::Entry),
-    Keyword::Manifest(ManifestWord::Sub),
-    Keyword::Manifest(ManifestWord::Var),
-    Keyword::Manifest(ManifestWord::Type),
-    Keyword::Manifest(ManifestWord::Manifest),
-    Keyword::Join(JoinWord::Combine),
-    Keyword::Join(JoinWord::CombineFlatten),
-    Keyword::Join(JoinWord::Fill),
-    Keyword::Join(JoinWord::Merge),
-    Keyword::Body,
-    Keyword::Ret,
-    Keyword::Fail,
-    Keyword::Host,
-    Keyword::File,
-    Keyword::Builtin,
-    Keyword::Seeds,
-    Keyword::Limits,
-    Keyword::Printer,
-];
+/// The keywords of so many bytes, the more frequent ones first.
+fn keywords(size: usize) -> &'static [Keyword]
+    ensures { result.now ≡ of_length form size all_keywords }
+{
+    match size {
+        2 => &[Keyword::SetId],
+        3 => &[
+            Keyword::Call(CallWord::Ref),
+            Keyword::Raw,
+            Keyword::Lib,
+            Keyword::Tag,
+            Keyword::SetDoc,
+            Keyword::SetVar,
+            Keyword::Manifest(ManifestWord::Sub),
+            Keyword::Ret,
+        ],
+        4 => &[
+            Keyword::Call(CallWord::Call),
+            Keyword::Call(CallWord::Qual),
+            Keyword::SetType,
+            Keyword::Manifest(ManifestWord::Var),
+            Keyword::Join(JoinWord::Fill),
+            Keyword::Body,
+            Keyword::Fail,
+            Keyword::Host,
+            Keyword::File,
+        ],
+        5 => &[
+            Keyword::Index,
+            Keyword::Clear,
+            Keyword::Count,
+            Keyword::Manifest(ManifestWord::Entry),
+            Keyword::Manifest(ManifestWord::Type),
+            Keyword::Join(JoinWord::Merge),
+            Keyword::Seeds,
+        ],
+        6 => &[
+            Keyword::Call(CallWord::Method),
+            Keyword::Script,
+            Keyword::Native,
+            Keyword::Module,
+            Keyword::Import,
+            Keyword::Source,
+            Keyword::Global,
+            Keyword::Static,
+            Keyword::Limits,
+        ],
+        7 => &[
+            Keyword::PopLib,
+            Keyword::Join(JoinWord::Combine),
+            Keyword::Builtin,
+            Keyword::Printer,
+        ],
+        8 => &[
+            Keyword::Call(CallWord::QualRef),
+            Keyword::Register,
+            Keyword::RawIter,
+            Keyword::Manifest(ManifestWord::Manifest),
+        ],
+        9 => &[Keyword::NoSource, Keyword::Submodule],
+        10 => &[
+            Keyword::Call(CallWord::RefNative),
+            Keyword::PopImport,
+            Keyword::RawScript,
+            Keyword::HasNative,
+            Keyword::HasScript,
+        ],
+        11 => &[Keyword::Call(CallWord::CallNative), Keyword::ImportPath],
+        12 => &[Keyword::RegisterRaw],
+        13 => &[
+            Keyword::Call(CallWord::MethodNative),
+            Keyword::RegisterType,
+            Keyword::Manifest(ManifestWord::FromManifest),
+            Keyword::Manifest(ManifestWord::RegisterLazy),
+        ],
+        15 => &[Keyword::Join(JoinWord::CombineFlatten)],
+        16 => &[Keyword::Manifest(ManifestWord::CombineManifest)],
+        _ => &[],
+    }
+}
 
 /// The keyword that is spelled so.
 pub fn keyword_of(word: &[u8]) -> Option<Keyword>
     ensures { result ≡ keyword_in form all_keywords word.now }
 {
-    keyword_in(&ALL, word)
+    keyword_in(keywords(word.len()), word)
 }
