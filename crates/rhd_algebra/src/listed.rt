@@ -19,6 +19,7 @@ ghost use Rattle.rhd_module.specs.Tree.{empty_module};
 
 use rhd_decl::{DeclFault, Declaration};
 use rhd_func::ManifestId;
+use rhd_hash::{Seeds, SharedKey};
 use rhd_manifest::{EntryList, FnManifestEntry, Manifests};
 use rhd_module::{Module, is_banned, put_entry, register_declared};
 use std::alloc::Global;
@@ -68,7 +69,7 @@ pub(crate) fn refuse_indexers(
     match find_banned_in(listing.parts()) {
         None => Ok(()),
         Some(entry) => {
-            let key = entry.key().dup(alloc)?;
+            let key = SharedKey::new(alloc, entry.key().dup(alloc)?, Seeds::default())?;
             Err(DeclFault::IndexerNotAllowed { key })
         }
     }

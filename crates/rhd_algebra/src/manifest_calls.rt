@@ -8,6 +8,7 @@ ghost use Rattle.rhd_module.specs.Registered.{Puts};
 
 use crate::combining::{put_types, put_vars};
 use rhd_decl::DeclFault;
+use rhd_hash::SharedKey;
 use rhd_manifest::{FnManifestEntry, ModuleManifest};
 use rhd_module::{Module, is_banned, put_entry};
 use rhd_value::OutOfMemory;
@@ -57,7 +58,7 @@ impl EntryCalls for FnManifestEntry {
 
     fn register_into(&self, alloc: Global, target: &mut Module) -> Result<(), DeclFault> {
         if is_banned(self.name(), self.param_types()) {
-            let key = self.key().dup(alloc)?;
+            let key = SharedKey::new(alloc, self.key().dup(alloc)?, target.seeds())?;
             return Err(DeclFault::IndexerNotAllowed { key });
         }
         put_entry(target, alloc, self)

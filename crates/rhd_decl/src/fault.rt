@@ -2,7 +2,7 @@
 
 ghost use Rattle.std.specs.Prelude.{◌≡◌, IfOk};
 
-use rhd_hash::{Key, TableFault};
+use rhd_hash::{SharedKey, TableFault};
 use rhd_value::OutOfMemory;
 use std::alloc::{AllocError, AllocFailed, Global};
 
@@ -11,9 +11,9 @@ use std::alloc::{AllocError, AllocFailed, Global};
 #[derive(Drop)]
 pub enum DeclFault {
     /// Two keys of one table would have one hash.
-    HashCollision { held: Key, new: Key },
+    HashCollision { held: SharedKey, new: SharedKey },
     /// An indexer of a type whose indexing has its meaning already, with its key.
-    IndexerNotAllowed { key: Key },
+    IndexerNotAllowed { key: SharedKey },
     /// A function that iterates, or a script, where a native is asked for.
     NotCallable,
     /// A number isn't held: it is at least the number of things of its kind.

@@ -11,6 +11,7 @@ use crate::fault::DeclFault;
 use crate::native_keys::native_key;
 use crate::registration::is_banned;
 use rhd_func::{Natives, PluginFunc, RhaiFunc};
+use rhd_hash::{Seeds, SharedKey};
 use rhd_value::{FnId, Text};
 use std::alloc::Global;
 
@@ -56,6 +57,7 @@ pub fn refuse_banned(
     let types = native.param_types();
     if is_banned(name, types) {
         let key = native_key(alloc, name, native.is_method_call(), types)?;
+        let key = SharedKey::new(alloc, key, Seeds::default())?;
         return Err(DeclFault::IndexerNotAllowed { key });
     }
     Ok(())

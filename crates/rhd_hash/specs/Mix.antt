@@ -1,5 +1,5 @@
 -- The mixer: a hash of a row of bytes, with two seeds and a mask.
-use Rattle.std.specs.Prelude.{ℕ, ◌*◌, ◌%◌, ◌/◌, ◌^◌, List, fold, bit_xor, bit_and}
+use Rattle.std.specs.Prelude.{ℕ, ◌*◌, ◌%◌, ◌/◌, ◌^◌, List, [], ◌∷◌, fold, bit_xor, bit_and}
 use Rattle.rhd_hash.specs.declared.mixer.Seeds.{Seeds}
 use Rattle.rhd_hash.specs.declared.mixer.Mixer.{Mixer}
 
@@ -22,6 +22,10 @@ mix_end seeds h = bit_and (bit_xor (bit_xor h (h / 2 ^ 32)) seeds.seed1) seeds.m
 -- the hash of a row of bytes
 unfoldable pub mix : Seeds → List ℕ → ℕ
 mix seeds bytes = mix_end seeds (mix_all (mix_start seeds) bytes)
+
+-- the bytes of a small count behind the first
+abbrev pub seven_zeros : List ℕ
+seven_zeros = 0 ∷ 0 ∷ 0 ∷ 0 ∷ 0 ∷ 0 ∷ 0 ∷ []
 
 -- a mixer that took no byte yet
 unfoldable pub fresh : Seeds → Mixer

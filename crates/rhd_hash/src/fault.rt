@@ -3,7 +3,7 @@
 ghost use Rattle.std.specs.Prelude.{◌≡◌, IfOk};
 ghost use Rattle.rhd_hash.specs.declared.fault.TableFault.TheVariants.{OutOfMemory as no_memory};
 
-use crate::key::Key;
+use crate::shared_key::SharedKey;
 use rhd_value::OutOfMemory;
 use std::alloc::Global;
 
@@ -11,7 +11,7 @@ use std::alloc::Global;
 #[derive(Drop)]
 pub enum TableFault {
     /// The table has another key of the same hash.
-    Clash { held: Key, new: Key },
+    Clash { held: SharedKey, new: SharedKey },
     /// Memory ran out.
     OutOfMemory,
 }

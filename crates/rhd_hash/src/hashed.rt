@@ -69,69 +69,6 @@ impl<'a> HashedKey<'a> {
     }
 }
 
-/// The same, which has the key itself. Contracts see the key.
-#[derive(Drop)]
-pub struct OwnHashedKey {
-    key: Key,
-    seeds: Seeds,
-    hash: u64,
-}
-
-impl Model for OwnHashedKey {
-    ghost use Rattle.std.specs.Prelude.{◌≡◌};
-    ghost use Rattle.rhd_hash.specs.Parts.{mixed};
-    ghost use Rattle.rhd_hash.specs.declared.key.Key.{Key};
-
-    ghost Value = { Key };
-
-    ghost view = { λ h. h.key };
-
-    ghost invariant = { λ h. h.hash ≡ mixed h.seeds h.key };
-}
-
-impl OwnHashedKey {
-    /// A key with its hash under these seeds.
-    pub fn new(key: Key, seeds: Seeds) -> OwnHashedKey
-        ensures { result ≡ key }
-    {
-        let hash = key.mixed(seeds);
-        OwnHashedKey { key, seeds, hash }
-    }
-
-    /// A key with its hash under these seeds, where that is at hand.
-    pub fn known(key: Key, seeds: Seeds, hash: u64) -> OwnHashedKey
-        requires { hash ≡ mixed seeds key }
-        ensures { result ≡ key }
-    {
-        OwnHashedKey { key, seeds, hash }
-    }
-
-    /// The key.
-    pub fn key(&self) -> &Key
-        ensures { result.now ≡ self.now }
-    {
-        &self.key
-    }
-
-    /// The key alone.
-    pub fn into_key(self) -> Key
-        ensures { result ≡ self }
-    {
-        self.key
-    }
-
-    /// Its hash under these seeds. It is hashed anew only where they are others than its own.
-    pub fn hash_under(&self, seeds: Seeds) -> u64
-        ensures { result ≡ mixed seeds self.now }
-    {
-        if self.seeds == seeds {
-            self.hash
-        } else {
-            self.key.mixed(seeds)
-        }
-    }
-}
-
 /// The hash of a key by its name and its number of parameters alone, under some seeds. It is made once for
 /// all filters of these seeds.
 #[derive(Clone, Copy)]

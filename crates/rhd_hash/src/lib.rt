@@ -9,6 +9,7 @@ mod hashing;
 mod key;
 mod law;
 mod mixer;
+mod shared_key;
 mod steps;
 mod straight;
 mod table;
@@ -16,7 +17,7 @@ mod table;
 pub use call_hashes::FnCallHashes;
 pub use fault::TableFault;
 pub use filter::BloomFilterU64;
-pub use hashed::{HashedKey, OwnHashedKey, UntypedHash};
+pub use hashed::{HashedKey, UntypedHash};
 pub use hashing::{
     calc_fn_hash, calc_fn_hash_full, calc_native_fn_hash, calc_typed_method_hash,
     calc_untyped_fn_hash, calc_var_hash,
@@ -28,6 +29,7 @@ pub use law::{
     a_value_leaves_the_others, keys_of_a_table_are_apart,
 };
 pub use mixer::{Mixer, Seeds, get_hasher};
+pub use shared_key::SharedKey;
 pub use steps::Steps;
 pub use straight::{StraightHashMap, StraightHasher, StraightHasherBuilder};
 pub use table::KeyTable;

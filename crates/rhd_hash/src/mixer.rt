@@ -1,7 +1,7 @@
 //! The mixer: a hash of a row of bytes.
 
 ghost use Rattle.std.specs.Prelude.{◌≡◌, [], ◌∷◌};
-ghost use Rattle.rhd_hash.specs.Mix.{fresh, after, answer};
+ghost use Rattle.rhd_hash.specs.Mix.{fresh, after, answer, seven_zeros};
 ghost use Rattle.rhd_hash.specs.Parts.{count_bytes, text_bytes, four_bytes};
 
 use rhd_value::Text;
@@ -64,11 +64,23 @@ impl Mixer {
         self.write(text.as_str().as_bytes());
     }
 
-    /// Takes a count: eight bytes, the lowest first.
+    /// Takes a count: eight bytes, the lowest first. Those of a small one are zero behind the first.
     pub fn write_count(&mut self, count: u64)
         ensures { self.new ≡ after self.old (count_bytes count) }
     {
-        self.write(&count.to_le_bytes());
+        if count < 256 {
+            self.write_u8(count as u8);
+            self.write_zeros();
+        } else {
+            self.write(&count.to_le_bytes());
+        }
+    }
+
+    /// Takes seven bytes of zero, each of which multiplies alone.
+    fn write_zeros(&mut self)
+        ensures { self.new ≡ after self.old seven_zeros }
+    {
+        self.state = self.state.wrapping_mul(0xc5527b8a51d3d2db);
     }
 
     /// The hash of the bytes that were taken.

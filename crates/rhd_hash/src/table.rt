@@ -11,17 +11,18 @@ ghost use Rattle.rhd_hash.specs.Keys.{key_eq};
 ghost use Rattle.rhd_hash.specs.Parts.{mixed};
 ghost use Rattle.rhd_hash.specs.PutIn.{put_in};
 ghost use Rattle.rhd_hash.specs.Refusal.{IsRefusal};
-ghost use Rattle.rhd_hash.specs.Slots.{IsFree, hashed};
+ghost use Rattle.rhd_hash.specs.Slots.{IsFree};
 ghost use Rattle.rhd_hash.specs.Table.{first_hashed, HasOwnHashes, Clashes};
 
 use crate::fault::TableFault;
 use crate::filter::BloomFilterU64;
-use crate::hashed::{HashedKey, OwnHashedKey};
+use crate::hashed::HashedKey;
 use crate::key::Key;
 use crate::mixer::Seeds;
+use crate::shared_key::SharedKey;
 use crate::straight::StraightHasherBuilder;
 use indexmap::IndexMap;
-use indexmap::map::{Iter, Values};
+use indexmap::map::Values;
 use rhd_value::OutOfMemory;
 use std::alloc::Global;
 use std::marker::Model;
@@ -31,7 +32,7 @@ use std::marker::Model;
 #[derive(Drop)]
 pub struct KeyTable<V> {
     seeds: Seeds,
-    slots: IndexMap<u64, (Key, V), StraightHasherBuilder>,
+    slots: IndexMap<u64, (SharedKey, V), StraightHasherBuilder>,
     /// Marks the hash of each key.
     marks: BloomFilterU64<128>,
     /// Whether a script's key was ever put in.
@@ -51,7 +52,7 @@ impl<V> Model for KeyTable<V> {
 }
 
 /// The value of a pair that was replaced.
-fn value_of<V>(pair: Option<(Key, V)>) -> Option<V>
+fn value_of<V>(pair: Option<(SharedKey, V)>) -> Option<V>
     ensures { result ≡ option_map (λ p. p.1) pair }
 {
     match pair {
@@ -113,19 +114,11 @@ impl<V> KeyTable<V> {
     }
 
     /// The pairs, in order.
-    pub fn iter(&self) -> Values<'_, u64, (Key, V)>
+    pub fn iter(&self) -> Values<'_, u64, (SharedKey, V)>
         ensures pairs { result ≡ self.now.pairs }
         ensures apart { HasOwnHashes self.now.seeds (keys_of self.now.pairs) }
     {
         self.slots.values()
-    }
-
-    /// The pairs behind the hashes of their keys, in order.
-    pub fn hashed_iter(&self) -> Iter<'_, u64, (Key, V)>
-        ensures pairs { result ≡ hashed (mixed self.now.seeds) self.now.pairs }
-        ensures apart { HasOwnHashes self.now.seeds (keys_of self.now.pairs) }
-    {
-        self.slots.iter()
     }
 
     /// The pair at a place, counted from 0; none where there is nothing.
@@ -133,7 +126,7 @@ impl<V> KeyTable<V> {
         ensures { option_map (λ p. (p.0.now, p.1.now)) result ≡ slice_get self.now.pairs place }
     {
         match self.slots.get_index(place) {
-            Some((_hash, pair)) => Some((&pair.0, &pair.1)),
+            Some((_hash, pair)) => Some((pair.0.key(), &pair.1)),
             None => None,
         }
     }
@@ -143,10 +136,18 @@ impl<V> KeyTable<V> {
         ensures pair { option_map (λ p. (p.0.now, p.1.now)) result ≡ first_hashed (mixed self.now.seeds) hash self.now.pairs }
         ensures apart { HasOwnHashes self.now.seeds (keys_of self.now.pairs) }
     {
-        match self.slots.get(&hash) {
-            Some((key, value)) => Some((key, value)),
+        match self.pair_by_hash(hash) {
+            Some((key, value)) => Some((key.key(), value)),
             None => None,
         }
+    }
+
+    /// The same as it is kept.
+    fn pair_by_hash(&self, hash: u64) -> Option<&(SharedKey, V)>
+        ensures pair { option_copied result ≡ first_hashed (mixed self.now.seeds) hash self.now.pairs }
+        ensures apart { HasOwnHashes self.now.seeds (keys_of self.now.pairs) }
+    {
+        self.slots.get(&hash)
     }
 
     /// The value under a key.
@@ -187,16 +188,16 @@ impl<V> KeyTable<V> {
         ensures old { IfOk result (λ old. old ≡ lookup (key_eq key) self.old.pairs) }
         ensures pairs { OnOk result (self.new ≡ record self.old { pairs = put_in key_eq key value self.old.pairs }) }
         ensures unchanged { OnErr result (self.new ≡ self.old) }
-        ensures absent { OnErr result (lookup (key_eq key) self.old.pairs ≡ None) }
         ensures refused { IfErr result (IsRefusal self.old key) }
         ensures apart { OnOk result (HasOwnHashes self.new.seeds (keys_of self.new.pairs)) }
         ensures refuses { (held : _) → Contains (keys_of self.old.pairs) held → Clashes self.old.seeds held key → IsErr result }
     {
-        self.insert_hashed(OwnHashedKey::new(key, self.seeds), value)
+        let key = SharedKey::new(*self.slots.allocator(), key, self.seeds)?;
+        self.insert_shared(key, value)
     }
 
-    /// The same under a key whose hash is at hand.
-    pub fn insert_hashed(&mut self, key: OwnHashedKey, value: V) -> Result<Option<V>, TableFault>
+    /// The same under a key that tables share. Memory may run out only where the key isn't there.
+    pub fn insert_shared(&mut self, key: SharedKey, value: V) -> Result<Option<V>, TableFault>
     where
         V: Drop,
         ensures old { IfOk result (λ old. old ≡ lookup (key_eq key) self.old.pairs) }
@@ -207,9 +208,8 @@ impl<V> KeyTable<V> {
         ensures apart { OnOk result (HasOwnHashes self.new.seeds (keys_of self.new.pairs)) }
         ensures refuses { (held : _) → Contains (keys_of self.old.pairs) held → Clashes self.old.seeds held key → IsErr result }
     {
-        let hash = key.hash_under(self.seeds);
-        let key = key.into_key();
-        if let Some(held) = self.clash_with(&key, hash)? {
+        let hash = key.hashed().hash_under(self.seeds);
+        if let Some(held) = self.clash_with(key.key(), hash)? {
             return Err(TableFault::Clash { held, new: key });
         }
         self.put(key, hash, value)
@@ -224,8 +224,8 @@ impl<V> KeyTable<V> {
         self.slots.truncate(len);
     }
 
-    /// A copy of the key that clashes with this one, which has this hash.
-    fn clash_with(&self, key: &Key, hash: u64) -> Result<Option<Key>, OutOfMemory>
+    /// The key that clashes with this one, which has this hash.
+    fn clash_with(&self, key: &Key, hash: u64) -> Result<Option<SharedKey>, OutOfMemory>
         requires { hash ≡ mixed self.now.seeds key.now }
         ensures apart { HasOwnHashes self.now.seeds (keys_of self.now.pairs) }
         ensures free { IfOk result (λ r. IfNone r (IsFree self.now key.now)) }
@@ -233,9 +233,9 @@ impl<V> KeyTable<V> {
         ensures absent { IfOk result (λ r. IfSome r (λ _. lookup (key_eq key.now) self.now.pairs ≡ None)) }
         ensures err { OnErr result (lookup (key_eq key.now) self.now.pairs ≡ None) }
     {
-        match self.get_by_hash(hash) {
+        match self.pair_by_hash(hash) {
             Some((held, _value)) => {
-                if *held == *key {
+                if *held.key() == *key {
                     Ok(None)
                 } else {
                     Ok(Some(held.dup(*self.slots.allocator())?))
@@ -246,7 +246,7 @@ impl<V> KeyTable<V> {
     }
 
     /// Puts a value under a key that has this hash and clashes with none.
-    fn put(&mut self, key: Key, hash: u64, value: V) -> Result<Option<V>, TableFault>
+    fn put(&mut self, key: SharedKey, hash: u64, value: V) -> Result<Option<V>, TableFault>
     where
         V: Drop,
         requires hash { hash ≡ mixed self.old.seeds key }
@@ -258,7 +258,7 @@ impl<V> KeyTable<V> {
         ensures refused { IfErr result (λ fault. fault ≡ no_memory) }
         ensures apart { OnOk result (HasOwnHashes self.new.seeds (keys_of self.new.pairs)) }
     {
-        let script = key.is_script();
+        let script = key.key().is_script();
         match self.slots.insert(hash, (key, value)) {
             Ok(old) => {
                 self.marks.mark(hash);

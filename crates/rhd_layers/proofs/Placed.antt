@@ -111,6 +111,12 @@ module _ (seeds : Seeds) (added : ModuleTree) (part : Bytes) (more : List Bytes)
       let same : named part (indexed outer) ≡ placed seeds added part more held = ap (λ m. named part (indexed m)) (around ∙ ap (λ m. with_sub next m (unwrap_or held (empty_module seeds))) within) ∙ sym placed_next in
       subst (λ (ms : List ModuleTree). AllByRecursion TreeClear ms) (sym made_next) (subst TreeClear same here, later)
 
+  pub here_refused : (inner outer : ModuleTree) → inner ≡ placed seeds added next rest below → outer ≡ with_sub next inner (unwrap_or held (empty_module seeds)) → (fault : DeclFault) → IsTreeRefusal (named part (indexed outer) ∷ []) fault → IsTreeRefusal (made seeds added part more held) fault
+  here_refused inner outer within around fault here =
+      let same : named part (indexed outer) ≡ placed seeds added part more held = ap (λ m. named part (indexed m)) (around ∙ ap (λ m. with_sub next m (unwrap_or held (empty_module seeds))) within) ∙ sym placed_next in
+      let first = first_refused (placed seeds added part more held) (made seeds added next rest below) fault (subst (λ (m : ModuleTree). IsTreeRefusal (m ∷ []) fault) same here) in
+      subst (λ (ms : List ModuleTree). IsTreeRefusal ms fault) (sym made_next) first
+
 pub if_err : {A : Type 0} (r : Result A DeclFault) (fault : DeclFault) (P : DeclFault → Type 0) → IsErr r × IsErrAnd r (λ f. f ≡ fault) → P fault → IfErr r P
 if_err (Ok answer) fault P is p = tt
 if_err (Err f) fault P is p = subst P (sym is.1) p

@@ -14,7 +14,7 @@ ghost use Rattle.rhd_module.specs.Registered.{Puts};
 
 use crate::module::Module;
 use rhd_decl::{DeclFault, Declaration};
-use rhd_hash::{Key, OwnHashedKey};
+use rhd_hash::SharedKey;
 use rhd_manifest::FnManifestEntry;
 use std::alloc::Global;
 
@@ -31,7 +31,7 @@ fn put_listed(
     ensures clash { IfErr result (IsClash target.old.own.seeds (keys_of (put_back (entry_pair target.old.own.seeds entry.now ∷ []) target.old.own.eager))) }
 {
     let hash = declaration.metadata().hash;
-    let key = OwnHashedKey::known(entry.key().dup(alloc)?, target.seeds(), hash);
+    let key = SharedKey::known(alloc, entry.key().dup(alloc)?, target.seeds(), hash)?;
     target.put_fn(alloc, key, declaration)
 }
 
@@ -53,7 +53,7 @@ pub fn put_entry(
 fn register_pair(
     target: &mut Module,
     alloc: Global,
-    key: &Key,
+    key: &SharedKey,
     declaration: &Declaration,
 ) -> Result<(), DeclFault>
     ensures ok { OnOk result (target.new ≡ with_pairs (put key.now declaration.now target.old.own.eager) target.new.own.indexed target.old) }
@@ -61,8 +61,7 @@ fn register_pair(
     ensures err { OnErr result (target.new ≡ target.old) }
 {
     let declaration = declaration.dup(alloc)?;
-    let key = OwnHashedKey::new(key.dup(alloc)?, target.seeds());
-    target.put_fn(alloc, key, declaration)
+    target.put_fn(alloc, key.dup(alloc)?, declaration)
 }
 
 /// Declares what another module declares once more, each in the place of one of an equal key, else last.
@@ -86,7 +85,7 @@ pub fn register_declared(
 fn register_pair_that<F: Fn(&Declaration) -> bool>(
     made: &mut Module,
     alloc: Global,
-    key: &Key,
+    key: &SharedKey,
     declaration: &Declaration,
     passes: &F,
 ) -> Result<(), DeclFault>

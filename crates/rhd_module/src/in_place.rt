@@ -16,7 +16,7 @@ ghost use Rattle.rhd_module.specs.Tree.{subs_of};
 
 use crate::module::Module;
 use rhd_decl::{DeclFault, Declaration};
-use rhd_hash::{Key, OwnHashedKey};
+use rhd_hash::{Key, SharedKey};
 use rhd_map::{put_all, take_back};
 use rhd_table::{Copies, copies_that, mark_pairs, split_copies};
 use rhd_value::{Dynamic, Entries, OutOfMemory, Text};
@@ -97,8 +97,8 @@ impl Module {
     fn put_copies(
         &mut self,
         alloc: Global,
-        there: Vec<(OwnHashedKey, Declaration)>,
-        new: Vec<(OwnHashedKey, Declaration)>,
+        there: Vec<(SharedKey, Declaration)>,
+        new: Vec<(SharedKey, Declaration)>,
         named: Named,
     ) -> Result<(), DeclFault>
         requires there { AllByRecursion (λ p. is_some (lookup (key_eq p.0) self.old.own.eager) ≡ true) there.items }

@@ -18,7 +18,7 @@ ghost use Rattle.rhd_module.specs.Tree.{empty_module, subs_of};
 use indexmap::map::Values;
 use rhd_decl::{CustomTypesCollection, DeclFault, Declaration, Switches};
 use rhd_func::{ManifestId, RhaiFunc, SharedText};
-use rhd_hash::{BloomFilterU64, HashedKey, Key, OwnHashedKey, Seeds, Steps};
+use rhd_hash::{BloomFilterU64, HashedKey, Key, Seeds, SharedKey, Steps};
 use rhd_manifest::Listing;
 use rhd_table::{Declarations, TreeIndex, mark_dynamic};
 use rhd_value::{Entries, OutOfMemory, Text, Texts, TypeTag};
@@ -153,7 +153,7 @@ impl Module {
     pub(crate) fn put_fn(
         &mut self,
         alloc: Global,
-        key: OwnHashedKey,
+        key: SharedKey,
         declaration: Declaration,
     ) -> Result<(), DeclFault>
         ensures { Puts None key declaration self.old result self.new }
@@ -324,7 +324,7 @@ impl Module {
     }
 
     /// The declarations with their keys, in order.
-    pub fn iter_fn(&self) -> Values<'_, u64, (Key, Declaration)>
+    pub fn iter_fn(&self) -> Values<'_, u64, (SharedKey, Declaration)>
         ensures pairs { result ≡ self.now.own.eager }
         ensures apart { HasOwnHashes self.now.own.seeds (keys_of self.now.own.eager) }
     {

@@ -14,7 +14,7 @@ use rhd_decl::{
     script_declaration, script_key, unknown,
 };
 use rhd_func::{EnvId, Natives, PluginFunc, RhaiFunc, SharedDef};
-use rhd_hash::{Key, OwnHashedKey};
+use rhd_hash::{Key, SharedKey};
 use rhd_value::{FnId, Text, Texts, TypeTag};
 use std::alloc::Global;
 
@@ -97,7 +97,7 @@ impl Module {
     {
         let (key, declaration) = reg.into_pair(alloc, self.seeds(), is_method, types, func)?;
         let metadata = declaration.metadata().dup(alloc)?;
-        let key = OwnHashedKey::known(key, self.seeds(), metadata.hash);
+        let key = SharedKey::known(alloc, key, self.seeds(), metadata.hash)?;
         self.put_fn(alloc, key, declaration)?;
         Ok(metadata)
     }
@@ -116,6 +116,7 @@ impl Module {
     {
         if is_banned(&reg.name, types) {
             let key = native_key(alloc, &reg.name, is_method, types)?;
+            let key = SharedKey::new(alloc, key, self.seeds())?;
             return Err(DeclFault::IndexerNotAllowed { key });
         }
         self.put_native(alloc, reg, is_method, types, func)
@@ -345,7 +346,7 @@ impl Module {
         let key = script_key(alloc, def.def())?;
         let declaration = script_declaration(alloc, self.seeds(), def, env)?;
         let hash = declaration.metadata().hash;
-        let key = OwnHashedKey::known(key, self.seeds(), hash);
+        let key = SharedKey::known(alloc, key, self.seeds(), hash)?;
         self.put_fn(alloc, key, declaration)?;
         Ok(hash)
     }

@@ -35,11 +35,11 @@ fn push_refusal(alloc: Global, fault: &DeclFault, out: &mut Vec<u8>) -> Result<(
     match fault {
         DeclFault::HashCollision { held, new } => {
             out.extend_from_slice(b"1 ")?;
-            push_keys(alloc, held, new, out)
+            push_keys(alloc, held.key(), new.key(), out)
         }
         DeclFault::IndexerNotAllowed { key } => {
             out.extend_from_slice(b"2 ")?;
-            push_key(alloc, key, out)
+            push_key(alloc, key.key(), out)
         }
         DeclFault::NotCallable => Ok(out.extend_from_slice(b"3")?),
         DeclFault::UnknownNumber { number, length } => {

@@ -4,7 +4,7 @@ ghost use Rattle.std.specs.Prelude.{◌≡◌, true};
 ghost use Rattle.rhd_resolve.specs.Faults.{is_of_making, HandsOn};
 
 use rhd_decl::DeclFault;
-use rhd_hash::Key;
+use rhd_hash::SharedKey;
 use rhd_value::{EvalAltResult, OutOfMemory};
 
 /// Why a module or a script isn't given.
@@ -13,7 +13,7 @@ pub enum ResolveFault {
     /// The fault of a call: there is no module, or it couldn't be made.
     Fault(EvalAltResult),
     /// Two keys of one table would have one hash.
-    HashCollision { held: Key, new: Key },
+    HashCollision { held: SharedKey, new: SharedKey },
     /// Memory ran out.
     OutOfMemory,
 }

@@ -11,4 +11,4 @@ pub mod Fills
 pub mod Registers
 pub mod PutParts
 pub mod Banned
-pub mod Hashed
+pub mod Taken

@@ -6,9 +6,7 @@ ghost use Rattle.std.specs.Map.{lookup, keys_of};
 ghost use Rattle.std.specs.Option.{option_copied, option_map};
 ghost use Rattle.rhd_hash.specs.Covers.{Covers, HasNoScript};
 ghost use Rattle.rhd_hash.specs.Keys.{key_eq};
-ghost use Rattle.rhd_hash.specs.Parts.{mixed};
 ghost use Rattle.rhd_hash.specs.Refusal.{IsRefusal};
-ghost use Rattle.rhd_hash.specs.Slots.{hashed};
 ghost use Rattle.rhd_hash.specs.Table.{HasOwnHashes};
 ghost use Rattle.rhd_hash.specs.declared.fault.TableFault.{TableFault};
 ghost use Rattle.rhd_decl.specs.Collisions.{collision};
@@ -20,10 +18,10 @@ ghost use Rattle.rhd_table.specs.Pairs.{put, put_all};
 use crate::growing::grow;
 use crate::native_index::NativeIndex;
 use crate::script_search::{typed_script, untyped_script};
-use indexmap::map::{Iter, Values};
+use indexmap::map::Values;
 use rhd_decl::{DeclFault, Declaration, SharedMetadata};
 use rhd_func::SharedDef;
-use rhd_hash::{BloomFilterU64, HashedKey, Key, KeyTable, OwnHashedKey, Seeds};
+use rhd_hash::{BloomFilterU64, HashedKey, Key, KeyTable, Seeds, SharedKey};
 use rhd_value::{OutOfMemory, Text, Texts, TypeTag};
 use std::alloc::Global;
 use std::marker::Model;
@@ -83,7 +81,7 @@ pub(crate) fn note_place(
 /// Puts a declaration under a key of a table. Answers whether one stood there.
 pub(crate) fn put_pair(
     table: &mut KeyTable<Declaration>,
-    key: OwnHashedKey,
+    key: SharedKey,
     declaration: Declaration,
 ) -> Result<bool, DeclFault>
     ensures replaced { IfOk result (λ replaced. replaced ≡ is_some (lookup (key_eq key) table.old.pairs)) }
@@ -93,7 +91,7 @@ pub(crate) fn put_pair(
     ensures absent { OnErr result (lookup (key_eq key) table.old.pairs ≡ None) }
     ensures refused { IfErr result (λ fault. (clash : TableFault) × (fault ≡ collision clash) × IsRefusal table.old key clash) }
 {
-    match table.insert_hashed(key, declaration) {
+    match table.insert_shared(key, declaration) {
         Ok(old) => Ok(old.is_some()),
         Err(fault) => Err(DeclFault::from(fault)),
     }
@@ -144,19 +142,11 @@ impl Declarations {
     }
 
     /// The declarations with their keys, in order.
-    pub fn iter(&self) -> Values<'_, u64, (Key, Declaration)>
+    pub fn iter(&self) -> Values<'_, u64, (SharedKey, Declaration)>
         ensures pairs { result ≡ self.now.pairs }
         ensures apart { HasOwnHashes self.now.seeds (keys_of self.now.pairs) }
     {
         self.table.iter()
-    }
-
-    /// The declarations with their keys behind the hashes of these, in order.
-    pub fn hashed_iter(&self) -> Iter<'_, u64, (Key, Declaration)>
-        ensures pairs { result ≡ hashed (mixed self.now.seeds) self.now.pairs }
-        ensures apart { HasOwnHashes self.now.seeds (keys_of self.now.pairs) }
-    {
-        self.table.hashed_iter()
     }
 
     /// The declaration under a key.
@@ -211,7 +201,7 @@ impl Declarations {
     pub fn put(
         &mut self,
         alloc: Global,
-        key: OwnHashedKey,
+        key: SharedKey,
         declaration: Declaration,
     ) -> Result<bool, DeclFault>
         ensures replaced { IfOk result (λ replaced. replaced ≡ is_some (lookup (key_eq key) self.old.pairs)) }
@@ -240,8 +230,8 @@ impl Declarations {
     pub fn grow(
         &mut self,
         alloc: Global,
-        there: Vec<(OwnHashedKey, Declaration)>,
-        new: Vec<(OwnHashedKey, Declaration)>,
+        there: Vec<(SharedKey, Declaration)>,
+        new: Vec<(SharedKey, Declaration)>,
     ) -> Result<(), DeclFault>
         requires there { AllByRecursion (λ p. is_some (lookup (key_eq p.0) self.old.pairs) ≡ true) there.items }
         requires new { AllByRecursion (λ p. lookup (key_eq p.0) self.old.pairs ≡ None) new.items }
@@ -309,7 +299,7 @@ fn comment_pair(
         Some(declaration) => commented(alloc, declaration, comments)?,
         None => return Ok(false),
     };
-    let key = OwnHashedKey::new(key.dup(alloc)?, table.seeds());
+    let key = SharedKey::new(alloc, key.dup(alloc)?, table.seeds())?;
     match put_pair(table, key, declaration) {
         Ok(_replaced) => Ok(true),
         Err(_fault) => Err(OutOfMemory),
@@ -324,26 +314,23 @@ fn dup_declarations(
     ensures { IfOk result (λ copy. copy ≡ table.now) }
 {
     let mut copy = KeyTable::new(alloc, table.seeds());
-    for (hash, pair) in table.hashed_iter() {
-        copy_pair(alloc, &mut copy, *hash, &pair.0, &pair.1)?;
+    for (key, declaration) in table.iter() {
+        copy_pair(alloc, &mut copy, key, declaration)?;
     }
     Ok(copy)
 }
 
-/// Puts an equal declaration under an equal key, which has this hash.
+/// Puts an equal declaration under the same key.
 fn copy_pair(
     alloc: Global,
     copy: &mut KeyTable<Declaration>,
-    hash: u64,
-    key: &Key,
+    key: &SharedKey,
     declaration: &Declaration,
 ) -> Result<(), OutOfMemory>
-    requires { hash ≡ mixed copy.old.seeds key.now }
     ensures { OnOk result (copy.new ≡ record copy.old { pairs = put key.now declaration.now copy.old.pairs }) }
 {
     let declaration = declaration.dup(alloc)?;
-    let key = OwnHashedKey::known(key.dup(alloc)?, copy.seeds(), hash);
-    match put_pair(copy, key, declaration) {
+    match put_pair(copy, key.dup(alloc)?, declaration) {
         Ok(_replaced) => Ok(()),
         Err(_fault) => Err(OutOfMemory),
     }

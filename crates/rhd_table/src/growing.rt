@@ -6,7 +6,6 @@ ghost use Rattle.std.specs.Map.{keys_of, lookup};
 ghost use Rattle.std.specs.Fn.{FnReturnsAt};
 ghost use Rattle.rhd_hash.specs.declared.key.Key.{Key as TheKey};
 ghost use Rattle.rhd_hash.specs.Keys.{key_eq};
-ghost use Rattle.rhd_hash.specs.Parts.{mixed};
 ghost use Rattle.rhd_table.specs.Indexed.{IsClash};
 ghost use Rattle.rhd_table.specs.NativeIndex.{IsIndex};
 ghost use Rattle.rhd_table.specs.Pairs.{Pairs, put, put_all};
@@ -15,7 +14,7 @@ ghost use Rattle.rhd_table.specs.Tells.{Tells};
 use crate::declarations::{Declarations, dynamic_name, note_place, put_pair};
 use crate::native_index::NativeIndex;
 use rhd_decl::{DeclFault, Declaration};
-use rhd_hash::{HashedKey, Key, KeyTable, OwnHashedKey, Seeds};
+use rhd_hash::{Key, KeyTable, SharedKey};
 use rhd_value::OutOfMemory;
 use std::alloc::Global;
 
@@ -58,19 +57,15 @@ fn note_places(
     Ok(())
 }
 
-/// A copy of a declaration, with its key, which has this hash.
+/// A copy of a declaration, under the same key.
 fn copy_of(
     alloc: Global,
-    seeds: Seeds,
-    hash: u64,
-    key: &Key,
+    key: &SharedKey,
     declaration: &Declaration,
-) -> Result<(OwnHashedKey, Declaration), OutOfMemory>
-    requires { hash ≡ mixed seeds key.now }
+) -> Result<(SharedKey, Declaration), OutOfMemory>
     ensures { IfOk result (λ copy. copy ≡ (key.now, declaration.now)) }
 {
-    let key = OwnHashedKey::known(key.dup(alloc)?, seeds, hash);
-    Ok((key, declaration.dup(alloc)?))
+    Ok((key.dup(alloc)?, declaration.dup(alloc)?))
 }
 
 /// Copies of the declarations whose keys pass a test.
@@ -78,14 +73,14 @@ pub fn copies_that<F: Fn(&Key) -> bool>(
     alloc: Global,
     of: &Declarations,
     passes: &F,
-) -> Result<Vec<(OwnHashedKey, Declaration)>, OutOfMemory>
+) -> Result<Vec<(SharedKey, Declaration)>, OutOfMemory>
     requires { F.IsAlwaysCallable passes.now }
     ensures { (tells : TheKey → Bool) → Tells (FnReturnsAt F.Fn passes.now) tells → IfOk result (λ copies. copies.items ≡ filter (λ p. tells p.0) of.now.pairs) }
 {
     let mut copies = Vec::new(alloc);
-    for (hash, pair) in of.hashed_iter() {
-        if passes(&pair.0) {
-            copies.push(copy_of(alloc, of.seeds(), *hash, &pair.0, &pair.1)?)?;
+    for (key, declaration) in of.iter() {
+        if passes(key.key()) {
+            copies.push(copy_of(alloc, key, declaration)?)?;
         }
     }
     Ok(copies)
@@ -95,8 +90,8 @@ pub fn copies_that<F: Fn(&Key) -> bool>(
 #[derive(Drop)]
 pub struct Copies {
     /// Those under whose keys others have one too.
-    pub there: Vec<(OwnHashedKey, Declaration)>,
-    pub new: Vec<(OwnHashedKey, Declaration)>,
+    pub there: Vec<(SharedKey, Declaration)>,
+    pub new: Vec<(SharedKey, Declaration)>,
 }
 
 /// Copies of declarations, apart by whether others have one under an equal key.
@@ -110,10 +105,9 @@ pub fn split_copies(
 {
     let mut there = Vec::new(alloc);
     let mut new = Vec::new(alloc);
-    for (hash, pair) in of.hashed_iter() {
-        let key = HashedKey::known(&pair.0, of.seeds(), *hash);
-        let is_there = others.get_hashed(&key).is_some();
-        let copy = copy_of(alloc, of.seeds(), *hash, &pair.0, &pair.1)?;
+    for (key, declaration) in of.iter() {
+        let is_there = others.get_hashed(&key.hashed()).is_some();
+        let copy = copy_of(alloc, key, declaration)?;
         if is_there {
             there.push(copy)?;
         } else {
@@ -126,7 +120,7 @@ pub fn split_copies(
 /// Puts declarations under keys that aren't there. Where one is refused, what was there stands in front.
 fn insert_all(
     table: &mut KeyTable<Declaration>,
-    pairs: Vec<(OwnHashedKey, Declaration)>,
+    pairs: Vec<(SharedKey, Declaration)>,
 ) -> Result<(), DeclFault>
     requires new { AllByRecursion (λ p. lookup (key_eq p.0) table.old.pairs ≡ None) pairs.items }
     ensures ok { OnOk result (table.new ≡ record table.old { pairs = put_all pairs.items table.old.pairs }) }
@@ -140,7 +134,7 @@ fn insert_all(
 }
 
 /// Puts a declaration in the place of that of an equal key, which is there.
-fn replace(table: &mut KeyTable<Declaration>, key: OwnHashedKey, declaration: Declaration)
+fn replace(table: &mut KeyTable<Declaration>, key: SharedKey, declaration: Declaration)
     requires there { is_some (lookup (key_eq key) table.old.pairs) ≡ true }
     ensures { table.new ≡ record table.old { pairs = put key declaration table.old.pairs } }
 {
@@ -148,7 +142,7 @@ fn replace(table: &mut KeyTable<Declaration>, key: OwnHashedKey, declaration: De
 }
 
 /// Puts declarations in the place of those of equal keys.
-fn replace_all(table: &mut KeyTable<Declaration>, pairs: Vec<(OwnHashedKey, Declaration)>)
+fn replace_all(table: &mut KeyTable<Declaration>, pairs: Vec<(SharedKey, Declaration)>)
     requires there { AllByRecursion (λ p. is_some (lookup (key_eq p.0) table.old.pairs) ≡ true) pairs.items }
     ensures { table.new ≡ record table.old { pairs = put_all pairs.items table.old.pairs } }
 {
@@ -163,8 +157,8 @@ pub(crate) fn grow(
     table: &mut KeyTable<Declaration>,
     natives: &mut NativeIndex,
     alloc: Global,
-    there: Vec<(OwnHashedKey, Declaration)>,
-    new: Vec<(OwnHashedKey, Declaration)>,
+    there: Vec<(SharedKey, Declaration)>,
+    new: Vec<(SharedKey, Declaration)>,
 ) -> Result<(), DeclFault>
     requires there { AllByRecursion (λ p. is_some (lookup (key_eq p.0) table.old.pairs) ≡ true) there.items }
     requires new { AllByRecursion (λ p. lookup (key_eq p.0) table.old.pairs ≡ None) new.items }

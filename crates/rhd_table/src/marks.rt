@@ -7,7 +7,7 @@ ghost use Rattle.rhd_manifest.specs.Listing.{listed_in};
 ghost use Rattle.rhd_table.specs.Marks.{has_slot, may_be_dynamic, lists_dynamic};
 
 use rhd_decl::Declaration;
-use rhd_hash::{BloomFilterU64, OwnHashedKey, Seeds};
+use rhd_hash::{BloomFilterU64, Seeds, SharedKey};
 use rhd_manifest::{EntryList, FnManifestEntry};
 use std::rc::Rc;
 
@@ -21,11 +21,7 @@ pub fn mark_dynamic(filter: &mut BloomFilterU64<8>, hash: Option<u64>)
 }
 
 /// Marks the hashes of the keys of some declarations that have a parameter of any type.
-pub fn mark_pairs(
-    filter: &mut BloomFilterU64<8>,
-    seeds: Seeds,
-    pairs: &[(OwnHashedKey, Declaration)],
-)
+pub fn mark_pairs(filter: &mut BloomFilterU64<8>, seeds: Seeds, pairs: &[(SharedKey, Declaration)])
     ensures { (v : ℕ) → is_marked 8 filter.new v ≡ (is_marked 8 filter.old v || list_any (λ p. may_be_dynamic seeds v p.0) pairs.now) }
 {
     for (key, _declaration) in pairs {

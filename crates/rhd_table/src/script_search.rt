@@ -50,7 +50,7 @@ pub(crate) fn untyped_script<'a>(
     ensures { option_copied result ≡ first_of (λ p. if key_eq (Script None name.now params) p.0 then script_def_of p.1.func else None) table.now.pairs }
 {
     for (key, declaration) in table.iter() {
-        if is_untyped(key, name, params) {
+        if is_untyped(key.key(), name, params) {
             if let Some(def) = declaration.func.get_script_fn_def() {
                 return Some(def);
             }
@@ -68,7 +68,7 @@ pub(crate) fn typed_script<'a>(
     ensures { option_copied result ≡ first_of (λ p. if is_typed_of name.now params p.0 then script_def_of p.1.func else None) table.now.pairs }
 {
     for (key, declaration) in table.iter() {
-        if is_typed(key, name, params) {
+        if is_typed(key.key(), name, params) {
             if let Some(def) = declaration.func.get_script_fn_def() {
                 return Some(def);
             }

@@ -23,7 +23,7 @@ ghost use Rattle.rhd_table.specs.Paths.{unpathed, pathed, pairs_at};
 use crate::declarations::Declarations;
 use rhd_decl::{DeclFault, Declaration};
 use rhd_func::RhaiFunc;
-use rhd_hash::{BloomFilterU64, HashedKey, Key, KeyTable, Seeds};
+use rhd_hash::{BloomFilterU64, HashedKey, Key, KeyTable, Seeds, SharedKey};
 use rhd_manifest::FnManifestEntry;
 use rhd_value::Texts;
 use std::alloc::Global;
@@ -48,13 +48,17 @@ impl Model for TreeIndex {
 }
 
 /// Puts a function under a key of a table.
-fn put_func(table: &mut KeyTable<RhaiFunc>, key: Key, func: RhaiFunc) -> Result<bool, DeclFault>
+fn put_func(
+    table: &mut KeyTable<RhaiFunc>,
+    key: SharedKey,
+    func: RhaiFunc,
+) -> Result<bool, DeclFault>
     ensures replaced { IfOk result (λ replaced. replaced ≡ is_some (lookup (key_eq key) table.old.pairs)) }
     ensures pairs { OnOk result (table.new ≡ record table.old { pairs = put_in key_eq key func table.old.pairs }) }
     ensures apart { OnOk result (HasOwnHashes table.old.seeds (keys_of (put_in key_eq key func table.old.pairs))) }
     ensures refused { IfErr result (λ fault. (clash : TableFault) × (fault ≡ collision clash) × IsRefusal table.old key clash) }
 {
-    match table.insert(key, func) {
+    match table.insert_shared(key, func) {
         Ok(old) => Ok(old.is_some()),
         Err(fault) => Err(DeclFault::from(fault)),
     }
@@ -147,7 +151,7 @@ impl TreeIndex {
         ensures { Fills self.old self.new [] (λ hash. list_any (λ p. may_be_dynamic self.old.seeds hash p.0) declarations.now.pairs) false }
     {
         for (key, _declaration) in declarations.iter() {
-            self.mark(key);
+            self.mark(key.key());
         }
     }
 
@@ -168,7 +172,7 @@ impl TreeIndex {
     }
 
     /// Puts a function under a key, in the place of one of an equal key.
-    fn put(&mut self, key: Key, func: RhaiFunc) -> Result<(), DeclFault>
+    fn put(&mut self, key: SharedKey, func: RhaiFunc) -> Result<(), DeclFault>
         ensures puts { OnOk result (self.new ≡ record self.old { pairs = put_in key_eq key func self.old.pairs }) }
         ensures apart { OnOk result (HasOwnHashes self.new.seeds (keys_of self.new.pairs)) }
         ensures clash { IfErr result (IsClash self.old.seeds (key ∷ keys_of self.old.pairs)) }
@@ -182,7 +186,7 @@ impl TreeIndex {
         &mut self,
         alloc: Global,
         path: &Texts,
-        key: &Key,
+        key: &SharedKey,
         declaration: &Declaration,
     ) -> Result<(), DeclFault>
         ensures fills { OnOk result (Fills self.old self.new (pathed path.now (key.now, declaration.now)) (λ _. false) false) }
@@ -192,14 +196,15 @@ impl TreeIndex {
             return Ok(());
         }
         let func = declaration.func.dup(alloc)?;
-        self.put(key.dup_at(alloc, path)?, func)
+        let key = SharedKey::new(alloc, key.key().dup_at(alloc, path)?, self.table.seeds())?;
+        self.put(key, func)
     }
 
     /// Puts a declaration under its key without a path, if it is found there.
     fn put_unpathed(
         &mut self,
         alloc: Global,
-        key: &Key,
+        key: &SharedKey,
         declaration: &Declaration,
     ) -> Result<(), DeclFault>
         ensures fills { OnOk result (Fills self.old self.new (unpathed (key.now, declaration.now)) (λ _. false) (is_global_namespace declaration.now.metadata.namespace)) }
@@ -209,7 +214,7 @@ impl TreeIndex {
             return Ok(());
         }
         self.has_global = true;
-        if declaration.metadata().access.is_private() && !key.is_typed() {
+        if declaration.metadata().access.is_private() && !key.key().is_typed() {
             return Ok(());
         }
         let func = declaration.func.dup(alloc)?;
@@ -221,7 +226,7 @@ impl TreeIndex {
         &mut self,
         alloc: Global,
         path: &Texts,
-        key: &Key,
+        key: &SharedKey,
         declaration: &Declaration,
     ) -> Result<(), DeclFault>
         ensures fills { OnOk result (Fills self.old self.new (unpathed (key.now, declaration.now) ++ pathed path.now (key.now, declaration.now)) (λ _. false) (is_global_namespace declaration.now.metadata.namespace)) }
@@ -258,7 +263,8 @@ impl TreeIndex {
         ensures clash { (seeds : TheSeeds) → IfErr result (IsClash self.old.seeds (keys_of (pathed path.now (entry_pair seeds entry.now)) ++ keys_of self.old.pairs)) }
     {
         let func = entry.plugin().dup(alloc)?;
-        self.put(entry.key().dup_at(alloc, path)?, func)
+        let key = SharedKey::new(alloc, entry.key().dup_at(alloc, path)?, self.table.seeds())?;
+        self.put(key, func)
     }
 
     /// Puts a listed function under its key without a path, if it is found there.
@@ -275,7 +281,8 @@ impl TreeIndex {
         }
         self.has_global = true;
         let func = entry.plugin().dup(alloc)?;
-        self.put(entry.key().dup(alloc)?, func)
+        let key = SharedKey::new(alloc, entry.key().dup(alloc)?, self.table.seeds())?;
+        self.put(key, func)
     }
 
     /// Puts a listed function under the keys by which it is found.

@@ -1,6 +1,6 @@
 //! Custom types, flags, declarations and their faults.
 
-use crate::given::{script_key, text, texts};
+use crate::given::{SEEDS, script_key, text, texts};
 use crate::must::{holds, must};
 use bitflags::Flags;
 use rhd_decl::{
@@ -8,7 +8,7 @@ use rhd_decl::{
     SharedMetadata, Switches,
 };
 use rhd_func::{FnAccess, FnNamespace, RhaiFunc};
-use rhd_hash::TableFault;
+use rhd_hash::{SharedKey, TableFault};
 use rhd_value::{FnId, OutOfMemory, Text, Texts, Types};
 use std::alloc::{AllocError, AllocFailed, Global};
 use std::process::Abort;
@@ -162,7 +162,7 @@ fn declarations_are_copied(rt: HostRuntime) {
 fn is_collision(fault: &DeclFault) -> bool {
     match fault {
         DeclFault::HashCollision { held, new } => {
-            held.name().as_str() == "f" && new.name().as_str() == "g"
+            held.key().name().as_str() == "f" && new.key().name().as_str() == "g"
         }
         _ => false,
     }
@@ -176,9 +176,11 @@ fn is_memory(fault: &DeclFault) -> bool {
 #[test]
 fn faults_are_made(rt: HostRuntime) {
     let alloc = rt.alloc();
+    let held = SharedKey::new(alloc, script_key(alloc, "f"), SEEDS);
+    let new = SharedKey::new(alloc, script_key(alloc, "g"), SEEDS);
     let clash = TableFault::Clash {
-        held: script_key(alloc, "f"),
-        new: script_key(alloc, "g"),
+        held: must(&rt, held, "a key"),
+        new: must(&rt, new, "another"),
     };
     let fault = DeclFault::from(clash);
     let dup = must(&rt, fault.dup(alloc), "a fault is copied");

@@ -3,7 +3,7 @@
 use crate::given::{CLASHING, SEEDS, is_text, native_key, script_key, text, texts};
 use crate::must::{holds, must};
 use rhd_hash::{
-    BloomFilterU64, FnCallHashes, HashedKey, Key, KeyTable, OwnHashedKey, Seeds, Steps,
+    BloomFilterU64, FnCallHashes, HashedKey, Key, KeyTable, Seeds, SharedKey, Steps,
     StraightHashMap, StraightHasher, StraightHasherBuilder, TableFault, UntypedHash, calc_fn_hash,
     calc_fn_hash_full, calc_native_fn_hash, calc_typed_method_hash, calc_untyped_fn_hash,
     calc_var_hash, get_hasher,
@@ -241,7 +241,9 @@ fn tables_are_read(rt: HostRuntime) {
 /// Whether a fault tells of a key without parameters, and of another of one.
 fn is_clash(fault: &TableFault) -> bool {
     match fault {
-        TableFault::Clash { held, new } => held.num_params() == 0 && new.num_params() == 1,
+        TableFault::Clash { held, new } => {
+            held.key().num_params() == 0 && new.key().num_params() == 1
+        }
         TableFault::OutOfMemory => false,
     }
 }
@@ -270,9 +272,11 @@ fn clashing_keys_are_refused(rt: HostRuntime) {
 #[test]
 fn faults_are_copied(rt: HostRuntime) {
     let alloc = rt.alloc();
+    let held = SharedKey::new(alloc, script_key(alloc, "f"), SEEDS);
+    let new = SharedKey::new(alloc, native(alloc), SEEDS);
     let fault = TableFault::Clash {
-        held: script_key(alloc, "f"),
-        new: native(alloc),
+        held: must(&rt, held, "a shared key"),
+        new: must(&rt, new, "another"),
     };
     let dup = must(&rt, fault.dup(alloc), "a fault is copied");
     holds(&rt, is_clash(&dup), "the same fault");
@@ -283,37 +287,64 @@ fn faults_are_copied(rt: HostRuntime) {
     drop(memory);
 }
 
+/// Whether a shared key has the hash of its key, under its own seeds and under others.
+fn has_hashes(shared: &SharedKey) -> bool {
+    let (key, hashed) = (shared.key(), shared.hashed());
+    hashed.hash_under(SEEDS) == key.mixed(SEEDS) && hashed.hash_under(OTHERS) == key.mixed(OTHERS)
+}
+
 #[test]
-fn keys_are_put_in_by_hashes_at_hand(rt: HostRuntime) {
+fn shared_keys_are_put_in(rt: HostRuntime) {
     let alloc = rt.alloc();
     let mut table = KeyTable::<u32>::new(alloc, SEEDS);
     let key = script_key(alloc, "f");
     let hash = key.mixed(SEEDS);
-    let first = table.insert_hashed(OwnHashedKey::known(key, SEEDS, hash), 1);
+    let known = SharedKey::known(alloc, key, SEEDS, hash);
+    let known = must(&rt, known, "a shared key");
+    holds(&rt, has_hashes(&known), "its hash at hand");
+    let other = SharedKey::new(alloc, script_key(alloc, "g"), OTHERS);
+    let other = must(&rt, other, "a shared key");
+    holds(&rt, has_hashes(&other), "its hash under other seeds");
+    let owner = must(&rt, other.dup(alloc), "one more owner");
+    holds(&rt, *owner.key() == *other.key(), "of the same key");
+    let first = table.insert_shared(known, 1);
     holds(&rt, first.is_ok_and(|old| old.is_none()), "a first pair");
-    let other = OwnHashedKey::new(script_key(alloc, "g"), OTHERS);
-    holds(&rt, other.key().num_params() == 0, "its key");
-    holds(
-        &rt,
-        other.hash_under(SEEDS) == other.key().mixed(SEEDS),
-        "under others",
-    );
-    holds(
-        &rt,
-        other.hash_under(OTHERS) == other.key().mixed(OTHERS),
-        "its own",
-    );
-    let second = table.insert_hashed(other, 2);
+    let second = table.insert_shared(owner, 2);
     holds(&rt, second.is_ok_and(|old| old.is_none()), "of other seeds");
+    let again = table.insert_shared(other, 3);
+    holds(&rt, again.is_ok_and(|old| old == Some(2)), "an equal key");
     let key = script_key(alloc, "g");
-    holds(&rt, table.get(&key) == Some(&2), "found");
-    let known = HashedKey::known(&key, SEEDS, key.mixed(SEEDS));
-    holds(&rt, table.get_hashed(&known) == Some(&2), "by its hash");
-    for (hash, pair) in table.hashed_iter() {
-        holds(&rt, *hash == pair.0.mixed(SEEDS), "behind their hashes");
-    }
+    let hashed = HashedKey::known(&key, SEEDS, key.mixed(SEEDS));
+    holds(&rt, table.get_hashed(&hashed) == Some(&3), "by its hash");
     drop(key);
     drop(table);
+}
+
+/// The hash of a text of so many bytes, by its bytes one by one.
+fn hash_of_bytes(len: u64, text: &Text) -> u64 {
+    let mut mixer = get_hasher(SEEDS);
+    for byte in len.to_le_bytes() {
+        mixer.write_u8(byte);
+    }
+    for byte in text.as_str().as_bytes() {
+        mixer.write_u8(*byte);
+    }
+    mixer.finish()
+}
+
+#[test]
+fn counts_are_mixed_as_their_bytes(rt: HostRuntime) {
+    let alloc = rt.alloc();
+    for count in [0, 1, 255, 256, 65_536, u64::MAX] {
+        let mut mixer = get_hasher(SEEDS);
+        mixer.write_count(count);
+        let hash = hash_of_bytes(count, &text(alloc, ""));
+        holds(&rt, mixer.finish() == hash, "a count");
+    }
+    let mut mixer = get_hasher(SEEDS);
+    mixer.write_text(&text(alloc, "text"));
+    let hash = hash_of_bytes(4, &text(alloc, "text"));
+    holds(&rt, mixer.finish() == hash, "a text");
 }
 
 #[test]

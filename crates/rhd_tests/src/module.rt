@@ -275,7 +275,11 @@ fn scripts_are_declared(rt: HostRuntime) {
     holds(&rt, found.is_some(), "get_script_fn");
     let key = script_key(alloc, "s");
     for (held, declaration) in module.iter_fn() {
-        holds(&rt, *held == key && declaration.func.is_script(), "iter_fn");
+        holds(
+            &rt,
+            *held.key() == key && declaration.func.is_script(),
+            "iter_fn",
+        );
     }
     drop(key);
     drop(module);

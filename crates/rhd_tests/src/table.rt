@@ -4,7 +4,7 @@ use crate::decl::declaration;
 use crate::given::{SEEDS, native_key, script_key, text, texts};
 use crate::must::{holds, must, shared_script};
 use rhd_decl::script_declaration;
-use rhd_hash::{BloomFilterU64, HashedKey, Key, OwnHashedKey};
+use rhd_hash::{BloomFilterU64, HashedKey, Key, SharedKey};
 use rhd_table::{
     Copies, Declarations, TreeIndex, copies_that, mark_dynamic, mark_pairs, mark_parts,
     split_copies,
@@ -19,8 +19,8 @@ fn with_script(rt: &impl Abort, alloc: Global) -> Declarations {
     let shared = shared_script(rt, alloc, "s");
     let made = script_declaration(alloc, SEEDS, shared, None);
     let made = must(rt, made, "a declaration");
-    let key = OwnHashedKey::new(script_key(alloc, "s"), SEEDS);
-    let put = table.put(alloc, key, made);
+    let key = SharedKey::new(alloc, script_key(alloc, "s"), SEEDS);
+    let put = table.put(alloc, must(rt, key, "a key"), made);
     holds(rt, !must(rt, put, "put in"), "nothing stood there");
     table
 }
@@ -55,8 +55,8 @@ fn natives_are_matched(rt: HostRuntime) {
     let alloc = rt.alloc();
     let mut table = Declarations::new(alloc, SEEDS);
     for (name, tag) in [("f", TypeTag::Dynamic), ("g", TypeTag::Int)] {
-        let key = OwnHashedKey::new(native_key(alloc, name, tag), SEEDS);
-        let put = table.put(alloc, key, declaration(&rt, alloc));
+        let key = SharedKey::new(alloc, native_key(alloc, name, tag), SEEDS);
+        let put = table.put(alloc, must(&rt, key, "a key"), declaration(&rt, alloc));
         holds(&rt, !must(&rt, put, "put in"), "nothing stood there");
     }
     let (f, g) = (text(alloc, "f"), text(alloc, "g"));
@@ -105,12 +105,13 @@ fn copies_are_split_by_what_others_have(rt: HostRuntime) {
 }
 
 #[test]
-fn hashes_stand_before_declarations(rt: HostRuntime) {
+fn declarations_have_their_hashes(rt: HostRuntime) {
     let alloc = rt.alloc();
     let table = with_script(&rt, alloc);
     let copy = must(&rt, table.dup(alloc), "a copy");
-    for (hash, pair) in copy.hashed_iter() {
-        holds(&rt, *hash == pair.0.mixed(SEEDS), "of its key");
+    for (key, _declaration) in copy.iter() {
+        let hash = key.hashed().hash_under(SEEDS);
+        holds(&rt, hash == key.key().mixed(SEEDS), "of its key");
     }
     holds(&rt, copy.len() == 1, "one declaration");
     drop(copy);

@@ -11,4 +11,4 @@ returns-in-None c =
 pub returns : goal.returns
 returns c =
     let P : List Entry → Type 0 = λ es. first_banned es ≡ Some c.in-Some.entry.now in
-    (c.in-Some.entry.now, subst P (c.parts.ensures ∙ c.in_ok-listing.ensures) (sym c.in-Some.ensures), c.in_ok-key-in-Some.ensures ∙ c.key.ensures)
+    (c.in-Some.entry.now, subst P (c.parts.ensures ∙ c.in_ok-listing.ensures) (sym c.in-Some.ensures), c.in_ok-key-in-Some.ensures ∙ c.in_ok-dup-in-Some.ensures ∙ c.key.ensures)

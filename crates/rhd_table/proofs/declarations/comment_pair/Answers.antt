@@ -16,5 +16,5 @@ returns-in-Ok-clause-ok c =
     let t = c.args.table.now in
     let table : Pairs → Table Declaration = λ ps. record { seeds = t.seeds; pairs = ps } in
     c.in-Ok.ensures.pairs
-    ∙ (λ i. table (put ((c.new-key.ensures ∙ c.in_ok-dup.ensures) i) (c.in_ok-declaration-in-Some.ensures i) t.pairs))
+    ∙ (λ i. table (put ((c.in_ok-key.ensures ∙ c.in_ok-dup.ensures) i) (c.in_ok-declaration-in-Some.ensures i) t.pairs))
     ∙ ap table (put_commented c.args.key.now c.args.comments c.in-Some.declaration.now t.pairs (sym c.in-Some.ensures))

@@ -19,7 +19,7 @@ returns-in_ok-dup-in-Some-clause-held g c =
     subst P (sym c.in_ok-dup-in-Some.ensures) (
       first_hashed-Contains (mixed s.seeds) _ _ _ s.pairs found,
       record {
-        differ = λ same. is_other key_eq key_eq-Decides _ _ (sym c.eq.ensures ∙ c.if-eq.false) (sym same);
+        differ = λ same. is_other key_eq key_eq-Decides _ _ (ap (λ k. key_eq k c.args.key.now) (sym c.key.ensures) ∙ sym c.eq.ensures ∙ c.if-eq.false) (sym same);
         one_hash = first_hashed-hash (mixed s.seeds) _ _ _ s.pairs found;
       },
     )
@@ -30,7 +30,7 @@ returns-in_ok-dup-in-Some-clause-absent g c =
     let s = c.args.self.now in
     let e : c.args.hash ≡ mixed s.seeds c.args.key.now = c.requires in
     let found = ap (λ h. first_hashed (mixed s.seeds) h s.pairs) (sym e) ∙ sym c.in-Some.ensures.pair in
-    lookup-clash (mixed s.seeds) key_eq key_eq-Decides c.args.key.now _ _ s.pairs c.in-Some.ensures.apart found (sym c.eq.ensures ∙ c.if-eq.false)
+    lookup-clash (mixed s.seeds) key_eq key_eq-Decides c.args.key.now _ _ s.pairs c.in-Some.ensures.apart found (ap (λ k. key_eq k c.args.key.now) (sym c.key.ensures) ∙ sym c.eq.ensures ∙ c.if-eq.false)
 
 pub returns-in_err-dup-in-Some-clause-err : goal.returns-in_err-dup-in-Some-clause-err
 unfolding HasOwnHashes
@@ -38,4 +38,4 @@ returns-in_err-dup-in-Some-clause-err g c =
     let s = c.args.self.now in
     let e : c.args.hash ≡ mixed s.seeds c.args.key.now = c.requires in
     let found = ap (λ h. first_hashed (mixed s.seeds) h s.pairs) (sym e) ∙ sym c.in-Some.ensures.pair in
-    on_err _ (lookup-clash (mixed s.seeds) key_eq key_eq-Decides c.args.key.now _ _ s.pairs c.in-Some.ensures.apart found (sym c.eq.ensures ∙ c.if-eq.false))
+    on_err _ (lookup-clash (mixed s.seeds) key_eq key_eq-Decides c.args.key.now _ _ s.pairs c.in-Some.ensures.apart found (ap (λ k. key_eq k c.args.key.now) (sym c.key.ensures) ∙ sym c.eq.ensures ∙ c.if-eq.false))

@@ -5,7 +5,7 @@ use Rattle.indexmap.specs.IndexMap.{insert_entry}
 use Rattle.rhd_hash.specs.Covers.{Covers, HasNoScript}
 use Rattle.rhd_hash.specs.PutIn.{put_in}
 use Rattle.rhd_hash.specs.declared.key.Key.{Key}
-use Rattle.rhd_hash.specs.Keys.{key_eq, key_eq-Decides}
+use Rattle.rhd_hash.specs.Keys.{key_eq, key_eq-Decides, is_script_key}
 use Rattle.rhd_hash.specs.Parts.{mixed}
 use Rattle.rhd_hash.specs.Table.{Table, HasOwnHashes}
 use Rattle.rhd_hash.specs.Slots.{hashed, IsFree}
@@ -39,7 +39,7 @@ invariant_of-self g c =
       behind = e;
       apart = apart-hashed hash _ e c.in-Ok.ensures.unique;
       covered = subst P (sym after) put;
-      noted = λ none. subst (λ (qs : List (Key × g.row.V.Denot)). HasNoScript qs) (sym after) (put_noted c.self.inside.scripts c.is_script-script.result (map (λ e. e.1) c.self.inside.slots.entries) c.args.key c.args.value c.is_script-script.ensures c.self.invariant.noted none);
+      noted = λ none. subst (λ (qs : List (Key × g.row.V.Denot)). HasNoScript qs) (sym after) (put_noted c.self.inside.scripts c.is_script-script.result (map (λ e. e.1) c.self.inside.slots.entries) c.args.key c.args.value (c.is_script-script.ensures ∙ ap is_script_key c.key.ensures) c.self.invariant.noted none);
     }
 
 pub returns-in-Ok-clause-old : goal.returns-in-Ok-clause-old

@@ -8,7 +8,7 @@ use Rattle.rhd_manifest.specs.Entry.{entry_pair}
 use Rattle.rhd_table.specs.Indexed.{IsClash}
 use Rattle.rhd_table.specs.Pairs.{Pairs}
 use Rattle.rhd_table.specs.Paths.{unpathed, pathed, pairs_at}
-use Rattle.rhd_table.proofs.Hashed.{is_found, is_unfound}
+use Rattle.rhd_table.proofs.Taken.{is_found, is_unfound}
 use Rattle.rhd_table.proofs.tree_index.TreeIndex.put_entry.Goals as goal
 
 pub returns-clause-clash : goal.returns-clause-clash
