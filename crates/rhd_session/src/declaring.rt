@@ -1,6 +1,7 @@
 //! How a session carries out the commands that declare something.
 
-ghost use Rattle.std.specs.Prelude.{List, ◌≡◌, ◌≤◌, ◌<◌, ◌+◌, ◌^◌, true, false, Some, None, is_some, Err, IfOk, IfErr, OnErr, IfSome, IfNone, length, slice_get};
+ghost use Rattle.std.specs.Prelude.{List, [], ◌∷◌, ◌++◌, ◌≡◌, ◌≤◌, ◌<◌, ◌+◌, ◌^◌, true, false, Some, None, is_some, Ok, Err, IfOk, IfErr, OnOk, OnErr, IfSome, IfNone, length, slice_get, vec_len, vec_capacity};
+ghost use Rattle.rhd_call.specs.declared.reply.Reply.{Reply as TheReply};
 ghost use Rattle.std.specs.Option.{option_copied};
 ghost use Rattle.rhd_module.specs.Registered.{RegistersRaw};
 ghost use Rattle.rhd_decl.specs.declared.fault.DeclFault.TheVariants.{UnknownNumber};
@@ -43,6 +44,23 @@ pub(crate) fn reply_of(answer: Result<(), DeclFault>) -> Result<Reply, OutOfMemo
         Err(DeclFault::OutOfMemory) => Err(OutOfMemory),
         Err(fault) => Ok(Reply::Refused(fault)),
     }
+}
+
+/// Puts the reply that an answer is last, where there is room for it. Want of memory is no reply.
+pub(crate) fn push_reply(
+    answer: Result<(), DeclFault>,
+    replies: &mut Vec<Reply>,
+) -> Result<(), OutOfMemory>
+    requires { vec_len replies.old < vec_capacity replies.old }
+    ensures ok { OnOk result ((reply : TheReply) × (replies.new.items ≡ replies.old.items ++ reply ∷ []) × IsReply answer (Ok reply)) }
+    ensures err { IfErr result (λ error. (replies.new.items ≡ replies.old.items) × IsReply answer (Err error)) }
+{
+    match answer {
+        Ok(()) => replies.push_reserved(Reply::Done),
+        Err(DeclFault::OutOfMemory) => return Err(OutOfMemory),
+        Err(fault) => replies.push_reserved(Reply::Refused(fault)),
+    }
+    Ok(())
 }
 
 /// The module that a command changes by itself.

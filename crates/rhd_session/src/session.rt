@@ -100,7 +100,7 @@ impl<F: Files, L: Loader> Session<F, L> {
                 Ok(())
             }
             declared => {
-                replies.push_reserved(self.core.declare(alloc, declared)?);
+                self.core.declare(alloc, declared, replies)?;
                 Ok(())
             }
         }

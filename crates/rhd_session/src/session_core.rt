@@ -16,7 +16,7 @@ ghost use Rattle.rhd_session.specs.Answered.{Declares};
 ghost use Rattle.rhd_session.specs.Changing.{is_told, Goes};
 ghost use Rattle.rhd_session.specs.Commands.{declares, target};
 
-use crate::declaring::{is_told, reply_of, target};
+use crate::declaring::{is_told, push_reply, target};
 use crate::joining::Join;
 use rhd_call::{Command, Reply};
 use rhd_engine::{Builtins, Engine, GlobalRuntimeState, Limits, Printers};
@@ -80,23 +80,31 @@ impl SessionCore {
         })
     }
 
-    /// Answers a command that declares something.
-    pub(crate) fn declare(&mut self, alloc: Global, command: Command) -> Result<Reply, OutOfMemory>
+    /// Answers a command that declares something. Its reply goes last, where there is room for it.
+    pub(crate) fn declare(
+        &mut self,
+        alloc: Global,
+        command: Command,
+        replies: &mut Vec<Reply>,
+    ) -> Result<(), OutOfMemory>
         requires declares { declares command ≡ true }
         requires count { length (modules_of self.old) < 2 ^ 32 }
-        ensures applied { IfOk result (λ reply. Declares (world_of info self.old) (frame_of self.old) command reply (world_of info self.new) (frame_of self.new)) }
-        ensures failed { OnErr result ((world_of info self.new ≡ world_of info self.old) × (frame_of self.new ≡ frame_of self.old)) }
+        requires room { vec_len replies.old < vec_capacity replies.old }
+        ensures applied { OnOk result ((reply : Reply) × (replies.new.items ≡ replies.old.items ++ reply ∷ []) × Declares (world_of info self.old) (frame_of self.old) command reply (world_of info self.new) (frame_of self.new)) }
+        ensures failed { OnErr result ((replies.new.items ≡ replies.old.items) × (world_of info self.new ≡ world_of info self.old) × (frame_of self.new ≡ frame_of self.old)) }
         ensures natives { natives_of self.new ≡ natives_of self.old }
         ensures begun { calls_begun_of self.new ≡ calls_begun_of self.old }
         ensures count { length (modules_of self.new) ≤ length (modules_of self.old) + 1 }
     {
         if let Some(id) = target(&command) {
-            return reply_of(self.change_module(alloc, id, command));
+            return push_reply(self.change_module(alloc, id, command), replies);
         }
         if is_told(&command) {
-            return reply_of(self.register(alloc, command));
+            return push_reply(self.register(alloc, command), replies);
         }
-        self.answer_itself(alloc, &command)
+        let reply = self.answer_itself(alloc, &command)?;
+        replies.push_reserved(reply);
+        Ok(())
     }
 
     /// Answers a command that has an answer of its own.

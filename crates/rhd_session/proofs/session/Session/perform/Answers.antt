@@ -8,10 +8,11 @@ use Rattle.rhd_session.proofs.session.Session.perform.Goals as goal
 
 pub returns-in_ok-declare-in_default-clause-replied : goal.returns-in_ok-declare-in_default-clause-replied
 returns-in_ok-declare-in_default-clause-replied g c =
-    let no : call_of c.args.command ≡ None = search rules in (
-      c.in_ok-declare-in_default.field-0,
+    let no : call_of c.args.command ≡ None = search rules in
+    let made = c.in_ok-declare-in_default.ensures.applied in (
+      made.0,
       search rules,
-      applied_replied _ _ _ _ _ c.args.command _ no (declared c.in_ok-declare-in_default.ensures.applied) (ap (λ (n : ℕ). moment n c.args.host.now c.args.bodies.now) c.in_ok-declare-in_default.ensures.begun),
+      applied_replied _ _ _ _ _ c.args.command _ no (declared made.2) (ap (λ (n : ℕ). moment n c.args.host.now c.args.bodies.now) c.in_ok-declare-in_default.ensures.begun),
     )
 
 pub returns-in_ok-declare-in_default-clause-begins : goal.returns-in_ok-declare-in_default-clause-begins
