@@ -6,3 +6,4 @@ pub mod Paths
 pub mod Filters
 pub mod Tables
 pub mod HashedPairs
+pub mod SetValue

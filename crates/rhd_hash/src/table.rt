@@ -1,9 +1,10 @@
 //! Tables by key.
 
-ghost use Rattle.std.specs.Prelude.{◌≡◌, ℕ, ◌<◌, [], false, length, take, slice_get, None, IfOk, IfErr, OnOk, OnErr, IfSome, IfNone, IsErr};
+ghost use Rattle.std.specs.Prelude.{◌≡◌, ℕ, ◌<◌, [], false, length, take, slice_get, Some, None, IfOk, IfErr, OnOk, OnErr, IfSome, IfNone, IsErr};
 ghost use Rattle.std.specs.List.{Contains};
 ghost use Rattle.std.specs.Option.{option_map, option_copied};
 ghost use Rattle.std.specs.Map.{lookup, keys_of};
+ghost use Rattle.indexmap.specs.Layout.{set_value_at};
 ghost use Rattle.rhd_hash.specs.declared.fault.TableFault.TheVariants.{OutOfMemory as no_memory};
 ghost use Rattle.rhd_hash.specs.Covers.{Covers, HasNoScript};
 ghost use Rattle.rhd_hash.specs.Filter.{is_marked};
@@ -26,6 +27,7 @@ use indexmap::map::Values;
 use rhd_value::OutOfMemory;
 use std::alloc::Global;
 use std::marker::Model;
+use std::mem;
 
 /// Values by key, in the order in which their keys came first. No two keys have one hash: a key
 /// that clashes with another isn't taken in. Contracts see the seeds and the list of pairs.
@@ -181,18 +183,24 @@ impl<V> KeyTable<V> {
     }
 
     /// Puts a value under a key: an equal key keeps its place, and its value so far is answered;
-    /// else the pair goes last. A key that clashes with another one is refused.
+    /// else the pair goes last. A key that clashes with another one is refused. Memory may run out only
+    /// where the key isn't there.
     pub fn insert(&mut self, key: Key, value: V) -> Result<Option<V>, TableFault>
     where
         V: Drop,
         ensures old { IfOk result (λ old. old ≡ lookup (key_eq key) self.old.pairs) }
         ensures pairs { OnOk result (self.new ≡ record self.old { pairs = put_in key_eq key value self.old.pairs }) }
         ensures unchanged { OnErr result (self.new ≡ self.old) }
+        ensures absent { OnErr result (lookup (key_eq key) self.old.pairs ≡ None) }
         ensures refused { IfErr result (IsRefusal self.old key) }
         ensures apart { OnOk result (HasOwnHashes self.new.seeds (keys_of self.new.pairs)) }
         ensures refuses { (held : _) → Contains (keys_of self.old.pairs) held → Clashes self.old.seeds held key → IsErr result }
     {
-        let key = SharedKey::new(*self.slots.allocator(), key, self.seeds)?;
+        let hash = key.mixed(self.seeds);
+        if let Some(place) = self.place_of(&key, hash) {
+            return Ok(self.set_value(place, value));
+        }
+        let key = SharedKey::known(*self.slots.allocator(), key, self.seeds, hash)?;
         self.insert_shared(key, value)
     }
 
@@ -213,6 +221,14 @@ impl<V> KeyTable<V> {
             return Err(TableFault::Clash { held, new: key });
         }
         self.put(key, hash, value)
+    }
+
+    /// Makes room for so many more pairs at once.
+    pub fn reserve(&mut self, additional: usize) -> Result<(), OutOfMemory>
+        ensures { self.new ≡ self.old }
+    {
+        self.slots.reserve(additional)?;
+        Ok(())
     }
 
     /// Keeps the first pairs alone.
@@ -242,6 +258,35 @@ impl<V> KeyTable<V> {
                 }
             }
             None => Ok(None),
+        }
+    }
+
+    /// Where a key stands, which has this hash.
+    fn place_of(&self, key: &Key, hash: u64) -> Option<usize>
+        requires { hash ≡ mixed self.now.seeds key.now }
+        ensures there { IfSome result (λ place. option_map (λ p. p.0) (slice_get self.now.pairs place) ≡ Some key.now) }
+        ensures absent { IfNone result (lookup (key_eq key.now) self.now.pairs ≡ None) }
+        ensures apart { HasOwnHashes self.now.seeds (keys_of self.now.pairs) }
+    {
+        let Some(place) = self.slots.get_index_of(&hash) else {
+            return None;
+        };
+        match self.get_index(place) {
+            Some((held, _value)) => { if *held == *key { Some(place) } else { None } }
+            None => None,
+        }
+    }
+
+    /// Puts a value in the place of that of the pair at a place. Answers that.
+    fn set_value(&mut self, place: usize, value: V) -> Option<V>
+    where
+        V: Drop,
+        ensures old { result ≡ option_map (λ p. p.1) (slice_get self.old.pairs place) }
+        ensures pairs { self.new ≡ record self.old { pairs = set_value_at self.old.pairs place value } }
+    {
+        match self.slots.get_index_mut(place) {
+            Some(pair) => Some(mem::replace(&mut pair.1, value)),
+            None => None,
         }
     }
 

@@ -236,8 +236,8 @@ impl TreeIndex {
         self.put_unpathed(alloc, key, declaration)
     }
 
-    /// Puts declarations under the keys by which they are found at a path, the last first.
-    pub fn put_all(
+    /// Puts declarations under the keys by which they are found at a path, the last first, one by one.
+    fn put_each(
         &mut self,
         alloc: Global,
         path: &Texts,
@@ -250,6 +250,20 @@ impl TreeIndex {
             self.put_pairs(alloc, path, key, declaration)?;
         }
         Ok(())
+    }
+
+    /// Puts declarations under the keys by which they are found at a path, the last first.
+    pub fn put_all(
+        &mut self,
+        alloc: Global,
+        path: &Texts,
+        declarations: &Declarations,
+    ) -> Result<(), DeclFault>
+        ensures fills { OnOk result (Fills self.old self.new (pairs_at path.now declarations.now.pairs) (λ _. false) (list_any (λ p. is_global_namespace p.1.metadata.namespace) declarations.now.pairs)) }
+        ensures clash { IfErr result (IsClash self.old.seeds (keys_of (pairs_at path.now declarations.now.pairs) ++ keys_of self.old.pairs)) }
+    {
+        self.table.reserve(declarations.len())?;
+        self.put_each(alloc, path, declarations)
     }
 
     /// Puts a listed function under its key with a path.
@@ -317,8 +331,8 @@ impl TreeIndex {
         self.put_entry_pairs(alloc, path, entry)
     }
 
-    /// The same of some listed functions, the last first.
-    pub fn put_listed(
+    /// The same of some listed functions, the last first, one by one.
+    fn put_each_listed(
         &mut self,
         alloc: Global,
         path: &Texts,
@@ -333,5 +347,21 @@ impl TreeIndex {
             self.put_entry(alloc, path, declarations, entry)?;
         }
         Ok(())
+    }
+
+    /// The same of some listed functions, the last first.
+    pub fn put_listed(
+        &mut self,
+        alloc: Global,
+        path: &Texts,
+        declarations: &Declarations,
+        listed: &[&FnManifestEntry],
+    ) -> Result<(), DeclFault>
+        ensures fills { OnOk result (Fills self.old self.new (pairs_at path.now (without declarations.now.pairs (map (λ e. entry_pair declarations.now.seeds e.now) listed.now))) (λ _. false)
+            (list_any (λ p. is_global_namespace p.1.metadata.namespace) (without declarations.now.pairs (map (λ e. entry_pair declarations.now.seeds e.now) listed.now)))) }
+        ensures clash { IfErr result (IsClash self.old.seeds (keys_of (pairs_at path.now (without declarations.now.pairs (map (λ e. entry_pair declarations.now.seeds e.now) listed.now))) ++ keys_of self.old.pairs)) }
+    {
+        self.table.reserve(listed.len())?;
+        self.put_each_listed(alloc, path, declarations, listed)
     }
 }

@@ -4,7 +4,7 @@ use Rattle.rhd_func.specs.Access.{is_global_namespace}
 use Rattle.rhd_table.specs.Pairs.{Pairs}
 use Rattle.rhd_table.specs.Paths.{pairs_at}
 use Rattle.rhd_table.specs.Indexed.{Fills}
-use Rattle.rhd_table.proofs.tree_index.TreeIndex.put_all.Given as goal
+use Rattle.rhd_table.proofs.tree_index.TreeIndex.put_each.Given as goal
 
 abbrev pub invariant-loop-key : goal.invariant-loop-key
 invariant-loop-key l =

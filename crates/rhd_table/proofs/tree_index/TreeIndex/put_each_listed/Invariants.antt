@@ -5,7 +5,7 @@ use Rattle.rhd_manifest.specs.Entry.{Entry, entry_pair}
 use Rattle.rhd_table.specs.Pairs.{without}
 use Rattle.rhd_table.specs.Paths.{pairs_at}
 use Rattle.rhd_table.specs.Indexed.{Fills}
-use Rattle.rhd_table.proofs.tree_index.TreeIndex.put_listed.Given as goal
+use Rattle.rhd_table.proofs.tree_index.TreeIndex.put_each_listed.Given as goal
 
 abbrev pub invariant-loop-entry : goal.invariant-loop-entry
 invariant-loop-entry l =

@@ -1,7 +1,7 @@
 use Rattle.std.proofs.Common.{◌≡◌, ◌∷◌, [], ◌++◌, sym, ap, ◌∙◌, append_assoc}
 use Rattle.rhd_table.specs.Pairs.{Pairs}
 use Rattle.rhd_table.proofs.Fills.{if_err, clash_own}
-use Rattle.rhd_table.proofs.tree_index.TreeIndex.put_all.Goals as goal
+use Rattle.rhd_table.proofs.tree_index.TreeIndex.put_each.Goals as goal
 
 pub returns-in_err-put_pairs-clause-clash : goal.returns-in_err-put_pairs-clause-clash
 returns-in_err-put_pairs-clause-clash c =

@@ -8,7 +8,7 @@ use Rattle.rhd_table.specs.Pairs.{Pairs, without}
 use Rattle.rhd_table.specs.Paths.{pairs_at}
 use Rattle.rhd_table.specs.Indexed.{IsClash}
 use Rattle.rhd_table.proofs.Fills.{if_err, clash_entry, fills_listed}
-use Rattle.rhd_table.proofs.tree_index.TreeIndex.put_listed.Goals as goal
+use Rattle.rhd_table.proofs.tree_index.TreeIndex.put_each_listed.Goals as goal
 
 pub returns-in_err-put_entry-clause-clash : goal.returns-in_err-put_entry-clause-clash
 returns-in_err-put_entry-clause-clash c =
