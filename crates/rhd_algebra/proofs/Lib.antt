@@ -1,3 +1,4 @@
 pub mod Gathered
 pub mod Made
+pub mod Plain
 pub mod SameTrees

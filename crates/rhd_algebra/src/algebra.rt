@@ -6,7 +6,10 @@ ghost use Rattle.rhd_func.specs.declared.access.FnAccess.{FnAccess as Access};
 ghost use Rattle.rhd_func.specs.declared.access.FnNamespace.{FnNamespace as Namespace};
 ghost use Rattle.rhd_module.specs.Algebra.{merged_with, merged_all, scripts_that, passes_by, script_passes_by, IsJoined, Combines, Flattens, Fills, Merges, FilterTells, ScriptFilterTells};
 
-use crate::joining::{combined, flattened, join_below, join_over, merge_that, merged, retained};
+use crate::joining::{
+    combined, flattened, has_no_sub_modules, join_below, join_over, merge_that, merged,
+    only_declares, retained,
+};
 use rhd_decl::{DeclFault, Declaration};
 use rhd_func::{FnAccess, FnNamespace};
 use rhd_module::Module;
@@ -87,6 +90,9 @@ impl ModuleAlgebra for Module {
     }
 
     fn combine_flatten(&mut self, alloc: Global, other: &Module) -> Result<(), DeclFault> {
+        if has_no_sub_modules(other) {
+            return combined(self, alloc, other);
+        }
         let made = flattened(alloc, self.seeds(), self.doc(), other)?;
         let doc = made.doc().dup(alloc)?;
         join_over(self, alloc, &made, doc)
@@ -97,6 +103,9 @@ impl ModuleAlgebra for Module {
     }
 
     fn merge(&mut self, alloc: Global, other: &Module) -> Result<(), DeclFault> {
+        if only_declares(other) {
+            return combined(self, alloc, other);
+        }
         merge_that(self, alloc, other, &|_declaration: &Declaration| true)
     }
 

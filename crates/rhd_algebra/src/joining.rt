@@ -1,6 +1,6 @@
 //! What of one module is put into another where they are joined.
 
-ghost use Rattle.std.specs.Prelude.{◌≡◌, ◌∷◌, ◌++◌, [], Bool, IfOk, IfErr, OnOk, OnErr};
+ghost use Rattle.std.specs.Prelude.{◌≡◌, ◌∷◌, ◌++◌, ◌&&◌, [], Bool, IfOk, IfErr, OnOk, OnErr};
 ghost use Rattle.std.specs.Fn.{FnReturnsAt};
 ghost use Rattle.std.specs.List.{AllByRecursion};
 ghost use Rattle.std.specs.Map.{keys_of};
@@ -8,7 +8,8 @@ ghost use Rattle.rhd_decl.specs.declared.declaration.Declaration.{Declaration as
 ghost use Rattle.rhd_module.specs.Algebra.{joined_doc, over, combined_with, new_vars, new_subs, that_pass, registered_over, flattened_with, merged_own};
 ghost use Rattle.rhd_module.specs.Algebra.{merged_with, merged_all, HasOwnTable, SomeClash, IsJoined, Joins, Combines, Fills, Merges};
 ghost use Rattle.rhd_table.specs.Tells.{Tells};
-ghost use Rattle.rhd_module.specs.Contents.{with_doc};
+ghost use Rattle.rhd_manifest.specs.Listing.{is_none_of};
+ghost use Rattle.rhd_module.specs.Contents.{with_doc, has_no_subs};
 ghost use Rattle.rhd_table.specs.Indexed.{IsClash};
 ghost use Rattle.rhd_table.specs.Pairs.{put_all};
 ghost use Rattle.rhd_module.specs.Manifests.{with_contents, with_pairs};
@@ -194,6 +195,24 @@ pub(crate) fn combined(target: &mut Module, alloc: Global, other: &Module) -> Re
 {
     let doc = joined_doc(alloc, target.doc(), other.doc())?;
     join_over(target, alloc, other, doc)
+}
+
+/// Whether a module has no sub-modules, so that flattening it has nothing to gather.
+pub(crate) fn has_no_sub_modules(of: &Module) -> bool
+    ensures { result ≡ has_no_subs of.now.subs }
+{
+    of.iter_sub_modules().len() == 0
+}
+
+/// Whether a module has no sub-modules, no manifests and no listed functions, so that merging all of it
+/// has nothing to gather.
+pub(crate) fn only_declares(of: &Module) -> bool
+    ensures { result ≡ (has_no_subs of.now.subs && (is_none_of of.now.own.manifests && is_none_of of.now.own.listed)) }
+{
+    let no_subs = has_no_sub_modules(of);
+    let no_manifests = of.iter_manifests().len() == 0;
+    let none_listed = of.listed().is_empty();
+    no_subs & (no_manifests & none_listed)
 }
 
 /// Puts what another module has over what a module has, but for its declarations and sub-modules.

@@ -1,4 +1,4 @@
-use Rattle.std.proofs.Common.{◌∷◌, [], subst, ◌∙◌}
+use Rattle.std.proofs.Common.{◌∷◌, [], sym, subst, ◌∙◌}
 use Rattle.std.specs.Map.{keys_of}
 use Rattle.rhd_hash.specs.declared.mixer.Seeds.{Seeds}
 use Rattle.rhd_value.specs.Tree.{Bytes}
@@ -7,8 +7,14 @@ use Rattle.rhd_module.specs.Contents.{with_doc}
 use Rattle.rhd_table.specs.Indexed.{IsClash}
 use Rattle.rhd_module.specs.Tree.{empty_module}
 use Rattle.rhd_algebra.proofs.Gathered.{flattened_clash, flattened_joins}
+use Rattle.rhd_algebra.proofs.Plain.{combine_flattens}
 use Rattle.rhd_module.proofs.JoinParts.{refused_join}
 use Rattle.rhd_algebra.proofs.algebra.ModuleModuleAlgebra.combine_flatten.Goals as goal
+
+pub returns-then-has_no_sub_modules : goal.returns-then-has_no_sub_modules
+returns-then-has_no_sub_modules c =
+    let alone = sym c.has_no_sub_modules.ensures ∙ c.if-has_no_sub_modules.true in
+    combine_flattens c.args.other.now c.args.self.now c.combined.new.target c.combined.result alone c.combined.ensures
 
 pub returns-in_err-made : goal.returns-in_err-made
 returns-in_err-made c =
