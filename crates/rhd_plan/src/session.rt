@@ -310,9 +310,9 @@ impl SessionText {
         }
     }
 
-    /// Adds what a line says, where it may stand there; else all stays as it was.
+    /// Adds what a line says that is no command, where it may stand there; else all stays as it was.
     #[tactic(auto, unfolding(crate::specs::Session::with_part))]
-    pub fn add_part(&mut self, alloc: Global, part: Part, natives: &Natives) -> Result<(), Stop>
+    fn add_row(&mut self, alloc: Global, part: Part, natives: &Natives) -> Result<(), Stop>
         requires manifests { length self.old.manifests + 1 < 2 ^ 32 }
         ensures { StepGives result self.old self.new (with_part (infos_of info natives.now) self.old part) }
     {
@@ -321,5 +321,17 @@ impl SessionText {
             return Err(Stop::Bad);
         }
         self.add(alloc, part, natives)
+    }
+
+    /// Adds what a line says, where it may stand there; else all stays as it was.
+    #[tactic(auto, unfolding(crate::specs::Session::with_part))]
+    pub fn add_part(&mut self, alloc: Global, part: Part, natives: &Natives) -> Result<(), Stop>
+        requires manifests { length self.old.manifests + 1 < 2 ^ 32 }
+        ensures { StepGives result self.old self.new (with_part (infos_of info natives.now) self.old part) }
+    {
+        match part {
+            Part::Command(command) => self.add_command(command),
+            row => self.add_row(alloc, row, natives),
+        }
     }
 }

@@ -1,6 +1,7 @@
 //! How a session carries out the commands that declare something.
 
-ghost use Rattle.std.specs.Prelude.{List, [], ◌∷◌, ◌++◌, ◌≡◌, ◌≤◌, ◌<◌, ◌+◌, ◌^◌, true, false, Some, None, is_some, Ok, Err, IfOk, IfErr, OnOk, OnErr, IfSome, IfNone, length, slice_get, vec_len, vec_capacity};
+ghost use Rattle.std.specs.Prelude.{List, [], ◌∷◌, ◌++◌, ◌≡◌, ◌≤◌, ◌<◌, ◌+◌, ◌^◌, true, false, length, slice_get, vec_len, vec_capacity};
+ghost use Rattle.std.specs.Prelude.{Some, None, is_some, Ok, Err, IfOk, IfErr, OnOk, OnErr, IfSome, IfNone};
 ghost use Rattle.rhd_call.specs.declared.reply.Reply.{Reply as TheReply};
 ghost use Rattle.std.specs.Option.{option_copied};
 ghost use Rattle.rhd_module.specs.Registered.{RegistersRaw};

@@ -21,6 +21,7 @@ mod wants;
 mod words;
 
 pub use arguments::{Argument, Arguments, argument_at, arguments_at};
+pub use brackets::begins;
 pub use fault::Stop;
 pub use given::{Given, GivenAt, Places};
 pub use kinds::kinds_at;
@@ -30,7 +31,7 @@ pub use operand::read_value;
 pub use operands::{name_at, purity_at, texts_at, this_at};
 pub use operators::operator_of;
 pub use printers::{Printer, printer_at};
-pub use quoted::wording_at;
+pub use quoted::{plain_str_at, text_here, wording_at};
 pub use utf8::is_text;
 pub use values::value_at;
 pub use wants::{value_kind_at, want_at};

@@ -13,13 +13,23 @@ use crate::words::{may_end, run_at, skip_blanks};
 use rhd_value::{OutOfMemory, Text};
 use std::alloc::Global;
 
+/// The text that these bytes are, where they are UTF-8, lent.
+fn str_of(word: &[u8]) -> Result<&str, Stop>
+    ensures { Gives (λ x. x.now) result (text_of word.now) }
+{
+    match str::from_utf8(word) {
+        Ok(text) => Ok(text),
+        Err(_) => Err(Stop::Bad),
+    }
+}
+
 /// The text of these bytes, where they are UTF-8.
 pub fn text_of(alloc: Global, word: &[u8]) -> Result<Text, Stop>
     ensures { Gives (λ x. x) result (text_of word.now) }
 {
-    match str::from_utf8(word) {
+    match str_of(word) {
         Ok(text) => Ok(Text::from_str(alloc, text)?),
-        Err(_) => Err(Stop::Bad),
+        Err(stop) => Err(stop),
     }
 }
 
@@ -114,6 +124,15 @@ pub fn quoted_at(alloc: Global, bytes: &[u8], quote: u8) -> Result<(Text, &[u8])
     Ok((text, rest))
 }
 
+/// An unquoted text, lent, and the bytes after it.
+pub fn plain_str_at(bytes: &[u8]) -> Result<(&str, &[u8]), Stop>
+    ensures { Gives (λ x. (x.0.now, x.1.now)) result (plain_text_at bytes.now) }
+{
+    let (word, rest) = run_at(bytes)?;
+    let text = str_of(word)?;
+    Ok((text, rest))
+}
+
 /// An unquoted text, and the bytes after it.
 fn plain_text_at(alloc: Global, bytes: &[u8]) -> Result<(Text, &[u8]), Stop>
     ensures { Gives (λ x. (x.0, x.1.now)) result (plain_text_at bytes.now) }
@@ -125,7 +144,7 @@ fn plain_text_at(alloc: Global, bytes: &[u8]) -> Result<(Text, &[u8]), Stop>
 
 /// A text, quoted or not, before which no blank is left, and the bytes after it.
 #[tactic(auto, unfolding(crate::specs::Reading::text_here))]
-fn text_here(alloc: Global, bytes: &[u8]) -> Result<(Text, &[u8]), Stop>
+pub fn text_here(alloc: Global, bytes: &[u8]) -> Result<(Text, &[u8]), Stop>
     ensures { Gives (λ x. (x.0, x.1.now)) result (text_here bytes.now) }
 {
     if begins(bytes, b'"') {

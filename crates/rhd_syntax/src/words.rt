@@ -25,7 +25,8 @@ fn is_bracket(b: u8) -> bool
 fn is_word_byte(b: u8) -> bool
     ensures { result ≡ is_word_byte b }
 {
-    !(is_blank(b) || is_bracket(b) || b == b'"' || b == b'\'')
+    // Most are letters.
+    b.is_ascii_lowercase() || !(is_blank(b) || is_bracket(b) || b == b'"' || b == b'\'')
 }
 
 fn blanks_len(bytes: &[u8]) -> usize
