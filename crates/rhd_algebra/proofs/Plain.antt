@@ -47,7 +47,8 @@ plain_merged own m = λ i. record {
   subs = m.subs;
 }
 
-pub combine_merges : {A : Type 0} (other m new : ModuleTree) (r : Result A DeclFault) → (has_no_subs other.subs && (is_none_of other.own.manifests && is_none_of other.own.listed)) ≡ true → Combines other m r new → Merges (λ d. true) other m r new
+pub combine_merges : {A : Type 0} (other m new : ModuleTree) (r : Result A DeclFault) → (has_no_subs other.subs && (is_none_of other.own.manifests && is_none_of other.own.listed)) ≡ true
+    → Combines other m r new → Merges (λ d. true) other m r new
 combine_merges other m new r is joins =
     let first = both (has_no_subs other.subs) (is_none_of other.own.manifests && is_none_of other.own.listed) is in
     let second = both (is_none_of other.own.manifests) (is_none_of other.own.listed) first.1 in
