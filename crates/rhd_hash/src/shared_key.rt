@@ -11,12 +11,12 @@ use std::alloc::Global;
 use std::marker::Model;
 use std::rc::Rc;
 
-/// What the owners of a key share. Contracts see the key.
+/// What the owners of a key share. Contracts see the key. What a look-up asks first stands in front.
 #[derive(Drop)]
 struct Parts {
-    key: Key,
-    seeds: Seeds,
     hash: u64,
+    seeds: Seeds,
+    key: Key,
 }
 
 impl Model for Parts {
@@ -75,7 +75,7 @@ impl SharedKey {
         ensures { IfOk result (λ shared. shared ≡ key) }
     {
         Ok(SharedKey {
-            parts: Rc::new(alloc, Parts { key, seeds, hash })?,
+            parts: Rc::new(alloc, Parts { hash, seeds, key })?,
         })
     }
 
