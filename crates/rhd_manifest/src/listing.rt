@@ -181,6 +181,9 @@ impl Listing {
     pub fn find(&self, key: &Key) -> Option<&FnManifestEntry>
         ensures { option_copied result ≡ find_entry key.now self.now }
     {
+        if self.parts.is_empty() {
+            return None;
+        }
         if key.is_script() {
             return None;
         }
