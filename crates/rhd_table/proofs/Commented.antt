@@ -7,7 +7,7 @@ use Rattle.rhd_hash.specs.Keys.{key_eq}
 use Rattle.rhd_decl.specs.declared.declaration.Declaration.{Declaration}
 use Rattle.rhd_table.specs.Pairs.{Pairs, put}
 use Rattle.rhd_table.specs.Found.{commented, comment_on}
-use Rattle.rhd_table.specs.NativeIndex.{is_native_of, places_from}
+use Rattle.rhd_table.specs.NativeIndex.{places_from}
 
 module _ (k : Key) (comments : List Bytes) where
   put_step : (d : Declaration) (p : Key × Declaration) (ps : Pairs) (same : Bool) → key_eq k p.0 ≡ same → (lookup (key_eq k) ps ≡ Some d → put k (commented comments d) ps ≡ comment_on k comments ps)
@@ -31,12 +31,12 @@ module _ (k : Key) (comments : List Bytes) where
   none_commented [] e = refl
   none_commented (p ∷ ps) e = none_step p ps (key_eq k p.0) refl (none_commented ps) e
 
-  places_step : (n : ℕ) (name : Bytes) (p : Key × Declaration) (ps : Pairs) (same : Bool) → places_from (n + 1) name (comment_on k comments ps) ≡ places_from (n + 1) name ps
-      → places_from n name (cond same ((p.0, commented comments p.1) ∷ ps) (p ∷ comment_on k comments ps)) ≡ places_from n name (p ∷ ps)
-  places_step n name p ps true ih = refl
-  places_step n name p ps false ih = ap (λ (xs : List ℕ). cond (is_native_of name p.0) (n ∷ xs) xs) ih
+  places_step : (n : ℕ) (own : Key → Bool) (p : Key × Declaration) (ps : Pairs) (same : Bool) → places_from (n + 1) own (comment_on k comments ps) ≡ places_from (n + 1) own ps
+      → places_from n own (cond same ((p.0, commented comments p.1) ∷ ps) (p ∷ comment_on k comments ps)) ≡ places_from n own (p ∷ ps)
+  places_step n own p ps true ih = refl
+  places_step n own p ps false ih = ap (λ (xs : List ℕ). cond (own p.0) (n ∷ xs) xs) ih
 
   -- natives stay where they are
-  pub places_commented : (n : ℕ) (name : Bytes) (ps : Pairs) → places_from n name (comment_on k comments ps) ≡ places_from n name ps
-  places_commented n name [] = refl
-  places_commented n name (p ∷ ps) = places_step n name p ps (key_eq k p.0) (places_commented (n + 1) name ps)
+  pub places_commented : (n : ℕ) (own : Key → Bool) (ps : Pairs) → places_from n own (comment_on k comments ps) ≡ places_from n own ps
+  places_commented n own [] = refl
+  places_commented n own (p ∷ ps) = places_step n own p ps (key_eq k p.0) (places_commented (n + 1) own ps)

@@ -86,9 +86,9 @@ none_is None h = absurd (true≢false (sym h))
 none_is (Some x) h = refl
 
 -- an index stays the index
-pub index_all : (natives : NativeIndex) (ps x : Pairs) → IsIndex natives x → AllByRecursion (λ p. is_some (first p.0 x) ≡ true) ps → IsIndex natives (put_all ps x)
-index_all natives [] x index h = index
-index_all natives (p ∷ ps) x index h = index_all natives ps (put p.0 p.1 x) (index_put_there natives p.0 p.1 x index (none_is (first p.0 x) h.0)) (all_still ps (p ∷ []) x h.1)
+pub index_all : (natives : NativeIndex) (seeds : Seeds) (ps x : Pairs) → IsIndex natives seeds x → AllByRecursion (λ p. is_some (first p.0 x) ≡ true) ps → IsIndex natives seeds (put_all ps x)
+index_all natives seeds [] x index h = index
+index_all natives seeds (p ∷ ps) x index h = index_all natives seeds ps (put p.0 p.1 x) (index_put_there natives seeds p.0 p.1 x index (none_is (first p.0 x) h.0)) (all_still ps (p ∷ []) x h.1)
 
 or_assoc : (a b c : Bool) → ((a || b) || c) ≡ (a || (b || c))
 or_assoc true b c = refl

@@ -3,7 +3,7 @@
 ghost use Rattle.std.specs.Prelude.{◌≡◌, ℕ, List, ◌++◌, [], length, slice_get, None, is_none, is_some, true, false, OnOk, OnErr, IfOk, IfErr};
 ghost use Rattle.std.specs.List.{AllByRecursion, list_any};
 ghost use Rattle.std.specs.Map.{lookup, keys_of};
-ghost use Rattle.std.specs.Option.{option_copied, option_map};
+ghost use Rattle.std.specs.Option.{option_copied};
 ghost use Rattle.rhd_hash.specs.Covers.{Covers, HasNoScript};
 ghost use Rattle.rhd_hash.specs.Keys.{key_eq};
 ghost use Rattle.rhd_hash.specs.Refusal.{IsRefusal};
@@ -12,7 +12,7 @@ ghost use Rattle.rhd_hash.specs.declared.fault.TableFault.{TableFault};
 ghost use Rattle.rhd_decl.specs.Collisions.{collision};
 ghost use Rattle.rhd_table.specs.Found.{commented, comment_on, script_in};
 ghost use Rattle.rhd_table.specs.Indexed.{IsClash};
-ghost use Rattle.rhd_table.specs.NativeIndex.{dynamic_name, dynamic_matches, noted, place_at, matches_at};
+ghost use Rattle.rhd_table.specs.NativeIndex.{dynamic_matches, is_noted_by, noted, place_at, matches_at};
 ghost use Rattle.rhd_table.specs.Pairs.{put, put_all};
 
 use crate::growing::grow;
@@ -21,7 +21,7 @@ use crate::script_search::{typed_script, untyped_script};
 use indexmap::map::Values;
 use rhd_decl::{DeclFault, Declaration, SharedMetadata};
 use rhd_func::SharedDef;
-use rhd_hash::{BloomFilterU64, HashedKey, Key, KeyTable, Seeds, SharedKey};
+use rhd_hash::{BloomFilterU64, HashedKey, Key, KeyTable, Seeds, SharedKey, calc_untyped_fn_hash};
 use rhd_value::{OutOfMemory, Text, Texts, TypeTag};
 use std::alloc::Global;
 use std::marker::Model;
@@ -31,7 +31,7 @@ use std::marker::Model;
 #[derive(Drop)]
 pub struct Declarations {
     table: KeyTable<Declaration>,
-    /// Where the natives of a name stand that have a parameter of any type.
+    /// Where the natives of a name and a number of parameters stand that have one of any type.
     natives: NativeIndex,
 }
 
@@ -44,36 +44,24 @@ impl Model for Declarations {
 
     ghost view = { λ d. d.table };
 
-    ghost invariant = { λ d. IsIndex d.natives d.table.pairs };
+    ghost invariant = { λ d. IsIndex d.natives d.table.seeds d.table.pairs };
 }
 
-/// The name of a native that has a parameter of any type, where its key has no path.
-pub(crate) fn dynamic_name(key: &Key) -> Option<&Text>
-    ensures { option_copied result ≡ dynamic_name key.now }
-{
-    if key.has_dynamic() {
-        key.native_name()
-    } else {
-        None
-    }
-}
-
-/// Notes the place of a declaration under its name, if it is a native's that has a parameter of any type,
-/// without a path.
+/// Notes the place of a declaration, if its key has a parameter of any type.
 pub(crate) fn note_place(
     natives: &mut NativeIndex,
     alloc: Global,
     declarations: &KeyTable<Declaration>,
     place: usize,
 ) -> Result<(), OutOfMemory>
-    ensures ok { OnOk result ((name : List ℕ) → noted natives.new name ≡ noted natives.old name ++ place_at name declarations.now.pairs place) }
-    ensures err { OnErr result ((name : List ℕ) → noted natives.new name ≡ noted natives.old name) }
+    ensures ok { OnOk result ((hash : ℕ) → noted natives.new hash ≡ noted natives.old hash ++ place_at (is_noted_by declarations.now.seeds hash) declarations.now.pairs place) }
+    ensures err { OnErr result ((hash : ℕ) → noted natives.new hash ≡ noted natives.old hash) }
 {
     let Some((key, _declaration)) = declarations.get_index(place) else {
         return Ok(());
     };
-    match dynamic_name(key) {
-        Some(name) => natives.note(alloc, name, place),
+    match key.dynamic_hash(declarations.seeds()) {
+        Some(hash) => natives.note(alloc, hash, place),
         None => Ok(()),
     }
 }
@@ -178,7 +166,8 @@ impl Declarations {
     pub fn may_match(&self, exact: usize, name: &Text, kinds: &[TypeTag]) -> bool
         ensures { result ≡ list_any (λ p. dynamic_matches exact name.now kinds.now p.0) self.now.pairs }
     {
-        for place in self.natives.places(name) {
+        let hash = calc_untyped_fn_hash(self.seeds(), name, kinds.len() as u64);
+        for place in self.natives.places(hash) {
             if self.matches_at(*place, exact, name, kinds) {
                 return true;
             }
@@ -306,6 +295,18 @@ fn comment_pair(
     }
 }
 
+/// An empty table under the same seeds, with room for as many declarations.
+fn room_for(
+    alloc: Global,
+    table: &KeyTable<Declaration>,
+) -> Result<KeyTable<Declaration>, OutOfMemory>
+    ensures { IfOk result (λ copy. copy ≡ record { seeds = table.now.seeds; pairs = [] }) }
+{
+    let mut copy = KeyTable::new(alloc, table.seeds());
+    copy.reserve(table.len())?;
+    Ok(copy)
+}
+
 /// An equal table of declarations.
 fn dup_declarations(
     alloc: Global,
@@ -313,7 +314,7 @@ fn dup_declarations(
 ) -> Result<KeyTable<Declaration>, OutOfMemory>
     ensures { IfOk result (λ copy. copy ≡ table.now) }
 {
-    let mut copy = KeyTable::new(alloc, table.seeds());
+    let mut copy = room_for(alloc, table)?;
     for (key, declaration) in table.iter() {
         copy_pair(alloc, &mut copy, key, declaration)?;
     }

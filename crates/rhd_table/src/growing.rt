@@ -11,10 +11,10 @@ ghost use Rattle.rhd_table.specs.NativeIndex.{IsIndex};
 ghost use Rattle.rhd_table.specs.Pairs.{Pairs, put, put_all};
 ghost use Rattle.rhd_table.specs.Tells.{Tells};
 
-use crate::declarations::{Declarations, dynamic_name, note_place, put_pair};
+use crate::declarations::{Declarations, note_place, put_pair};
 use crate::native_index::NativeIndex;
 use rhd_decl::{DeclFault, Declaration};
-use rhd_hash::{Key, KeyTable, SharedKey};
+use rhd_hash::{KeyTable, SharedKey};
 use rhd_value::OutOfMemory;
 use std::alloc::Global;
 
@@ -22,15 +22,15 @@ use std::alloc::Global;
 fn forget_places(natives: &mut NativeIndex, table: &KeyTable<Declaration>, from: usize, to: usize)
     requires order { from ≤ to }
     requires within { to ≤ length table.now.pairs }
-    requires index { IsIndex natives.old (take to table.now.pairs) }
-    ensures { IsIndex natives.new (take from table.now.pairs) }
+    requires index { IsIndex natives.old table.now.seeds (take to table.now.pairs) }
+    ensures { IsIndex natives.new table.now.seeds (take from table.now.pairs) }
 {
     let mut place = to;
     while place > from {
         place -= 1;
         if let Some((key, _declaration)) = table.get_index(place) {
-            if let Some(name) = dynamic_name(key) {
-                natives.unnote(name);
+            if let Some(hash) = key.dynamic_hash(table.seeds()) {
+                natives.unnote(hash);
             }
         }
     }
@@ -44,9 +44,9 @@ fn note_places(
     from: usize,
 ) -> Result<(), OutOfMemory>
     requires within { from ≤ length table.now.pairs }
-    requires index { IsIndex natives.old (take from table.now.pairs) }
-    ensures ok { OnOk result (IsIndex natives.new table.now.pairs) }
-    ensures err { OnErr result (IsIndex natives.new (take from table.now.pairs)) }
+    requires index { IsIndex natives.old table.now.seeds (take from table.now.pairs) }
+    ensures ok { OnOk result (IsIndex natives.new table.now.seeds table.now.pairs) }
+    ensures err { OnErr result (IsIndex natives.new table.now.seeds (take from table.now.pairs)) }
 {
     for place in from..table.len() {
         if let Err(OutOfMemory) = note_place(natives, alloc, table, place) {
@@ -69,7 +69,7 @@ fn copy_of(
 }
 
 /// Copies of the declarations whose keys pass a test.
-pub fn copies_that<F: Fn(&Key) -> bool>(
+pub fn copies_that<F: Fn(&SharedKey) -> bool>(
     alloc: Global,
     of: &Declarations,
     passes: &F,
@@ -79,7 +79,7 @@ pub fn copies_that<F: Fn(&Key) -> bool>(
 {
     let mut copies = Vec::new(alloc);
     for (key, declaration) in of.iter() {
-        if passes(key.key()) {
+        if passes(key) {
             copies.push(copy_of(alloc, key, declaration)?)?;
         }
     }
@@ -151,9 +151,9 @@ fn replace_all(table: &mut KeyTable<Declaration>, pairs: Vec<(SharedKey, Declara
     }
 }
 
-/// Puts declarations into a table and its index: some in the place of those of equal keys, and others
-/// under keys that aren't there. A refusal changes nothing.
-pub(crate) fn grow(
+/// Puts declarations into a table, in which there is room for them, and its index. A refusal changes
+/// nothing.
+fn grow_in(
     table: &mut KeyTable<Declaration>,
     natives: &mut NativeIndex,
     alloc: Global,
@@ -162,12 +162,12 @@ pub(crate) fn grow(
 ) -> Result<(), DeclFault>
     requires there { AllByRecursion (λ p. is_some (lookup (key_eq p.0) table.old.pairs) ≡ true) there.items }
     requires new { AllByRecursion (λ p. lookup (key_eq p.0) table.old.pairs ≡ None) new.items }
-    requires index { IsIndex natives.old table.old.pairs }
+    requires index { IsIndex natives.old table.old.seeds table.old.pairs }
     ensures ok { OnOk result (table.new ≡ record table.old { pairs = put_all there.items (put_all new.items table.old.pairs) }) }
-    ensures noted { OnOk result (IsIndex natives.new table.new.pairs) }
+    ensures noted { OnOk result (IsIndex natives.new table.new.seeds table.new.pairs) }
     ensures clash { IfErr result (IsClash table.old.seeds (keys_of (put_all new.items table.old.pairs))) }
     ensures err { OnErr result (table.new ≡ table.old) }
-    ensures still { OnErr result (IsIndex natives.new table.old.pairs) }
+    ensures still { OnErr result (IsIndex natives.new table.old.seeds table.old.pairs) }
 {
     let len = table.len();
     match insert_all(table, new) {
@@ -187,4 +187,26 @@ pub(crate) fn grow(
             Err(DeclFault::OutOfMemory)
         }
     }
+}
+
+/// Puts declarations into a table and its index: some in the place of those of equal keys, and others
+/// under keys that aren't there. A refusal changes nothing.
+pub(crate) fn grow(
+    table: &mut KeyTable<Declaration>,
+    natives: &mut NativeIndex,
+    alloc: Global,
+    there: Vec<(SharedKey, Declaration)>,
+    new: Vec<(SharedKey, Declaration)>,
+) -> Result<(), DeclFault>
+    requires there { AllByRecursion (λ p. is_some (lookup (key_eq p.0) table.old.pairs) ≡ true) there.items }
+    requires new { AllByRecursion (λ p. lookup (key_eq p.0) table.old.pairs ≡ None) new.items }
+    requires index { IsIndex natives.old table.old.seeds table.old.pairs }
+    ensures ok { OnOk result (table.new ≡ record table.old { pairs = put_all there.items (put_all new.items table.old.pairs) }) }
+    ensures noted { OnOk result (IsIndex natives.new table.new.seeds table.new.pairs) }
+    ensures clash { IfErr result (IsClash table.old.seeds (keys_of (put_all new.items table.old.pairs))) }
+    ensures err { OnErr result (table.new ≡ table.old) }
+    ensures still { OnErr result (IsIndex natives.new table.old.seeds table.old.pairs) }
+{
+    table.reserve(new.len())?;
+    grow_in(table, natives, alloc, there, new)
 }

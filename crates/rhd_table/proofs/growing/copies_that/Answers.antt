@@ -13,7 +13,7 @@ loop-key-preserved-in_ok-push g c =
       front ++ p ∷ [],
       c.loop-key.invariant.1 ∙ ap (λ (t : Pairs). front ++ t) c.in-Some.ensures.steps ∙ sym (append_assoc front (p ∷ []) c.next.new.self),
       λ tells h.
-          let yes : tells p.0 ≡ true = ap tells (sym c.key.ensures) ∙ sym (h c.key.result.now c.passes.result (says_at g.F.Fn c.passes.ensures refl)) ∙ c.if-passes.true in
+          let yes : tells p.0 ≡ true = sym (h p.0 c.passes.result (says_at g.F.Fn c.passes.ensures refl)) ∙ c.if-passes.true in
           c.in_ok-push.ensures.items ∙ (λ k. c.loop-key.invariant.2 tells h k ++ c.in_ok-copy_of.ensures k ∷ []) ∙ sym (passing (λ (q : Key × Declaration). tells q.0) front p yes),
     )
 
@@ -24,6 +24,6 @@ loop-key-preserved g c =
       front ++ p ∷ [],
       c.loop-key.invariant.1 ∙ ap (λ (t : Pairs). front ++ t) c.in-Some.ensures.steps ∙ sym (append_assoc front (p ∷ []) c.next.new.self),
       λ tells h.
-          let no : tells p.0 ≡ false = ap tells (sym c.key.ensures) ∙ sym (h c.key.result.now c.passes.result (says_at g.F.Fn c.passes.ensures refl)) ∙ c.if-passes.false in
+          let no : tells p.0 ≡ false = sym (h p.0 c.passes.result (says_at g.F.Fn c.passes.ensures refl)) ∙ c.if-passes.false in
           c.loop-key.invariant.2 tells h ∙ sym (failing (λ (q : Key × Declaration). tells q.0) front p no),
     )

@@ -22,7 +22,7 @@ pub invariant_of-self : goal.invariant_of-self
 invariant_of-self c =
     let grown = c.grow.new.table in
     let natives = c.grow.new.natives in
-    let P : Type 0 = IsIndex natives grown.pairs in
+    let P : Type 0 = IsIndex natives grown.seeds grown.pairs in
     either {P = P} c.grow.result c.grow.ensures.ok c.grow.ensures.noted c.grow.ensures.err c.grow.ensures.still
     (λ is index. index)
-    (λ same index. subst (λ (t : Table Declaration). IsIndex natives t.pairs) (sym same) index)
+    (λ same index. subst (λ (t : Table Declaration). IsIndex natives t.seeds t.pairs) (sym same) index)

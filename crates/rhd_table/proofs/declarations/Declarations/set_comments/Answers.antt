@@ -1,9 +1,9 @@
-use Rattle.std.proofs.Common.{◌≡◌, sym, ap, subst, ◌∙◌}
+use Rattle.std.proofs.Common.{ℕ, Bool, sym, ap, subst, ◌∙◌}
+use Rattle.rhd_hash.specs.declared.key.Key.{Key}
 use Rattle.rhd_hash.specs.Table.{Table}
 use Rattle.rhd_decl.specs.declared.declaration.Declaration.{Declaration}
 use Rattle.rhd_table.specs.contracts.declarations.Declarations.{the_invariant}
-use Rattle.rhd_table.specs.Found.{comment_on}
-use Rattle.rhd_table.specs.NativeIndex.{places_from}
+use Rattle.rhd_table.specs.NativeIndex.{is_noted_by, places_from}
 use Rattle.rhd_table.proofs.Commented.{places_commented}
 use Rattle.rhd_table.proofs.declarations.Declarations.set_comments.Goals as goal
 
@@ -12,8 +12,9 @@ invariant_of-self-2 c =
     let es = c.self.inside.table.pairs in
     let key = c.args.key.now in
     let comments = c.args.comments in
-    let is : c.comment_pair.new.table.pairs ≡ comment_on key comments es = ap (λ (t : Table Declaration). t.pairs) c.in_ok-found.ensures.ok in
-    λ name. c.self.invariant name ∙ sym (places_commented key comments 0 name es) ∙ ap (places_from 0 name) (sym is)
+    let own : ℕ → Key → Bool = is_noted_by c.self.inside.table.seeds in
+    λ hash. c.self.invariant hash ∙ sym (places_commented key comments 0 (own hash) es)
+    ∙ ap (λ (t : Table Declaration). places_from 0 (is_noted_by t.seeds hash) t.pairs) (sym c.in_ok-found.ensures.ok)
 
 -- where memory runs out, all is as before
 pub invariant_of-self : goal.invariant_of-self
