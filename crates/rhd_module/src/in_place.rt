@@ -16,7 +16,7 @@ ghost use Rattle.rhd_module.specs.Tree.{subs_of};
 
 use crate::module::Module;
 use rhd_decl::{DeclFault, Declaration};
-use rhd_hash::{Key, SharedKey};
+use rhd_hash::SharedKey;
 use rhd_map::{put_all, take_back};
 use rhd_table::{Copies, copies_that, mark_pairs, split_copies};
 use rhd_value::{Dynamic, Entries, OutOfMemory, Text};
@@ -157,7 +157,11 @@ impl Module {
         ensures clash { IfErr result (IsClash self.old.own.seeds (keys_of (put_all (without (shown self.old.own) other.now.own.eager) self.old.own.eager))) }
         ensures err { OnErr result (self.new ≡ self.old) }
     {
-        let new = copies_that(alloc, &other.eager, &|key: &Key| !self.contains_fn(key))?;
+        let new = copies_that(
+            alloc,
+            &other.eager,
+            &|key: &SharedKey| !self.contains_shared(key),
+        )?;
         self.put_copies(alloc, Vec::new(alloc), new, named)
     }
 }

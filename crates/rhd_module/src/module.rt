@@ -307,6 +307,14 @@ impl Module {
         self.eager.get(key).is_some() || self.listed.find(key).is_some()
     }
 
+    /// The same under a key that tables share.
+    #[tactic(auto, unfolding(crate::specs::Shown::own_decl))]
+    pub(crate) fn contains_shared(&self, key: &SharedKey) -> bool
+        ensures { result ≡ is_some (own_decl self.now key.now) }
+    {
+        self.eager.get_hashed(&key.hashed()).is_some() || self.listed.find(key.key()).is_some()
+    }
+
     /// The manifests that it lists, each with whether it is flattened, in the order in which they were
     /// added.
     pub fn iter_manifests(&self) -> &[(ManifestId, bool)]
