@@ -9,6 +9,7 @@ use rhd_module::Module;
 use rhd_value::OutOfMemory;
 use std::alloc::Global;
 use std::marker::Model;
+use std::rc::Rc;
 
 /// An indexed module, with the marks of its tree's keys beside it: a search that finds nothing there doesn't
 /// look into the module. Contracts see the module.
@@ -17,7 +18,8 @@ pub struct MarkedModule {
     module: SharedModule,
     /// Its seeds.
     seeds: Seeds,
-    marks: BloomFilterU64<128>,
+    /// They have room for thousands of keys, and all owners of the module share them.
+    marks: Rc<BloomFilterU64<8192>>,
 }
 
 impl Model for MarkedModule {
@@ -32,20 +34,21 @@ impl Model for MarkedModule {
 
     ghost view = { λ m. m.module };
 
-    ghost invariant = { λ m. Covers 128 m.marks m.seeds (tree m.module) };
+    ghost invariant = { λ m. Covers 8192 m.marks.value m.seeds (tree m.module) };
 }
 
 impl MarkedModule {
-    pub fn new(shared: SharedModule) -> Result<MarkedModule, OutOfMemory>
+    pub fn new(alloc: Global, shared: SharedModule) -> Result<MarkedModule, OutOfMemory>
         requires { shared.own.indexed ≡ true }
         ensures { IfOk result (λ marked. marked ≡ shared) }
     {
-        let marks = shared.module().tree_marks().clone()?;
+        let mut marks = BloomFilterU64::new();
+        shared.module().mark_tree(&mut marks);
         let seeds = shared.module().seeds();
         Ok(MarkedModule {
             module: shared,
             seeds,
-            marks,
+            marks: Rc::new(alloc, marks)?,
         })
     }
 
@@ -69,7 +72,7 @@ impl MarkedModule {
         Ok(MarkedModule {
             module: self.module.dup(alloc)?,
             seeds: self.seeds,
-            marks: self.marks.clone()?,
+            marks: Rc::clone(&self.marks)?,
         })
     }
 }

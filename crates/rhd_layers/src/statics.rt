@@ -113,11 +113,16 @@ impl ModuleMap {
     }
 
     /// Puts an indexed module under a name, in the place of one of an equal name.
-    pub fn insert(&mut self, name: Text, added: SharedModule) -> Result<(), OutOfMemory>
+    pub fn insert(
+        &mut self,
+        alloc: Global,
+        name: Text,
+        added: SharedModule,
+    ) -> Result<(), OutOfMemory>
         requires { added.own.indexed ≡ true }
         ensures { self.new ≡ (if is_ok result then put_module name added self.old else self.old) }
     {
-        let added = MarkedModule::new(added)?;
+        let added = MarkedModule::new(alloc, added)?;
         self.marks.add_wide(&mut self.keys, added.module());
         self.modules.insert(name, added)?;
         Ok(())
@@ -164,7 +169,7 @@ impl ModuleMap {
     {
         let made = placed(alloc, seeds, part, more, self.module_of(part), added)?;
         let name = part.dup(alloc)?;
-        self.insert(name, made)?;
+        self.insert(alloc, name, made)?;
         Ok(())
     }
 

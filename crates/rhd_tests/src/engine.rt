@@ -262,7 +262,7 @@ fn statics_keep_their_names(rt: HostRuntime) {
 fn statics_are_put(rt: HostRuntime) {
     let alloc = rt.alloc();
     let mut statics = ModuleMap::new(alloc);
-    let put = statics.insert(text(alloc, "a"), shared(&rt, alloc, SEEDS));
+    let put = statics.insert(alloc, text(alloc, "a"), shared(&rt, alloc, SEEDS));
     must(&rt, put, "insert");
     let dup = must(&rt, statics.dup(alloc), "a map is copied");
     holds(&rt, dup.len() == 1, "one module");

@@ -82,7 +82,7 @@ fn a_tree_tells_what_it_has(rt: HostRuntime) {
 fn a_module_has_its_marks_beside_it(rt: HostRuntime) {
     let alloc = rt.alloc();
     let shared = indexed(&rt, alloc);
-    let marked = must(&rt, MarkedModule::new(shared), "a module");
+    let marked = must(&rt, MarkedModule::new(alloc, shared), "a module");
     let copy = must(&rt, marked.dup(alloc), "a copy");
     let (s, f) = (below(alloc), native_key(alloc, "f", TypeTag::Int));
     holds(&rt, copy.may_have(&HashedKey::new(&s, SEEDS)), "the script");
@@ -173,7 +173,7 @@ fn statics_tell_what_they_have(rt: HostRuntime) {
     holds(&rt, tells_nothing(statics_tell(&map, &key)), "none");
     must(
         &rt,
-        map.insert(text(alloc, "a"), indexed(&rt, alloc)),
+        map.insert(alloc, text(alloc, "a"), indexed(&rt, alloc)),
         "insert",
     );
     holds(&rt, tells_of_a_script(statics_tell(&map, &key)), "one");

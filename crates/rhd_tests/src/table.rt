@@ -74,10 +74,10 @@ fn natives_are_matched(rt: HostRuntime) {
 fn copies_are_made_of_what_passes(rt: HostRuntime) {
     let alloc = rt.alloc();
     let table = with_script(&rt, alloc);
-    let scripts = copies_that(alloc, &table, &|key: &Key| key.is_script());
+    let scripts = copies_that(alloc, &table, &|key: &SharedKey| key.key().is_script());
     let scripts = must(&rt, scripts, "copies");
     holds(&rt, scripts.len() == 1, "the script");
-    let natives = copies_that(alloc, &table, &|key: &Key| !key.is_script());
+    let natives = copies_that(alloc, &table, &|key: &SharedKey| !key.key().is_script());
     let natives = must(&rt, natives, "copies");
     holds(&rt, natives.is_empty(), "no native");
     drop(natives);
