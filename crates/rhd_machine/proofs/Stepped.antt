@@ -55,12 +55,12 @@ module _ {H B : Type 0} (o : Objects H B) (natives : List NativeInfo) where
       (IfOk-weaker r (λ step. o.body_starts s.bodies def ctx received.first received.args step bodies × GivesBack received.first step) (λ step. Starts o natives ctx (Script def env) received s step (record s { bodies = bodies })) (λ step q. body_starts q.0 q.1)
       (both_ok _ _ r (subst (λ (d : ScriptFuncDef). IfOk r (λ step. o.body_starts s.bodies d ctx received.first received.args step bodies)) equal a) b))
 
-  -- the same of an equal context, and of equal arguments
-  pub starts_on : {E : Type 0} (r : Result NativeStep E) (func : RhaiFunc) (ctx other : NativeCallContext) (received same : Received) (s t : Moment H B) →
-      ctx ≡ other → received.first ≡ same.first → received.args ≡ same.args → IfOk r (λ step. Starts o natives ctx func received s step t) → IfOk r (λ step. Starts o natives other func same s step t)
-  starts_on r func ctx other received same s t c first args a =
+  -- a step on what is received is one on an equal object and equal arguments
+  pub starts_on : (func : RhaiFunc) (ctx : NativeCallContext) (received same : Received) (s t : Moment H B) (step : NativeStep) →
+      received.first ≡ same.first → received.args ≡ same.args → Starts o natives ctx func received s step t → Starts o natives ctx func same s step t
+  starts_on func ctx received same s t step first args a =
       let all : received ≡ same = λ i. record { first = first i; args = args i } in
-      subst (λ (x : Received). IfOk r (λ step. Starts o natives other func x s step t)) all (subst (λ (x : NativeCallContext). IfOk r (λ step. Starts o natives x func received s step t)) c a)
+      subst (λ (x : Received). Starts o natives ctx func x s step t) all a
 
   -- a native goes on
   pub native_resumed : {E : Type 0} (r : Result NativeStep E) (func : RhaiFunc) (ctx : NativeCallContext) (carry : Carry) (done : CallDone) (id : FnId) (handed : Option NativeCallContext) (s : Moment H B) →

@@ -24,9 +24,10 @@ ghost use Rattle.rhd_machine.specs.Filling.{is_begun, with_end, ended_unfound, e
 ghost use Rattle.rhd_machine.specs.Entered.{context, context_if};
 ghost use Rattle.rhd_machine.specs.Setting.{setting_of, RunsIn};
 ghost use Rattle.rhd_machine.specs.Steps.{Starts, Resumes};
-ghost use Rattle.rhd_machine.specs.Runs.{received_by, Runs};
+ghost use Rattle.rhd_machine.specs.Runs.{Runs};
 ghost use Rattle.rhd_machine.specs.Waits.{Open, outcome_of, ComesIn};
 
+use crate::boxed::BoxedNode;
 use crate::ends::{end_by_host, not_found};
 use crate::filling::{done, fail, picks};
 use crate::machine::{Asking, Outcome, Suspended, settle, settle_waiting};
@@ -231,7 +232,8 @@ fn begin_picked<H: Host, B: Bodies>(
         (setting_of allows_call allows_resume B.allows_start B.allows_next H.allows_missing info engine.now modules environs state.now) (seen node.old).level (seen node.old).call (outcome_of node.new asking)
         (moment begun host bodies.old) (moment (begun + 1) host bodies.new)) }
 {
-    match first_step::<H, B>(alloc, engine, state, node, &pick, bodies) {
+    let received = receive(alloc, engine.natives(), &pick.func, &node.call)?;
+    match start::<H, B>(alloc, engine, state, node, &pick, received, bodies) {
         Ok(step) => settle(alloc, engine, node, pick, step),
         Err(error) => Err(error),
     }
@@ -243,7 +245,7 @@ pub fn resume<H: Host, B: Bodies>(
     engine: &Engine,
     state: &GlobalRuntimeState,
     suspended: Suspended,
-    child: CallNode,
+    child: BoxedNode,
     bodies: &mut B,
 ) -> Result<Outcome, OutOfMemory>
     requires { func_held (length engine.now.natives.items.items) suspended.pick.func ≡ true }
@@ -254,7 +256,7 @@ pub fn resume<H: Host, B: Bodies>(
         (level + 1) waited child mid (moment begun host bodies.old) false → IfOk result (λ outcome. ComesIn
         (setting_of allows_call allows_resume B.allows_start B.allows_next H.allows_missing info engine.now modules environs state.now) level call outcome before (moment begun host bodies.new)) }
 {
-    let step = answered_step::<H, B>(alloc, engine, state, &suspended, &child, bodies)?;
+    let step = answered_step::<H, B>(alloc, engine, state, &suspended, child.node(), bodies)?;
     settle_waiting(alloc, engine, suspended, child, step)
 }
 
@@ -274,7 +276,7 @@ fn answered_step<H: Host, B: Bodies>(
 {
     let done = done(alloc, child)?;
     let carry = suspended.carry.dup(alloc)?;
-    let ctx = context(alloc, state, &suspended.node, &suspended.pick)?;
+    let ctx = context(alloc, state, suspended.node.node(), &suspended.pick)?;
     go_on::<H, B>(
         alloc,
         engine,
@@ -284,24 +286,6 @@ fn answered_step<H: Host, B: Bodies>(
         done,
         bodies,
     )
-}
-
-/// The first step of a function on the arguments of its call.
-fn first_step<H: Host, B: Bodies>(
-    alloc: Global,
-    engine: &Engine,
-    state: &GlobalRuntimeState,
-    node: &CallNode,
-    pick: &Pick,
-    bodies: &mut B,
-) -> Result<NativeStep, OutOfMemory>
-    requires { func_held (length engine.now.natives.items.items) pick.now.func ≡ true }
-    ensures { (begun : ℕ) (host : H) → IfOk result (λ step. Starts (objects_of allows_call allows_resume B.allows_start B.allows_next H.allows_missing engine.now.natives)
-        (lists_of info engine.now).natives (context state.now (seen node.now).level (plan_of (seen node.now).call) pick.now) pick.now.func
-        (received_by (lists_of info engine.now) (plan_of (seen node.now).call) pick.now) (moment begun host bodies.old) step (moment begun host bodies.new)) }
-{
-    let received = receive(alloc, engine.natives(), &pick.func, &node.call)?;
-    start::<H, B>(alloc, engine, state, node, pick, received, bodies)
 }
 
 /// The first step of a function on what it received.

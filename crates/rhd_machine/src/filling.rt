@@ -5,12 +5,12 @@ ghost use Rattle.rhd_func.specs.declared.request.CallRequest.{CallRequest};
 ghost use Rattle.rhd_func.specs.Shapes.{given};
 ghost use Rattle.rhd_call.specs.End.{answered, failed, refusing, with_printed};
 ghost use Rattle.rhd_call.specs.Seen.{seen, unbegun_node, done_of};
-ghost use Rattle.rhd_machine.specs.Filling.{begun_call, unbegun_as, with_end, picking, joined};
+ghost use Rattle.rhd_machine.specs.Filling.{begun_call, unbegun_as, with_end, picking};
 
 use crate::plan::position_of;
 use crate::received::given;
 use rhd_call::{CallNode, Carries, Nodes, Pick, Whose};
-use rhd_func::{CallDone, CallRequest, Carry};
+use rhd_func::{CallDone, CallRequest};
 use rhd_value::{Dynamic, EvalAltResult, OutOfMemory, Text};
 use std::alloc::Global;
 
@@ -109,14 +109,6 @@ pub fn fail(alloc: Global, node: &mut CallNode, fault: EvalAltResult) -> Result<
     let first = given(alloc, &node.call)?;
     answer_with(node, Whose::Call, first, Err(fault));
     Ok(())
-}
-
-/// Puts a carry, and the call that was asked for with it, last.
-pub fn join(node: &mut CallNode, carry: Carry, child: CallNode) -> Result<(), OutOfMemory>
-    ensures { OnOk result (seen node.new ≡ joined (seen node.old) carry child) }
-{
-    node.carries.push(carry)?;
-    node.children.push(child)
 }
 
 /// What the function that asked for the call is told.

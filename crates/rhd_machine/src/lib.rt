@@ -2,6 +2,7 @@
 //! state that are lent to it.
 #![tactic(auto)]
 
+mod boxed;
 mod calls;
 mod ends;
 mod filling;

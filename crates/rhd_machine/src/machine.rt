@@ -7,8 +7,9 @@ ghost use Rattle.rhd_machine.specs.Entered.{with_environ, in_environ, entered_by
 ghost use Rattle.rhd_machine.specs.Filling.{joined, closed};
 ghost use Rattle.rhd_machine.specs.Waits.{InProgress, under_way, outcome_of, outer_of, given_back, IsAbove, Settled, IsPut, Put, weight};
 
+use crate::boxed::BoxedNode;
 use crate::ends::{finish, hand_on};
-use crate::filling::{join, picks};
+use crate::filling::picks;
 use rhd_call::{CallNode, Pick};
 use rhd_engine::{Engine, GlobalRuntimeState};
 use rhd_func::{CallRequest, Carry, EnvId, NativeStep, RhaiFunc, SharedText, share};
@@ -19,7 +20,7 @@ use std::alloc::Global;
 /// A call that waits for the answer to a request.
 #[derive(Drop)]
 pub struct Suspended {
-    pub node: CallNode,
+    pub node: BoxedNode,
     /// The function that was picked. Its node has it once it ends.
     pub pick: Pick,
     pub carry: Carry,
@@ -54,7 +55,7 @@ pub struct StackFrame {
 #[derive(Drop)]
 pub enum Outcome {
     Waiting(Suspended, CallRequest),
-    Finished(CallNode),
+    Finished(BoxedNode),
 }
 
 /// What the machine has in hand.
@@ -63,7 +64,24 @@ pub enum Hand {
     /// A call to begin.
     Asked(CallRequest),
     /// A node, for the call at the top of the stack.
-    Answered(CallNode),
+    Answered(BoxedNode),
+}
+
+/// What is kept of a function that asks for a call.
+fn ask_for(
+    alloc: Global,
+    pick: Pick,
+    request: CallRequest,
+    carry: Carry,
+) -> Result<Box<Asking>, OutOfMemory>
+    ensures { IfOk result (λ asking. asking.value ≡ record { pick = pick; request = request; carry = carry }) }
+{
+    let asking = Asking {
+        pick,
+        request,
+        carry,
+    };
+    Ok(Box::new(alloc, asking)?)
 }
 
 /// Takes the step of a call's function.
@@ -87,19 +105,12 @@ pub fn settle(
             picks(node, pick);
             Ok(None)
         }
-        NativeStep::Ask { request, carry } => {
-            let asking = Asking {
-                pick,
-                request,
-                carry,
-            };
-            Ok(Some(Box::new(alloc, asking)?))
-        }
+        NativeStep::Ask { request, carry } => Ok(Some(ask_for(alloc, pick, request, carry)?)),
     }
 }
 
 /// What a step made of a call: it waits where its function asks for another, else it is finished.
-pub fn outcome_of(node: CallNode, asking: Option<Box<Asking>>) -> Outcome
+pub fn outcome_of(node: BoxedNode, asking: Option<Box<Asking>>) -> Outcome
     ensures { result ≡ outcome_of node asking }
 {
     match asking {
@@ -120,7 +131,7 @@ pub fn settle_waiting(
     alloc: Global,
     engine: &Engine,
     suspended: Suspended,
-    child: CallNode,
+    child: BoxedNode,
     step: NativeStep,
 ) -> Result<Outcome, OutOfMemory>
     ensures { (k : InProgress) → joined (seen suspended.node) suspended.carry child ≡ under_way k → suspended.pick ≡ k.pick → IfOk result (λ outcome. Settled (lists_of info engine.now) k step outcome) }
@@ -130,8 +141,8 @@ pub fn settle_waiting(
         pick,
         carry,
     } = suspended;
-    join(&mut node, carry, child)?;
-    let asking = settle(alloc, engine, &mut node, pick, step)?;
+    node.join(carry, child)?;
+    let asking = node.settle(alloc, engine, pick, step)?;
     Ok(outcome_of(node, asking))
 }
 
@@ -244,7 +255,7 @@ fn wait(
     ensures ok { OnOk result (IsPut envs.now.items stack.old.items state.old suspended stack.new.items state.new) }
     ensures above { IsAbove state.old state.new }
 {
-    let outer = enter(alloc, envs, state, suspended.node.level, &suspended.pick)?;
+    let outer = enter(alloc, envs, state, suspended.node.level(), &suspended.pick)?;
     stack.push(StackFrame { suspended, outer })?;
     Ok(())
 }
@@ -278,7 +289,7 @@ pub fn waiting(frame: StackFrame) -> Suspended
 }
 
 /// Closes a call that waits, where the budget was spent within the child that it waits for.
-pub fn cut(suspended: Suspended, child: CallNode) -> Result<CallNode, OutOfMemory>
+pub fn cut(suspended: Suspended, child: BoxedNode) -> Result<BoxedNode, OutOfMemory>
     ensures { IfOk result (λ node. seen node ≡ closed (seen suspended.node) suspended.pick suspended.carry child) }
 {
     let Suspended {
@@ -286,7 +297,7 @@ pub fn cut(suspended: Suspended, child: CallNode) -> Result<CallNode, OutOfMemor
         pick,
         carry,
     } = suspended;
-    join(&mut node, carry, child)?;
-    picks(&mut node, pick);
+    node.join(carry, child)?;
+    node.picks(pick);
     Ok(node)
 }

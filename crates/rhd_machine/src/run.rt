@@ -14,8 +14,9 @@ ghost use Rattle.rhd_machine.specs.Setting.{setting_of, RunsIn};
 ghost use Rattle.rhd_machine.specs.CallReplied.{CallRepliedIn};
 ghost use Rattle.rhd_machine.specs.Waits.{outcome_of, ComesIn, GoingIn, CuttingIn, IsAbove, weight};
 
+use crate::boxed::BoxedNode;
 use crate::calls::{begin, resume};
-use crate::filling::{begun as begun_node, spend, unbegun};
+use crate::filling::spend;
 use crate::machine::{
     Asking, Hand, Outcome, StackFrame, cut, give_back, outcome_of, outer_of, put, waiting,
 };
@@ -98,9 +99,10 @@ fn fill_on<H: Host, B: Bodies>(
     let Some(node) = take_node(reply) else {
         return Ok(());
     };
-    let outcome = outcome_of(node, Some(asking));
+    let boxed = BoxedNode::new(alloc, node)?;
+    let outcome = outcome_of(boxed, Some(asking));
     let node = run_on::<H, B>(alloc, engine, envs, state, outcome, begun, host, bodies)?;
-    show_node(reply, node);
+    show_node(reply, node.into_node());
     Ok(())
 }
 
@@ -135,7 +137,7 @@ fn run_on<H: Host, B: Bodies>(
     begun: &mut u64,
     host: &mut H,
     bodies: &mut B,
-) -> Result<CallNode, OutOfMemory>
+) -> Result<BoxedNode, OutOfMemory>
     requires held { frame_held (length engine.now.natives.items.items) state.old ≡ true }
     requires environs { environs_held (length engine.now.natives.items.items) envs.now.items ≡ true }
     requires within { begun.old ≤ engine.now.limits.budget }
@@ -166,7 +168,7 @@ fn run_stack<H: Host, B: Bodies>(
     begun: &mut u64,
     host: &mut H,
     bodies: &mut B,
-) -> Result<CallNode, OutOfMemory>
+) -> Result<BoxedNode, OutOfMemory>
     requires held { frame_held (length engine.now.natives.items.items) state.old ≡ true }
     requires environs { environs_held (length engine.now.natives.items.items) envs.now.items ≡ true }
     requires within { begun.old ≤ engine.now.limits.budget }
@@ -187,7 +189,7 @@ fn run_stack<H: Host, B: Bodies>(
             Hand::Asked(request) => {
                 if *begun >= engine.limits().budget {
                     let level = stack.len() as u32 + 1;
-                    let node = unbegun(alloc, request, level)?;
+                    let node = BoxedNode::unbegun(alloc, request, level)?;
                     return cut_all::<H, B>(engine, envs, stack, node);
                 }
                 *begun += 1;
@@ -227,8 +229,8 @@ fn ask<H: Host, B: Bodies>(
     ensures above { IsAbove state.old state.new }
 {
     let level = stack.len() as u32 + 1;
-    let mut node = begun_node(alloc, request, level);
-    let asking = begin(alloc, engine, state, &mut node, host, bodies)?;
+    let mut node = BoxedNode::begun(alloc, request, level)?;
+    let asking = node.begin(alloc, engine, state, host, bodies)?;
     put(alloc, envs, stack, state, outcome_of(node, asking))
 }
 
@@ -240,7 +242,7 @@ fn answer<H: Host, B: Bodies>(
     state: &mut GlobalRuntimeState,
     stack: &mut Vec<StackFrame>,
     frame: StackFrame,
-    node: CallNode,
+    node: BoxedNode,
     bodies: &mut B,
 ) -> Result<Hand, OutOfMemory>
     requires { func_held (length engine.now.natives.items.items) frame.suspended.pick.func ≡ true }
@@ -264,8 +266,8 @@ fn cut_all<H: Host, B: Bodies>(
     _engine: &Engine,
     _envs: &Environs,
     mut stack: Vec<StackFrame>,
-    mut node: CallNode,
-) -> Result<CallNode, OutOfMemory>
+    mut node: BoxedNode,
+) -> Result<BoxedNode, OutOfMemory>
     ensures { (modules : List ModuleTree) (base : Frame) (call : CallRequest) (before after : Moment H B)
         → CuttingIn (setting_of allows_call allows_resume B.allows_start B.allows_next H.allows_missing info _engine.now modules _envs.now.items base) stack.items call before node after
         → IfOk result (λ root. RunsIn (setting_of allows_call allows_resume B.allows_start B.allows_next H.allows_missing info _engine.now modules _envs.now.items base) 1 call root before after true) }
