@@ -1,6 +1,6 @@
 //! A session: commands in, replies out.
 
-ghost use Rattle.std.specs.Prelude.{◌≡◌, ◌≤◌, ◌<◌, ◌+◌, ◌^◌, ◌++◌, ◌∷◌, [], true, IfOk, OnOk, OnErr, length};
+ghost use Rattle.std.specs.Prelude.{◌≡◌, ◌≤◌, ◌<◌, ◌+◌, ◌^◌, ◌++◌, ◌∷◌, [], true, IfOk, OnOk, OnErr, length, vec_len, vec_capacity};
 ghost use Rattle.rhd_func.specs.Infos.{infos_of};
 ghost use Rattle.rhd_manifest.specs.Fits.{fits};
 ghost use Rattle.rhd_call.specs.declared.reply.Reply.{Reply};
@@ -73,6 +73,29 @@ impl<F: Files, L: Loader> Session<F, L> {
         self.core.end_import(answer)
     }
 
+    /// Puts the module that a path names under a name last among the imports, as `import_path` does.
+    /// Its reply goes last, where there is room for it.
+    fn push_imported(
+        &mut self,
+        alloc: Global,
+        name: Text,
+        path: &Text,
+        replies: &mut Vec<Reply>,
+    ) -> Result<(), OutOfMemory>
+        requires { vec_len replies.old < vec_capacity replies.old }
+        ensures imports { OnOk result ((reply : Reply) × (replies.new.items ≡ replies.old.items ++ reply ∷ [])
+            × ImportsPath (L.allows_load (loader_of self.old)) (state_of info F.texts F.faults self.old) name path.now reply (state_of info F.texts F.faults self.new)) }
+        ensures failed { OnErr result ((replies.new.items ≡ replies.old.items) × Stays (state_of info F.texts F.faults self.old) (state_of info F.texts F.faults self.new)) }
+        ensures natives { natives_of self.new.core ≡ natives_of self.old.core }
+        ensures loader { loader_of self.new ≡ loader_of self.old }
+        ensures modules { modules_of self.new.core ≡ modules_of self.old.core }
+        ensures begun { calls_begun_of self.new.core ≡ calls_begun_of self.old.core }
+    {
+        let reply = self.import_path(alloc, name, path)?;
+        replies.push_reserved(reply);
+        Ok(())
+    }
+
     /// Answers one command. Its reply goes last.
     fn perform<H: Host, B: Bodies>(
         &mut self,
@@ -96,7 +119,7 @@ impl<F: Files, L: Loader> Session<F, L> {
         match command {
             Command::Call(request) => self.core.call(alloc, request, replies, host, bodies),
             Command::ImportPath { name, path } => {
-                replies.push_reserved(self.import_path(alloc, name, &path)?);
+                self.push_imported(alloc, name, &path, replies)?;
                 Ok(())
             }
             declared => {

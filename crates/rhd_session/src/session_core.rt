@@ -102,7 +102,29 @@ impl SessionCore {
         if is_told(&command) {
             return push_reply(self.register(alloc, command), replies);
         }
-        let reply = self.answer_itself(alloc, &command)?;
+        self.push_answer(alloc, &command, replies)
+    }
+
+    /// Answers a command that has an answer of its own. Its reply goes last, where there is room for it.
+    fn push_answer(
+        &mut self,
+        alloc: Global,
+        command: &Command,
+        replies: &mut Vec<Reply>,
+    ) -> Result<(), OutOfMemory>
+        requires declares { declares command.now ≡ true }
+        requires told { is_told command.now ≡ false }
+        requires plain { target command.now ≡ None }
+        requires count { length (modules_of self.old) < 2 ^ 32 }
+        requires room { vec_len replies.old < vec_capacity replies.old }
+        ensures applied { OnOk result ((reply : Reply) × (replies.new.items ≡ replies.old.items ++ reply ∷ [])
+            × Declares (world_of info self.old) (frame_of self.old) command.now reply (world_of info self.new) (frame_of self.new)) }
+        ensures failed { OnErr result ((replies.new.items ≡ replies.old.items) × (world_of info self.new ≡ world_of info self.old) × (frame_of self.new ≡ frame_of self.old)) }
+        ensures natives { natives_of self.new ≡ natives_of self.old }
+        ensures begun { calls_begun_of self.new ≡ calls_begun_of self.old }
+        ensures count { length (modules_of self.new) ≤ length (modules_of self.old) + 1 }
+    {
+        let reply = self.answer_itself(alloc, command)?;
         replies.push_reserved(reply);
         Ok(())
     }

@@ -23,9 +23,10 @@ returns-in_ok-declare-in_default-clause-begins g c =
 pub returns-in_err-reserve-clause-begins : goal.returns-in_err-reserve-clause-begins
 returns-in_err-reserve-clause-begins g c = begins_none c.args.command c.args.self.now.core.begun
 
-pub returns-in_ok-import_path-in-ImportPath-clause-replied : goal.returns-in_ok-import_path-in-ImportPath-clause-replied
-returns-in_ok-import_path-in-ImportPath-clause-replied g c = (
-  c.in_ok-import_path-in-ImportPath.field-0,
-  search rules,
-  rw c.in-ImportPath.is (by_path c.in_ok-import_path-in-ImportPath.ensures.imports, ap (λ (n : ℕ). moment n c.args.host.now c.args.bodies.now) c.in_ok-import_path-in-ImportPath.ensures.begun),
-)
+pub returns-in_ok-push_imported-in-ImportPath-clause-replied : goal.returns-in_ok-push_imported-in-ImportPath-clause-replied
+returns-in_ok-push_imported-in-ImportPath-clause-replied g c =
+    let made = c.in_ok-push_imported-in-ImportPath.ensures.imports in (
+      made.0,
+      search rules,
+      rw c.in-ImportPath.is (by_path made.2, ap (λ (n : ℕ). moment n c.args.host.now c.args.bodies.now) c.in_ok-push_imported-in-ImportPath.ensures.begun),
+    )
