@@ -1,18 +1,24 @@
 //! The calls that lines ask for.
 
-ghost use Rattle.std.specs.Prelude.{◌≡◌};
+ghost use Rattle.std.specs.Prelude.{◌≡◌, ℕ, List};
+ghost use Rattle.std.specs.Option.{option_map};
 ghost use Rattle.rhd_func.specs.declared.request.CallShape.TheVariants as shapes;
+ghost use Rattle.rhd_layers.specs.Paths.{path_of};
 ghost use Rattle.rhd_text.specs.Rows.{first_apart, shape_of, request_of};
 ghost use Rattle.rhd_text.specs.ReadRows.{named_at, qualified_at, plan_at};
 ghost use Rattle.rhd_syntax.specs.Answers.{Gives};
+ghost use Rattle.rhd_syntax.specs.Reading.{wording_at};
 
 use crate::keyword::CallWord;
 use rhd_engine::path_of;
 use rhd_func::{CallRequest, CallShape};
 use rhd_names::lookup_symbol_from_syntax;
 use rhd_plan::CallPlan;
-use rhd_syntax::{Arguments, Stop, arguments_at, is_end, name_at, want_at, wording_at};
-use rhd_value::{Position, Text, TypeTag, Values};
+use rhd_syntax::{
+    Arguments, Stop, arguments_at, begins, is_end, name_at, plain_str_at, skip_blanks, text_here,
+    want_at, wording_at,
+};
+use rhd_value::{Position, Text, Texts, TypeTag, Values};
 use std::alloc::Global;
 
 /// How a call hands its arguments over.
@@ -102,6 +108,20 @@ fn named_at(
     }
 }
 
+/// The names of the next text, which is a path, quoted or not, and the bytes after it.
+#[tactic(auto, unfolding(rhd_syntax::specs::Reading::wording_at, rhd_syntax::specs::Reading::text_here))]
+fn path_at(alloc: Global, bytes: &[u8]) -> Result<(Texts, &[u8]), Stop>
+    ensures { Gives {Y = List (List ℕ) × List ℕ} (λ x. (x.0, x.1.now)) result (option_map (λ w. (path_of w.0, w.1)) (wording_at bytes.now)) }
+{
+    let here = skip_blanks(bytes);
+    if begins(here, b'"') {
+        let (path, rest) = text_here(alloc, here)?;
+        return Ok((path_of(alloc, path.as_str())?, rest));
+    }
+    let (path, rest) = plain_str_at(here)?;
+    Ok((path_of(alloc, path)?, rest))
+}
+
 /// What stands after the word of a call by a path and a name, to the end of the line. Values may
 /// be given ones where `given` says so.
 #[tactic(auto, unfolding(crate::specs::ReadRows::qualified_at))]
@@ -114,14 +134,13 @@ fn qualified_at(
 ) -> Result<CallPlan, Stop>
     ensures { Gives (λ x. x) result (qualified_at given handing pos bytes.now) }
 {
-    let (path, rest) = wording_at(alloc, bytes)?;
+    let (path, rest) = path_at(alloc, bytes)?;
     let (name, rest) = wording_at(alloc, rest)?;
     let (args, rest) = arguments_at(alloc, rest, given)?;
     if !is_end(rest) {
         return Err(Stop::Bad);
     }
     let Arguments { values, places } = args;
-    let path = path_of(alloc, path.as_str())?;
     match shape_of(handing, values) {
         Some(shape) => Ok(CallPlan {
             request: CallRequest::Qualified {
