@@ -1,11 +1,10 @@
 -- Each step of the kit's natives and of the bodies of a text gives a first argument back exactly where one was given.
 use Rattle.std.proofs.Common.{◌≡◌, ℕ, ℤ, Bool, true, false, List, refl, IfOk, subst, sym}
-use Rattle.std.specs.Prelude.{◌==◌, ◌&&◌, not, pos, ◌-ℤ◌, int_lt, Option, None, Some, Result, Ok, Err, if◌then◌else◌, length, codes}
+use Rattle.std.specs.Prelude.{◌==◌, ◌&&◌, pos, ◌-ℤ◌, int_lt, Option, None, Some, Result, Ok, Err, if◌then◌else◌, length}
 use Rattle.std.specs.Option.{option_map}
 use Rattle.rhd_value.specs.Tree.{Tree, unit}
 use Rattle.rhd_value.specs.Kinds.{plain}
 use Rattle.rhd_value.specs.declared.fault.EvalAltResult.{EvalAltResult}
-use Rattle.rhd_value.specs.declared.tag.TypeTag.{TypeTag}
 use Rattle.rhd_func.specs.GivenBack.{GivesBack}
 use Rattle.rhd_func.specs.declared.func.ScriptFuncDef.{ScriptFuncDef}
 use Rattle.rhd_func.specs.declared.request.Carry.{Carry}
@@ -16,7 +15,7 @@ use Rattle.rhd_plan.specs.declared.body.BodyEnd.{BodyEnd}
 use Rattle.rhd_plan.specs.declared.body.BodyEnd.TheVariants.{Ret, RetGiven, Fail}
 use Rattle.rhd_plan.specs.declared.body.BodyPlan.{BodyPlan}
 use Rattle.rhd_plan.specs.declared.body.CallPlan.{CallPlan}
-use Rattle.rhd_kit.specs.Kit.{kit_info, is_built, arguments, first_unfit, int_at, text_at, answers, bytes_in, sum_of, changed_to, elements, last_of, without_last, payload_in, asks_once, asks_with_left, asks_often, kit_does, kit_fits, kit_takes, kit_step, kit_next, passes_on, is_unit, is_name_with_left, goes_on}
+use Rattle.rhd_kit.specs.Kit.{int_at, text_at, answers, bytes_in, sum_of, changed_to, elements, last_of, without_last, payload_in, asks_once, asks_with_left, asks_often, kit_does, kit_next, passes_on, is_unit, is_name_with_left, goes_on}
 use Rattle.rhd_kit.specs.Values.{argument_at, values_in, own_fault, bad_carry}
 use Rattle.rhd_kit.specs.PlanBodies.{Scope, asks_or_ends, ends, next_after, body_step, body_next}
 
@@ -40,7 +39,7 @@ back_changed change answer (Some x) = refl
 often_back : (ctx : Option NativeCallContext) (name : Tree) (times : ℤ) (first : Option Tree) → GivesBack first (asks_often ctx name times first)
 often_back ctx name times first = back_if (int_lt times (pos 1)) (Done (plain unit) first) (asks_with_left ctx name (times -ℤ pos 1) first) first refl refl
 
-does_back : (number : ℕ) (ctx : Option NativeCallContext) (first : Option Tree) (args : List Tree) → GivesBack first (kit_does number ctx first args)
+pub does_back : (number : ℕ) (ctx : Option NativeCallContext) (first : Option Tree) (args : List Tree) → GivesBack first (kit_does number ctx first args)
 unfolding kit_does
 does_back number ctx first args =
     back_if (number == 6) (answers (bytes_in (text_at args 0)) first) _ first refl
@@ -53,21 +52,6 @@ does_back number ctx first args =
     (back_if (number == 13) (asks_often ctx (argument_at args 0) (int_at args 1) first) _ first (often_back ctx (argument_at args 0) (int_at args 1) first)
     (back_if (number == 15) (answers (payload_in (argument_at args 0).kind) first) _ first refl
     (back_if (number == 19) (Done (plain unit) (option_map (changed_to (sum_of args)) first)) (answers (pos number) first) first (back_changed (changed_to (sum_of args)) (plain unit) first) refl)))))))))
-
-fits_back : (number : ℕ) (ctx : Option NativeCallContext) (first : Option Tree) (args : List Tree) (unfit : Option (TypeTag × Tree)) → GivesBack first (kit_fits number ctx first args unfit)
-fits_back number ctx first args None = does_back number ctx first args
-fits_back number ctx first args (Some p) = refl
-
-takes_back : (number : ℕ) (ctx : Option NativeCallContext) (first : Option Tree) (args : List Tree) → GivesBack first (kit_takes number ctx first args)
-takes_back number ctx first args =
-    let fits = kit_fits number ctx first args (first_unfit (kit_info number).types args) in
-    let miscounted = own_fault (codes "wrong number of arguments") first in
-    let counted = not (length args == length (kit_info number).types) in
-    back_if (not (is_built number)) (own_fault (codes "not built") first) (if counted then miscounted else fits) first refl
-    (back_if counted miscounted fits first refl (fits_back number ctx first args (first_unfit (kit_info number).types args)))
-
-pub kit_step_back : (number : ℕ) (ctx : Option NativeCallContext) (first : Option Tree) (args : List Tree) → GivesBack first (kit_step number ctx first args)
-kit_step_back number ctx first args = takes_back number ctx first (arguments first args)
 
 passes_back : (answer : Result Tree EvalAltResult) (first : Option Tree) → GivesBack first (passes_on answer first)
 passes_back (Ok answer) first = refl

@@ -1,8 +1,7 @@
 //! The kit: the natives of the program.
 
-ghost use Rattle.std.specs.Prelude.{◌≡◌, ◌<◌, IfOk};
-ghost use Rattle.std.specs.Option.{option_copied};
-ghost use Rattle.rhd_kit.specs.Kit.{is_built, kit_step};
+ghost use Rattle.std.specs.Prelude.{◌≡◌, ◌<◌};
+ghost use Rattle.rhd_kit.specs.Kit.{is_built};
 
 mod given;
 mod steps;
@@ -37,31 +36,6 @@ impl KitFn {
     {
         self.number != 16
     }
-
-    /// The first step of the native, whatever it is given.
-    fn first_step(
-        &self,
-        alloc: Global,
-        ctx: Option<&NativeCallContext>,
-        given: Given,
-    ) -> Result<NativeStep, OutOfMemory>
-        ensures { IfOk result (λ step. step ≡ kit_step self.now.number (option_copied ctx.entry) given.first given.args) }
-    {
-        if !self.is_built() {
-            return own_fault(alloc, "not built", given.first);
-        }
-        let types = kit_row(self.number).types;
-        if !given.is_count(types.len()) {
-            return own_fault(alloc, "wrong number of arguments", given.first);
-        }
-        if let Some(fault) = given.unfit_fault(alloc, types)? {
-            return Ok(NativeStep::Failed {
-                fault,
-                first: given.first,
-            });
-        }
-        act(self.number, alloc, ctx, given)
-    }
 }
 
 impl PluginFunc for KitFn {
@@ -81,7 +55,21 @@ impl PluginFunc for KitFn {
         first: Option<Dynamic>,
         args: Values,
     ) -> Result<NativeStep, OutOfMemory> {
-        self.first_step(alloc, ctx, Given { first, args })
+        let given = Given { first, args };
+        if !self.is_built() {
+            return own_fault(alloc, "not built", given.first);
+        }
+        let types = kit_row(self.number).types;
+        if !given.is_count(types.len()) {
+            return own_fault(alloc, "wrong number of arguments", given.first);
+        }
+        if let Some(fault) = given.unfit_fault(alloc, types)? {
+            return Ok(NativeStep::Failed {
+                fault,
+                first: given.first,
+            });
+        }
+        act(self.number, alloc, ctx, given)
     }
 
     fn resume(
