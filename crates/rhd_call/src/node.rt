@@ -1,6 +1,7 @@
 //! The tree of a call.
 
-ghost use Rattle.std.specs.Prelude.{◌≡◌, ◌++◌, ◌∷◌, [], if◌then◌else◌, is_ok};
+ghost use Rattle.std.specs.Prelude.{◌≡◌, ◌++◌, ◌∷◌, [], None, if◌then◌else◌, is_ok, IfOk};
+ghost use Rattle.std.specs.Option.{option_copied};
 ghost use Rattle.rhd_call.specs.Nodes.{nodes_in};
 
 use crate::pick::Pick;
@@ -67,6 +68,51 @@ impl Carries {
     }
 }
 
+/// A part that few nodes have. It stands in a box of its own, so that nodes are small. Contracts see the part,
+/// if there is one.
+#[derive(Drop)]
+pub struct Rare<T> {
+    boxed: Option<Box<T>>,
+}
+
+impl<T> Model for Rare<T> {
+    ghost use Rattle.std.specs.Prelude.{Option};
+    ghost use Rattle.std.specs.Option.{option_map};
+
+    ghost Value = { Option T };
+
+    ghost view = { λ a. option_map (λ b. b.value) a.boxed };
+}
+
+impl<T: Drop> Rare<T> {
+    /// No part. It takes no memory.
+    pub fn none() -> Rare<T>
+        ensures { result ≡ None }
+    {
+        Rare { boxed: None }
+    }
+
+    pub fn new(alloc: Global, part: Option<T>) -> Result<Rare<T>, OutOfMemory>
+        ensures { IfOk result (λ rare. rare ≡ part) }
+    {
+        let boxed = match part {
+            Some(part) => Some(Box::new(alloc, part)?),
+            None => None,
+        };
+        Ok(Rare { boxed })
+    }
+
+    /// The part, if there is one.
+    pub fn as_ref(&self) -> Option<&T>
+        ensures { option_copied result ≡ self.now }
+    {
+        match &self.boxed {
+            Some(part) => Some(part),
+            None => None,
+        }
+    }
+}
+
 /// A call with its answer, and with the calls that its function asked for.
 #[cycle(node)]
 #[derive(Drop)]
@@ -76,19 +122,19 @@ pub struct CallNode {
     pub level: u32,
     /// False where the budget was spent before it.
     pub begun: bool,
+    pub whose: Whose,
     /// The function that was picked, if one was.
     pub pick: Option<Pick>,
     /// One for each child.
     pub carries: Carries,
     pub children: Nodes,
     pub answer: Result<Dynamic, EvalAltResult>,
-    pub whose: Whose,
     /// The first argument by reference, or the object, as it is after the call.
-    pub first_after: Option<Dynamic>,
+    pub first_after: Rare<Dynamic>,
     /// The text that was printed, if one was.
-    pub printed: Option<Text>,
+    pub printed: Rare<Text>,
     /// The value that the call refused, where it did.
-    pub refused: Option<Dynamic>,
+    pub refused: Rare<Dynamic>,
 }
 
 /// Nodes in the order in which they were asked for.

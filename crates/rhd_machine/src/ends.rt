@@ -132,10 +132,9 @@ fn accept(
 {
     let pos = position_of(&node.call);
     match not_wanted(alloc, engine, want_of(&node.call), pos, &value)? {
-        Some(fault) => refuse(node, first, value, fault),
-        None => answer_with(node, whose, first, Ok(value)),
+        Some(fault) => refuse(alloc, node, first, value, fault),
+        None => answer_with(alloc, node, whose, first, Ok(value)),
     }
-    Ok(())
 }
 
 /// Ends a call whose function answered a value of sizes that are allowed. The text that it prints
@@ -151,14 +150,12 @@ fn print_and_accept(
     ensures { OnOk result (seen node.new ≡ with_end (seen node.old) (ends.end_with_printer (lists_of info engine.now) printer (plan_of (seen node.old).call) first value)) }
 {
     if let Some(fault) = no_text(alloc, engine, printer, position_of(&node.call), &value)? {
-        refuse(node, first, value, fault);
-        return Ok(());
+        return refuse(alloc, node, first, value, fault);
     }
     let printed = printed_text(alloc, printer, &value)?;
     let value = answer_after_printing(printer, value);
     accept(alloc, engine, node, Whose::Called, first, value)?;
-    print(node, printed);
-    Ok(())
+    print(alloc, node, printed)
 }
 
 /// The first argument by reference, or the object, as it is in the end.
@@ -190,10 +187,7 @@ pub fn finish(
     let first = first_at_end(alloc, engine, &node.call, pick, back)?;
     let is_qualified = is_qualified(&node.call);
     match unfit(alloc, engine, pos, is_qualified, pick, &first, &value)? {
-        Some(fault) => {
-            refuse(node, first, value, fault);
-            Ok(())
-        }
+        Some(fault) => refuse(alloc, node, first, value, fault),
         None => {
             let printer = printer(engine.printers(), &node.call, pick);
             print_and_accept(alloc, engine, node, printer, first, value)
@@ -213,8 +207,7 @@ pub fn hand_on(
     ensures { OnOk result (seen node.new ≡ with_end (seen node.old) (ends.handed_on (lists_of info engine.now) (plan_of (seen node.old).call) pick.now back fault)) }
 {
     let first = first_at_end(alloc, engine, &node.call, pick, back)?;
-    answer_with(node, Whose::Called, first, Err(fault));
-    Ok(())
+    answer_with(alloc, node, Whose::Called, first, Err(fault))
 }
 
 /// The fault of a call whose function isn't found.
@@ -261,8 +254,7 @@ pub fn end_by_host(
         }
         HostAnswer::Fault(fault) => {
             let first = given(alloc, &node.call)?;
-            answer_with(node, Whose::Host, first, Err(fault));
-            Ok(())
+            answer_with(alloc, node, Whose::Host, first, Err(fault))
         }
     }
 }

@@ -9,7 +9,7 @@ ghost use Rattle.rhd_machine.specs.Filling.{begun_call, unbegun_as, with_end, pi
 
 use crate::plan::position_of;
 use crate::received::given;
-use rhd_call::{CallNode, Carries, Nodes, Pick, Whose};
+use rhd_call::{CallNode, Carries, Nodes, Pick, Rare, Whose};
 use rhd_func::{CallDone, CallRequest};
 use rhd_value::{Dynamic, EvalAltResult, OutOfMemory, Text};
 use std::alloc::Global;
@@ -24,14 +24,14 @@ pub fn begun(alloc: Global, call: CallRequest, level: u32) -> CallNode
         call,
         level,
         begun: true,
+        whose: Whose::Call,
         pick: None,
         carries: Carries::new(alloc),
         children: Nodes::new(alloc),
         answer: Err(fault),
-        whose: Whose::Call,
-        first_after: None,
-        printed: None,
-        refused: None,
+        first_after: Rare::none(),
+        printed: Rare::none(),
+        refused: Rare::none(),
     }
 }
 
@@ -49,12 +49,12 @@ pub fn spend(alloc: Global, node: &mut CallNode) -> Result<(), OutOfMemory>
     ensures { (call : CallRequest) (level : ℕ) → seen node.old ≡ begun_call call level → OnOk result (seen node.new ≡ unbegun_node call level) }
 {
     let first = given(alloc, &node.call)?;
-    unbegin(node, first);
+    unbegin(node, Rare::new(alloc, first)?);
     Ok(())
 }
 
 /// The same call, not begun. It shows its first argument by reference, or its object.
-fn unbegin(node: &mut CallNode, first: Option<Dynamic>)
+fn unbegin(node: &mut CallNode, first: Rare<Dynamic>)
     ensures { seen node.new ≡ unbegun_as (seen node.old) first }
 {
     node.begun = false;
@@ -63,36 +63,49 @@ fn unbegin(node: &mut CallNode, first: Option<Dynamic>)
 
 /// Ends a call with an answer or a fault, where no value is refused.
 pub fn answer_with(
+    alloc: Global,
     node: &mut CallNode,
     whose: Whose,
     first: Option<Dynamic>,
     answer: Result<Dynamic, EvalAltResult>,
-)
-    ensures { seen node.new ≡ with_end (seen node.old) (answered whose first answer) }
+) -> Result<(), OutOfMemory>
+    ensures { OnOk result (seen node.new ≡ with_end (seen node.old) (answered whose first answer)) }
 {
+    let first = Rare::new(alloc, first)?;
     node.answer = answer;
     node.whose = whose;
     node.first_after = first;
-    node.printed = None;
-    node.refused = None;
+    node.printed = Rare::none();
+    node.refused = Rare::none();
+    Ok(())
 }
 
 /// Ends a call with a fault of its own, which refuses a value.
-pub fn refuse(node: &mut CallNode, first: Option<Dynamic>, value: Dynamic, fault: EvalAltResult)
-    ensures { seen node.new ≡ with_end (seen node.old) (refusing first value fault) }
+pub fn refuse(
+    alloc: Global,
+    node: &mut CallNode,
+    first: Option<Dynamic>,
+    value: Dynamic,
+    fault: EvalAltResult,
+) -> Result<(), OutOfMemory>
+    ensures { OnOk result (seen node.new ≡ with_end (seen node.old) (refusing first value fault)) }
 {
+    let first = Rare::new(alloc, first)?;
+    let refused = Rare::new(alloc, Some(value))?;
     node.answer = Err(fault);
     node.whose = Whose::Call;
     node.first_after = first;
-    node.printed = None;
-    node.refused = Some(value);
+    node.printed = Rare::none();
+    node.refused = refused;
+    Ok(())
 }
 
 /// Shows the text that is printed, if one is.
-pub fn print(node: &mut CallNode, printed: Option<Text>)
-    ensures { seen node.new ≡ with_end (seen node.old) (with_printed printed (seen node.old).end) }
+pub fn print(alloc: Global, node: &mut CallNode, printed: Option<Text>) -> Result<(), OutOfMemory>
+    ensures { OnOk result (seen node.new ≡ with_end (seen node.old) (with_printed printed (seen node.old).end)) }
 {
-    node.printed = printed;
+    node.printed = Rare::new(alloc, printed)?;
+    Ok(())
 }
 
 /// Shows the function that was picked.
@@ -107,8 +120,7 @@ pub fn fail(alloc: Global, node: &mut CallNode, fault: EvalAltResult) -> Result<
     ensures { OnOk result (seen node.new ≡ with_end (seen node.old) (failed (given (seen node.old).call) fault)) }
 {
     let first = given(alloc, &node.call)?;
-    answer_with(node, Whose::Call, first, Err(fault));
-    Ok(())
+    answer_with(alloc, node, Whose::Call, first, Err(fault))
 }
 
 /// What the function that asked for the call is told.
@@ -119,7 +131,7 @@ pub fn done(alloc: Global, node: &CallNode) -> Result<CallDone, OutOfMemory>
         Ok(value) => Ok(value.dup(alloc)?),
         Err(fault) => Err(fault.dup(alloc)?),
     };
-    let first = match &node.first_after {
+    let first = match node.first_after.as_ref() {
         Some(value) => Some(value.dup(alloc)?),
         None => None,
     };

@@ -30,9 +30,9 @@ nodes_parts : (nodes : Nodes) → calls_in nodes ≡ flat_map calls_of (nodes_in
 nodes_parts (Nodes' shape row) = row_parts _ row ∙ ap (flat_map calls_of) (sym (nodes_in_row shape row))
 
 pub parts_in_order : (node : CallNode) → calls_of node ≡ node ∷ flat_map calls_of (seen node).children
-parts_in_order (CallNode' call level begun pick carries children answer whose after shown refused) =
-    let ns : (out-CallNode (CallNode' call level begun pick carries children answer whose after shown refused)).children ≡ children = search (rules, the_lemmas) in
-    ap (λ cs. CallNode' call level begun pick carries children answer whose after shown refused ∷ cs) (nodes_parts children ∙ ap (λ (x : Nodes). flat_map calls_of (nodes_in x)) (sym ns))
+parts_in_order (CallNode' call level begun whose pick carries children answer after shown refused) =
+    let ns : (out-CallNode (CallNode' call level begun whose pick carries children answer after shown refused)).children ≡ children = search (rules, the_lemmas) in
+    ap (λ cs. CallNode' call level begun whose pick carries children answer after shown refused ∷ cs) (nodes_parts children ∙ ap (λ (x : Nodes). flat_map calls_of (nodes_in x)) (sym ns))
 
 -- The lines.
 
@@ -43,15 +43,15 @@ same_line level own call call' pick pick' whose whose' answer answer' after afte
 
 mutual
   pub tree_lines : (node : CallNode) → tree_text node ≡ flat_map own_line (calls_of node)
-  tree_lines (CallNode' call level begun pick carries children answer whose after shown refused) =
-      let node : CallNode = CallNode' call level begun pick carries children answer whose after shown refused in
-      let a : level ≡ (out-CallNode (CallNode' call level begun pick carries children answer whose after shown refused)).level = search (rules, the_lemmas) in
-      let b : call ≡ (out-CallNode (CallNode' call level begun pick carries children answer whose after shown refused)).call = search (rules, the_lemmas) in
-      let c : pick ≡ (out-CallNode (CallNode' call level begun pick carries children answer whose after shown refused)).pick = search (rules, the_lemmas) in
-      let d : whose ≡ (out-CallNode (CallNode' call level begun pick carries children answer whose after shown refused)).whose = search (rules, the_lemmas) in
-      let e : answer ≡ (out-CallNode (CallNode' call level begun pick carries children answer whose after shown refused)).answer = search (rules, the_lemmas) in
-      let f : after ≡ (out-CallNode (CallNode' call level begun pick carries children answer whose after shown refused)).first_after = search (rules, the_lemmas) in
-      let g : shown ≡ (out-CallNode (CallNode' call level begun pick carries children answer whose after shown refused)).printed = search (rules, the_lemmas) in
+  tree_lines (CallNode' call level begun whose pick carries children answer after shown refused) =
+      let node : CallNode = CallNode' call level begun whose pick carries children answer after shown refused in
+      let a : level ≡ (out-CallNode (CallNode' call level begun whose pick carries children answer after shown refused)).level = search (rules, the_lemmas) in
+      let b : call ≡ (out-CallNode (CallNode' call level begun whose pick carries children answer after shown refused)).call = search (rules, the_lemmas) in
+      let c : pick ≡ (out-CallNode (CallNode' call level begun whose pick carries children answer after shown refused)).pick = search (rules, the_lemmas) in
+      let d : whose ≡ (out-CallNode (CallNode' call level begun whose pick carries children answer after shown refused)).whose = search (rules, the_lemmas) in
+      let e : answer ≡ (out-CallNode (CallNode' call level begun whose pick carries children answer after shown refused)).answer = search (rules, the_lemmas) in
+      let f : after ≡ (out-CallNode (CallNode' call level begun whose pick carries children answer after shown refused)).first_after = search (rules, the_lemmas) in
+      let g : shown ≡ (out-CallNode (CallNode' call level begun whose pick carries children answer after shown refused)).printed = search (rules, the_lemmas) in
       ap (λ rest. indent level ++ call_line call pick whose answer after shown ++ 10 ∷ [] ++ rest) (nodes_lines_of children)
       ∙ ap (λ line. line ++ flat_map own_line (calls_in children)) (same_line level (seen node).level call (seen node).call pick (seen node).pick whose (seen node).end.whose answer (seen node).end.answer after (seen node).end.first_after shown (seen node).end.printed a b c d e f g)
 
@@ -103,9 +103,9 @@ is_in_tree node root (below_one child c inner) = is_below c inner
 
 mutual
   pub has_tree : (root node : CallNode) → Contains (calls_of root) node → InTree node root
-  has_tree (CallNode' call level begun pick carries children answer whose after shown refused) node c =
-      let root : CallNode = CallNode' call level begun pick carries children answer whose after shown refused in
-      let ns : children ≡ (out-CallNode (CallNode' call level begun pick carries children answer whose after shown refused)).children = search (rules, the_lemmas) in
+  has_tree (CallNode' call level begun whose pick carries children answer after shown refused) node c =
+      let root : CallNode = CallNode' call level begun whose pick carries children answer after shown refused in
+      let ns : children ≡ (out-CallNode (CallNode' call level begun whose pick carries children answer after shown refused)).children = search (rules, the_lemmas) in
       let by : (root ≡ node) ⊎ Contains (calls_in children) node → InTree node root = elim [
         | inl e ↦ subst (λ r. InTree node r) (sym e) is_root
         | inr d ↦ is_in_tree node root (subst (λ (x : Nodes). Below node (nodes_in x)) ns (has_below children node d))

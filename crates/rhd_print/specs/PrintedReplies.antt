@@ -116,7 +116,7 @@ indent level = replicate (2 * (level - 1)) 32
 abbrev mutual
   -- a call on a line, and the calls that it led to on the lines after it
   pub tree_text : CallNode → List ℕ
-  tree_text (CallNode' call level begun pick carries children answer whose after shown refused) =
+  tree_text (CallNode' call level begun whose pick carries children answer after shown refused) =
       indent level ++ call_line call pick whose answer after shown ++ 10 ∷ [] ++ nodes_text children
 
   pub nodes_text : Nodes → List ℕ

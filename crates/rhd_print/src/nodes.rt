@@ -10,7 +10,7 @@ ghost use Rattle.rhd_call.specs.declared.node.CallNode.{out-CallNode};
 use crate::keys::push_path_names;
 use crate::quotes::{push_number, push_quoted};
 use crate::values::push_value;
-use rhd_call::{CallNode, Layer, Nodes, Pick, Whose};
+use rhd_call::{CallNode, Layer, Nodes, Pick, Rare, Whose};
 use rhd_func::{CallRequest, RhaiFunc};
 use rhd_value::{Dynamic, EvalAltResult, OutOfMemory, ParseErrorType, Text};
 use std::alloc::Global;
@@ -206,10 +206,10 @@ fn push_result(
 }
 
 #[tactic(auto, unfolding(crate::specs::PrintedReplies::after_text))]
-fn push_after(alloc: Global, after: &Option<Dynamic>, out: &mut Vec<u8>) -> Result<(), OutOfMemory>
+fn push_after(alloc: Global, after: &Rare<Dynamic>, out: &mut Vec<u8>) -> Result<(), OutOfMemory>
     ensures { OnOk result (out.new.items ≡ out.old.items ++ after_text after.now) }
 {
-    match after {
+    match after.as_ref() {
         None => Ok(()),
         Some(value) => {
             out.extend_from_slice(b" & ")?;
@@ -219,10 +219,10 @@ fn push_after(alloc: Global, after: &Option<Dynamic>, out: &mut Vec<u8>) -> Resu
 }
 
 #[tactic(auto, unfolding(crate::specs::PrintedReplies::shown_text))]
-fn push_shown(shown: &Option<Text>, out: &mut Vec<u8>) -> Result<(), OutOfMemory>
+fn push_shown(shown: &Rare<Text>, out: &mut Vec<u8>) -> Result<(), OutOfMemory>
     ensures { OnOk result (out.new.items ≡ out.old.items ++ shown_text shown.now) }
 {
-    match shown {
+    match shown.as_ref() {
         None => Ok(()),
         Some(text) => {
             out.extend_from_slice(b" > ")?;

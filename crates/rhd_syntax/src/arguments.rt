@@ -34,12 +34,12 @@ pub struct Arguments {
 }
 
 impl Arguments {
-    /// None yet, with room for one: most calls have no more.
-    fn new(alloc: Global) -> Result<Arguments, OutOfMemory>
+    /// None yet, with room for so many.
+    fn new(alloc: Global, many: usize) -> Result<Arguments, OutOfMemory>
         ensures { IfOk result (λ arguments. arguments ≡ no_arguments) }
     {
         Ok(Arguments {
-            values: Values::with_capacity(alloc, 1)?,
+            values: Values::with_capacity(alloc, many)?,
             places: Places::new(alloc),
         })
     }
@@ -99,12 +99,18 @@ pub fn argument_at(alloc: Global, bytes: &[u8], given: bool) -> Result<(Argument
     Ok((Argument::Value(value), rest))
 }
 
+/// For how many arguments there should be room at first: for as many as there are blanks before words, but
+/// not for more than four, since there are blanks within values too.
+fn room_for(bytes: &[u8]) -> usize {
+    bytes.iter().filter(|b| **b == b' ').take(4).count()
+}
+
 /// Arguments up to the end of the line.
 #[tactic(auto, unfolding(crate::specs::Reading::many, crate::specs::Reading::arguments_at))]
 pub fn arguments_at(alloc: Global, bytes: &[u8], given: bool) -> Result<(Arguments, &[u8]), Stop>
     ensures { Gives (λ x. (x.0, x.1.now)) result (arguments_at given bytes.now) }
 {
-    let mut arguments = Arguments::new(alloc)?;
+    let mut arguments = Arguments::new(alloc, room_for(bytes))?;
     let mut rest = bytes;
     let mut most = bytes.len();
     while most > 0 {

@@ -1,3 +1,4 @@
+pub mod PieceLaws
 pub mod Sessions
 pub mod Statuses
 pub mod WordLaws

@@ -5,6 +5,7 @@
 #[cfg(test)]
 mod tests;
 mod tool;
+mod writing;
 
 pub use rhd_kit::{
     KIT_LEN, KitFn, PlanBodies, TableHost, a_body_asks_its_calls_in_order,

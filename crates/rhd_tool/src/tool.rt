@@ -14,7 +14,8 @@ ghost use Rattle.rhd_streams.specs.Streams.{CameMore, WrotePart, WroteLess};
 ghost use Rattle.rhd_tool.specs.Handed.{handed_of};
 ghost use Rattle.rhd_tool.specs.Ends.{AskForRun, most_bytes, limits_of, IsAnswered, AskedAfterAll, Ran, RanPart, WasBad, WasDone, WasCut, WasStarved};
 
-use rhd_call::{Replies, Reply, Stopped};
+use crate::writing::write_replies;
+use rhd_call::{Replies, Stopped};
 use rhd_engine::Limits;
 use rhd_files::MemFiles;
 use rhd_func::Natives;
@@ -22,9 +23,8 @@ use rhd_hash::Seeds;
 use rhd_kit::{PlanBodies, TableHost};
 use rhd_loader::PlanLoader;
 use rhd_session::Session;
-use rhd_streams::{ReadEnd, Sink, SinkFault, Source, read_whole, write_whole};
-use rhd_text::{SessionText, TextFault, print_replies, read_text};
-use rhd_value::OutOfMemory;
+use rhd_streams::{ReadEnd, Sink, SinkFault, Source, read_whole};
+use rhd_text::{SessionText, TextFault, read_text};
 use std::alloc::Global;
 
 /// The most bytes that a text may have.
@@ -65,16 +65,8 @@ fn end(alloc: Global, status: u8, line: u32) -> ToolEnd
     }
 }
 
-fn print_all(alloc: Global, replies: &[Reply]) -> Result<Vec<u8>, OutOfMemory>
-    ensures { IfOk result (λ out. out.items ≡ all_printed replies.now) }
-{
-    let mut out = Vec::new(alloc);
-    print_replies(alloc, replies, &mut out)?;
-    Ok(out)
-}
-
 /// Writes the replies to all commands, which this session answered.
-fn write_replies<K: Sink>(
+fn end_written<K: Sink>(
     alloc: Global,
     replies: Replies,
     session: Option<TextSession>,
@@ -89,15 +81,7 @@ fn write_replies<K: Sink>(
     ensures fault { result.status ≡ 4 → Rose (K.faults sink.old) (K.faults sink.new) }
     ensures later { K.faults sink.old ≤ K.faults sink.new }
 {
-    let Ok(out) = print_all(alloc, replies.as_slice()) else {
-        return ToolEnd {
-            status: 5,
-            line: 0,
-            replies,
-            session,
-        };
-    };
-    let status = match write_whole(sink, &out) {
+    let status = match write_replies(alloc, replies.as_slice(), sink) {
         Ok(()) => 0,
         Err(SinkFault::Failed) => 4,
         Err(SinkFault::OutOfMemory) => 5,
@@ -177,7 +161,7 @@ fn answer_and_write<K: Sink>(
 {
     let (answered, session) = answer(alloc, natives, text);
     match answered {
-        Ok(replies) => write_replies(alloc, replies, session, sink),
+        Ok(replies) => end_written(alloc, replies, session, sink),
         Err(stopped) => ToolEnd {
             status: 5,
             line: 0,

@@ -37,6 +37,15 @@ impl Texts {
         }
     }
 
+    /// An empty list with room for so many texts.
+    pub fn with_capacity(alloc: Global, many: usize) -> Result<Texts, OutOfMemory>
+        ensures { IfOk result (λ texts. texts ≡ []) }
+    {
+        Ok(Texts {
+            items: Vec::with_capacity(alloc, many)?,
+        })
+    }
+
     /// Takes the last text off; none where there is nothing.
     pub fn pop(&mut self) -> Option<Text>
         ensures last { result ≡ slice_get self.old (length self.old - 1) }
