@@ -21,4 +21,6 @@ unfolding lists_of
 returns-in-Some g c =
     let f = c.in_ok-first.ensures in
     let some = sym (c.in_ok-fault.ensures (plan_of (seen c.args.node.now).call) c.args.back (sym c.position_of-pos.ensures) c.is_qualified-is_qualified.ensures (sym f)) ∙ c.in-Some.is in
-    c.refuse.ensures ∙ ap (with_end (seen c.args.node.now)) (unfit_ends (lists_of (λ z. (goal.PluginFunc-dyn g z).info z.1) c.args.engine.now) (plan_of (seen c.args.node.now).call) c.args.pick.now c.args.back c.in_ok-first.first c.args.value c.in-Some.fault f some)
+    on_ok_weaker c.refuse.result
+    (λ h. h ∙ ap (with_end (seen c.args.node.now)) (unfit_ends (lists_of (λ z. (goal.PluginFunc-dyn g z).info z.1) c.args.engine.now) (plan_of (seen c.args.node.now).call) c.args.pick.now c.args.back c.in_ok-first.first c.args.value c.in-Some.fault f some))
+    c.refuse.ensures
