@@ -136,6 +136,7 @@ fn look_up<'a>(
 }
 
 /// What answers a question: a declaration, or else, for a native, the built-in operator.
+#[inline(always)]
 pub(crate) fn find_answer(
     alloc: Global,
     engine: &Engine,

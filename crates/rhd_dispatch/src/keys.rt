@@ -20,6 +20,7 @@ fn push_kinds(kinds: &mut Types, values: &Values) -> Result<(), OutOfMemory>
 }
 
 /// The kinds of all arguments, in order.
+#[inline(always)]
 pub(crate) fn kinds_of(alloc: Global, shape: &CallShape) -> Result<Types, OutOfMemory>
     ensures { IfOk result (λ kinds. kinds ≡ map tag_of (all_args shape.now)) }
 {

@@ -60,6 +60,7 @@ fn any_may_show(modules: &[SharedModule], hash: UntypedHash, place: usize, key: 
 }
 
 /// The same, where one of them may have a native that has a type `Dynamic`, by their filter.
+#[inline(always)]
 fn any_may_match(modules: &ModuleList, hash: UntypedHash, place: usize, key: &Key) -> bool
     requires hash { IsUntyped hash key.now }
     requires count { length (key_types key.now) ≡ key_params key.now }
@@ -80,10 +81,12 @@ impl<'a> Look for AllModules<'a> {
 
     ghost modules = { λ s. length s.state.now.lib + length s.globals.now + length s.state.now.imports + length s.statics.now };
 
+    #[inline(always)]
     fn find(self, key: &Key, steps: &mut Steps) -> Option<Found<'a>> {
         find(self, key, steps)
     }
 
+    #[inline(always)]
     fn may_match(self, hash: UntypedHash, place: usize, key: &Key) -> bool {
         let Some(_name) = key.native_name() else {
             return true;

@@ -29,6 +29,7 @@ pub struct Found<'a> {
 
 impl<'a> Found<'a> {
     /// A pick of the function. It shares the function and the id of the module.
+    #[inline(always)]
     pub fn to_pick(self, alloc: Global) -> Result<Pick, OutOfMemory>
         ensures { IfOk result (λ pick. pick ≡ picked self.entry.layer self.entry.func.now self.entry.place.now) }
     {
@@ -69,6 +70,7 @@ fn look_own<'a>(
 
 /// What the tree of a module has under a key.
 #[tactic(auto, using(crate::proofs::Looks::raised_once))]
+#[inline(always)]
 pub(crate) fn look_tree<'a>(
     place: &'a Module,
     layer: Layer,

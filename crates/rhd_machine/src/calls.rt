@@ -342,6 +342,7 @@ fn start_script<B: Bodies>(
 }
 
 /// The first step of a native, which may be handed the context of its call.
+#[inline(always)]
 fn start_native(
     alloc: Global,
     natives: &Natives,

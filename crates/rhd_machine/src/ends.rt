@@ -56,6 +56,7 @@ fn too_much(alloc: Global, what: &str, pos: Position) -> Result<Option<EvalAltRe
 }
 
 /// The fault of a value that holds more than the limits allow.
+#[inline(always)]
 fn too_large(
     alloc: Global,
     limits: Limits,
@@ -120,6 +121,7 @@ fn unfit(
 }
 
 /// Ends a call with a value that is tested for the wanted kind alone.
+#[inline(always)]
 fn accept(
     alloc: Global,
     engine: &Engine,
@@ -159,6 +161,7 @@ fn print_and_accept(
 }
 
 /// The first argument by reference, or the object, as it is in the end.
+#[inline(always)]
 fn first_at_end(
     alloc: Global,
     engine: &Engine,

@@ -62,6 +62,7 @@ fn unbegin(node: &mut CallNode, first: Rare<Dynamic>)
 }
 
 /// Ends a call with an answer or a fault, where no value is refused.
+#[inline(always)]
 pub fn answer_with(
     alloc: Global,
     node: &mut CallNode,
@@ -109,6 +110,7 @@ pub fn print(alloc: Global, node: &mut CallNode, printed: Option<Text>) -> Resul
 }
 
 /// Shows the function that was picked.
+#[inline(always)]
 pub fn picks(node: &mut CallNode, pick: Pick)
     ensures { seen node.new ≡ picking (seen node.old) pick }
 {

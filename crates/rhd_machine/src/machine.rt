@@ -85,6 +85,7 @@ fn ask_for(
 }
 
 /// Takes the step of a call's function.
+#[inline(always)]
 pub fn settle(
     alloc: Global,
     engine: &Engine,
@@ -159,6 +160,7 @@ pub fn outer_of(alloc: Global, state: &GlobalRuntimeState) -> Result<Outer, OutO
 }
 
 /// Gives back what entering a function changed of a state.
+#[inline(always)]
 pub fn give_back(state: &mut GlobalRuntimeState, outer: Outer)
     ensures { state.new ≡ given_back outer state.old }
 {
@@ -261,6 +263,7 @@ fn wait(
 }
 
 /// Takes what a step made of a call: one that waits goes onto the stack.
+#[inline(always)]
 pub fn put(
     alloc: Global,
     envs: &Environs,

@@ -31,6 +31,7 @@ fn is_method(natives: &Natives, func: &RhaiFunc) -> bool
 }
 
 /// Whether a function has the first argument by reference, or the object, itself and no copy.
+#[inline(always)]
 fn has_the_first(natives: &Natives, func: &RhaiFunc, shape: &CallShape) -> bool
     ensures { result ≡ has_the_given (convention_of (infos_of info natives.now) func.now) shape.now }
 {
@@ -42,6 +43,7 @@ fn has_the_first(natives: &Natives, func: &RhaiFunc, shape: &CallShape) -> bool
 }
 
 /// The same where an object counts as a first argument by reference.
+#[inline(always)]
 fn has_it_by_reference(natives: &Natives, func: &RhaiFunc, shape: &CallShape) -> bool
     ensures { result ≡ has_the_given (convention_of (infos_of info natives.now) func.now) (by_reference shape.now) }
 {
@@ -228,6 +230,7 @@ fn first_given(alloc: Global, shape: &CallShape) -> Result<Option<Dynamic>, OutO
 }
 
 /// The same of a request.
+#[inline(always)]
 pub fn given(alloc: Global, request: &CallRequest) -> Result<Option<Dynamic>, OutOfMemory>
     ensures { IfOk result (λ first. first ≡ given request.now) }
 {

@@ -49,6 +49,7 @@ fn push_types(alloc: Global, tags: &[TypeTag], out: &mut Vec<u8>) -> Result<(), 
     }
 }
 
+#[inline(always)]
 fn push_path_name(name: &Text, out: &mut Vec<u8>) -> Result<(), OutOfMemory>
     ensures { OnOk result (out.new.items ≡ out.old.items ++ path_name name.now) }
 {
@@ -56,6 +57,7 @@ fn push_path_name(name: &Text, out: &mut Vec<u8>) -> Result<(), OutOfMemory>
     Ok(out.extend_from_slice(b"::")?)
 }
 
+#[inline(always)]
 pub fn push_path_names(names: &[Text], out: &mut Vec<u8>) -> Result<(), OutOfMemory>
     ensures { OnOk result (out.new.items ≡ out.old.items ++ flat_map path_name names.now) }
 {

@@ -134,6 +134,7 @@ fn push_layer(layer: Layer, out: &mut Vec<u8>) -> Result<(), OutOfMemory>
     }
 }
 
+#[inline(always)]
 fn push_marked(mark: u8, number: u32, out: &mut Vec<u8>) -> Result<(), OutOfMemory>
     ensures { OnOk result (out.new.items ≡ out.old.items ++ (mark ∷ []) ++ decimal number) }
 {

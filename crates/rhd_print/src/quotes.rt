@@ -12,6 +12,7 @@ use std::alloc::Global;
 
 /// Puts a number at the end, in decimal.
 #[tactic(auto, using(crate::proofs::PrintingDigits::one_digit))]
+#[inline(always)]
 pub fn push_number(number: u64, out: &mut Vec<u8>) -> Result<(), OutOfMemory>
     ensures { OnOk result (out.new.items ≡ out.old.items ++ decimal number) }
 {
@@ -23,6 +24,7 @@ pub fn push_number(number: u64, out: &mut Vec<u8>) -> Result<(), OutOfMemory>
 }
 
 /// Puts an integer at the end, in decimal, after a `-` if it is below zero.
+#[inline(always)]
 pub fn push_int(number: i64, out: &mut Vec<u8>) -> Result<(), OutOfMemory>
     ensures { OnOk result (out.new.items ≡ out.old.items ++ signed_decimal number) }
 {

@@ -89,6 +89,7 @@ fn given_at(bytes: &[u8]) -> Result<(Argument, &[u8]), Stop>
 
 /// The next argument, which may be a given value where those are allowed, and the bytes after it.
 #[tactic(auto, unfolding(crate::specs::Reading::argument_at))]
+#[inline(always)]
 pub fn argument_at(alloc: Global, bytes: &[u8], given: bool) -> Result<(Argument, &[u8]), Stop>
     ensures { Gives (λ x. (x.0, x.1.now)) result (argument_at given bytes.now) }
 {

@@ -136,6 +136,7 @@ fn small_number(word: &[u8]) -> Option<u64>
 
 /// The integer that a word says.
 #[tactic(auto, unfolding(crate::specs::Bytes::int_of))]
+#[inline(always)]
 pub fn int_of(word: &[u8]) -> Option<i64>
     ensures { result ≡ int_of word.now }
 {

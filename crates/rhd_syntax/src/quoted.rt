@@ -144,6 +144,7 @@ fn plain_text_at(alloc: Global, bytes: &[u8]) -> Result<(Text, &[u8]), Stop>
 
 /// A text, quoted or not, before which no blank is left, and the bytes after it.
 #[tactic(auto, unfolding(crate::specs::Reading::text_here))]
+#[inline(always)]
 pub fn text_here(alloc: Global, bytes: &[u8]) -> Result<(Text, &[u8]), Stop>
     ensures { Gives (λ x. (x.0, x.1.now)) result (text_here bytes.now) }
 {

@@ -67,6 +67,7 @@ pub fn may_end(bytes: &[u8]) -> bool
     }
 }
 
+#[inline(always)]
 fn find_run(bytes: &[u8]) -> Option<(&[u8], &[u8])>
     ensures { option_map (λ x. (x.0.now, x.1.now)) result ≡ run_at bytes.now }
 {
@@ -78,6 +79,7 @@ fn find_run(bytes: &[u8]) -> Option<(&[u8], &[u8])>
 }
 
 /// The run of word bytes at the front, of one or more, and the bytes after it.
+#[inline(always)]
 pub fn run_at(bytes: &[u8]) -> Result<(&[u8], &[u8]), Stop>
     ensures { Gives (λ x. (x.0.now, x.1.now)) result (run_at bytes.now) }
 {

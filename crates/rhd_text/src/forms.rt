@@ -314,7 +314,8 @@ fn tag_at(alloc: Global, bytes: &[u8], place: Place) -> Result<Part, Stop>
 }
 
 /// The part of a line form, by what stands after its keyword.
-fn row_at(alloc: Global, keyword: Keyword, bytes: &[u8], place: Place) -> Result<Part, Stop>
+#[inline(never)]
+fn form_row_at(alloc: Global, keyword: Keyword, bytes: &[u8], place: Place) -> Result<Part, Stop>
     ensures { Gives (λ x. x) result (row_at place (form keyword) bytes.now) }
 {
     match keyword {
@@ -359,6 +360,16 @@ fn row_at(alloc: Global, keyword: Keyword, bytes: &[u8], place: Place) -> Result
         Keyword::Manifest(word) => manifest_row_at(alloc, bytes, place, word),
         Keyword::Join(word) => join_at(bytes, place, word),
         Keyword::Call(call) => call_at(alloc, bytes, place, call),
+    }
+}
+
+/// The same. Most lines are calls, whose part would be put together from pieces among all others.
+fn row_at(alloc: Global, keyword: Keyword, bytes: &[u8], place: Place) -> Result<Part, Stop>
+    ensures { Gives (λ x. x) result (row_at place (form keyword) bytes.now) }
+{
+    match keyword {
+        Keyword::Call(call) => call_at(alloc, bytes, place, call),
+        other => form_row_at(alloc, other, bytes, place),
     }
 }
 

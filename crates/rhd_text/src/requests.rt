@@ -49,6 +49,7 @@ fn of_object(args: Values) -> Option<CallShape>
 }
 
 /// Arguments that are handed over so, where they are enough.
+#[inline(always)]
 fn shape_of(handing: Handing, args: Values) -> Option<CallShape>
     ensures { result ≡ shape_of handing args }
 {
@@ -157,6 +158,7 @@ fn qualified_at(
 
 /// What stands after the word of a call, to the end of the line. Values may be given ones where
 /// `given` says so.
+#[inline(always)]
 pub fn plan_at(
     alloc: Global,
     bytes: &[u8],

@@ -4,5 +4,5 @@ use Rattle.rhd_value.specs.declared.text.Place.{Place}
 use Rattle.rhd_value.specs.declared.text.Place.TheVariants.{Short, Long}
 
 abbrev pub bytes_at : Place → List ℕ
-bytes_at (Short text) = text.bytes
+bytes_at (Short bytes) = bytes
 bytes_at (Long bytes) = bytes

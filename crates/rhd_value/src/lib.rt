@@ -5,6 +5,7 @@ mod dynamic;
 mod fault;
 mod lists;
 mod memory;
+mod short;
 mod tag;
 mod text;
 
