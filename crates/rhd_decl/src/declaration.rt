@@ -23,6 +23,7 @@ impl Declaration {
     }
 
     /// An equal declaration.
+    #[inline(always)]
     pub fn dup(&self, alloc: Global) -> Result<Declaration, OutOfMemory>
         ensures { IfOk result (λ declaration. declaration ≡ self.now) }
     {

@@ -61,6 +61,7 @@ impl Model for SharedMetadata {
 }
 
 impl SharedMetadata {
+    #[inline(always)]
     pub fn new(alloc: Global, metadata: FuncMetadata) -> Result<SharedMetadata, OutOfMemory>
         ensures { IfOk result (λ shared. shared ≡ metadata) }
     {

@@ -9,6 +9,7 @@ use rhd_value::{OutOfMemory, Text, TypeTag, Types, map_type};
 use std::alloc::Global;
 
 /// The types of a native as keys have them. The first type of a method stays.
+#[inline(always)]
 pub fn mapped_types(alloc: Global, types: &[TypeTag], is_method: bool) -> Result<Types, OutOfMemory>
     ensures { IfOk result (λ mapped. mapped ≡ mapped_types is_method types.now) }
 {

@@ -289,6 +289,7 @@ pub fn is_banned(name: &Text, types: &[TypeTag]) -> bool
 }
 
 /// The key of a script: by its number of parameters, and by the type of its object if it has one.
+#[inline(always)]
 pub fn script_key(alloc: Global, def: &ScriptFuncDef) -> Result<Key, OutOfMemory>
     ensures { IfOk result (λ key. key ≡ script_key def.now) }
 {

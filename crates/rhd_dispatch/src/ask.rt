@@ -118,6 +118,7 @@ impl Ask {
 }
 
 /// The declaration that answers a question: a script's by its key, a native's by the patterns of its kinds.
+#[inline(always)]
 fn look_up<'a>(
     engine: &'a Engine,
     state: &'a GlobalRuntimeState,

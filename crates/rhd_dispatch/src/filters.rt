@@ -35,6 +35,7 @@ fn any_tree_may_have(modules: &[(Text, SharedModule)], hash: UntypedHash, key: &
 }
 
 /// The same of some import, by the filter of all and then by that of each.
+#[inline(always)]
 pub(crate) fn any_import_may_have(imports: &ImportList, hash: UntypedHash, key: &Key) -> bool
     requires { IsUntyped hash key.now }
     ensures none { result ≡ false → any_may_have (key_name key.now) (key_params key.now) imports.now ≡ false }

@@ -65,6 +65,7 @@ fn builtin_of(engine: &Engine, token: OpToken, id: FnId) -> Pick
 }
 
 /// The built-in of a token and two kinds.
+#[inline(always)]
 pub(crate) fn find_builtin(
     engine: &Engine,
     token: Option<OpToken>,

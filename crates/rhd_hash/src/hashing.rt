@@ -90,6 +90,7 @@ fn kept_count(path: &Option<Texts>) -> u64
 }
 
 /// The hash of a function's path, name and number of parameters.
+#[inline(always)]
 fn fn_hash(seeds: Seeds, names: &[Text], count: u64, name: &Text, num: u64) -> u64
     ensures { result ≡ mix seeds (fn_bytes names.now count name.now num) }
 {

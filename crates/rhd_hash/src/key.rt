@@ -40,6 +40,7 @@ pub enum Key {
     },
 }
 
+#[inline(always)]
 fn same_path(a: &Option<Texts>, b: &Option<Texts>) -> bool
     ensures { result ≡ path_eq a.now b.now }
 {

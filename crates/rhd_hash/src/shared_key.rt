@@ -70,6 +70,7 @@ impl SharedKey {
     }
 
     /// A key with its hash under these seeds, where that is at hand.
+    #[inline(always)]
     pub fn known(alloc: Global, key: Key, seeds: Seeds, hash: u64) -> Result<SharedKey, OutOfMemory>
         requires { hash ≡ mixed seeds key }
         ensures { IfOk result (λ shared. shared ≡ key) }

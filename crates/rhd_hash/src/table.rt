@@ -163,6 +163,7 @@ impl<V> KeyTable<V> {
     }
 
     /// The value under a key whose hash is at hand.
+    #[inline(always)]
     pub fn get_hashed(&self, key: &HashedKey) -> Option<&V>
         ensures { option_copied result ≡ lookup (key_eq key.now) self.now.pairs }
     {

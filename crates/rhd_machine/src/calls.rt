@@ -421,6 +421,7 @@ fn go_on<H: Host, B: Bodies>(
 }
 
 /// What the function that is picked may know of its call.
+#[inline(always)]
 fn context(
     alloc: Global,
     state: &GlobalRuntimeState,

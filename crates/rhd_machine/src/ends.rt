@@ -22,6 +22,7 @@ use rhd_value::{Dynamic, EvalAltResult, OutOfMemory, Position, Text, TypeTag};
 use std::alloc::Global;
 
 /// The fault of a value that isn't of the wanted kind.
+#[inline(always)]
 fn not_wanted(
     alloc: Global,
     engine: &Engine,

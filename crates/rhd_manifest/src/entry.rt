@@ -53,6 +53,7 @@ impl Model for FnManifestEntry {
 impl FnManifestEntry {
     /// An entry under a name, for the native of a number that has these types and that takes its
     /// first argument by reference or doesn't.
+    #[inline(always)]
     pub fn new(
         alloc: Global,
         name: Text,

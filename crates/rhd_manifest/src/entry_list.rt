@@ -156,6 +156,7 @@ impl EntryList {
     }
 
     /// The last entry under a key, by its hash.
+    #[inline(always)]
     pub(crate) fn find_key(&self, hash: u64, key: &Key) -> Option<&FnManifestEntry>
         requires { hash ≡ index_hash key.now }
         ensures { option_copied result ≡ find_entry key.now (reverse self.now) }

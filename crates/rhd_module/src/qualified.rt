@@ -51,6 +51,7 @@ impl Module {
     /// The function that is found first under a key whose hash is at hand, in the module and below it. It
     /// is one look-up more.
     #[tactic(auto, unfolding(crate::specs::Walk::qualified))]
+    #[inline(always)]
     pub fn get_qualified_hashed_fn(&self, key: &HashedKey, steps: &mut Steps) -> Option<&RhaiFunc>
         requires { self.now.own.indexed ≡ true }
         ensures found { option_copied result ≡ option_map (λ d. d.func) (qualified self.now key.now) }

@@ -90,6 +90,7 @@ pub enum OpToken {
 
 impl OpToken {
     /// How the token is written.
+    #[inline(always)]
     pub fn text(self) -> &'static str
         ensures { result.now ≡ token_text self }
     {

@@ -41,6 +41,7 @@ fn push_error(error: &ParseErrorType, out: &mut Vec<u8>) -> Result<(), OutOfMemo
 }
 
 /// A fault of one text.
+#[inline(always)]
 fn push_fault_of(number: &[u8], text: &Text, out: &mut Vec<u8>) -> Result<(), OutOfMemory>
     ensures { OnOk result (out.new.items ≡ out.old.items ++ (number.now ++ quoted text.now)) }
 {

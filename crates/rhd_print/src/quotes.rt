@@ -67,6 +67,7 @@ fn plain_len(quote: u8, text: &[u8]) -> usize
 }
 
 /// Puts the plain bytes at the front at the end of what is printed, and gives the others.
+#[inline(always)]
 fn push_plain<'a>(quote: u8, text: &'a [u8], out: &mut Vec<u8>) -> Result<&'a [u8], OutOfMemory>
     ensures same { IfOk result (λ rest. out.new.items ++ flat_map (escaped quote) rest.now ≡ out.old.items ++ flat_map (escaped quote) text.now) }
     ensures within { IfOk result (λ rest. length rest.now ≤ length text.now) }

@@ -44,6 +44,7 @@ fn may_be_number(word: &[u8]) -> bool
 
 /// The number of 32 bits that a word says.
 #[tactic(auto, unfolding(crate::specs::Bytes::num_of))]
+#[inline(always)]
 pub fn num_of(word: &[u8]) -> Option<u32>
     ensures { result ≡ num_of 32 word.now }
 {

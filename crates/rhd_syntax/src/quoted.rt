@@ -74,6 +74,7 @@ fn letters_len(bytes: &[u8], quote: u8) -> usize
 
 /// Puts the bytes at the front that stand for themselves at the end of a text, and gives the
 /// others.
+#[inline(always)]
 fn push_letters<'a>(bytes: &'a [u8], quote: u8, text: &mut Vec<u8>) -> Result<&'a [u8], OutOfMemory>
     ensures same { IfOk result (λ rest. with_text text.new.items (text_at quote false rest.now) ≡ with_text text.old.items (text_at quote false bytes.now)) }
     ensures within { IfOk result (λ rest. length rest.now ≤ length bytes.now) }

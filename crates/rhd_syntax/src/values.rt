@@ -187,6 +187,7 @@ fn pointer_at(alloc: Global, bytes: &[u8], depth: u32, sort: Sort) -> Result<(Va
 /// Values and the bracket that ends them, and the bytes after it.
 #[cycle(values)]
 #[tactic(auto, unfolding(crate::specs::Reading::items_at))]
+#[inline(always)]
 fn items_at(alloc: Global, bytes: &[u8], depth: u32, close: u8) -> Result<(Values, &[u8]), Stop>
     requires { 0 < close }
     ensures { Gives (λ x. (x.0, x.1.now)) result (items_at close (tree_at depth) bytes.now) }

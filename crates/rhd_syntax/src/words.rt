@@ -91,6 +91,7 @@ pub fn run_at(bytes: &[u8]) -> Result<(&[u8], &[u8]), Stop>
 
 /// The next word, and the bytes after it.
 #[tactic(auto, unfolding(crate::specs::Reading::word_at))]
+#[inline(always)]
 pub fn word_at(bytes: &[u8]) -> Result<(&[u8], &[u8]), Stop>
     ensures { Gives (λ x. (x.0.now, x.1.now)) result (word_at bytes.now) }
 {
@@ -132,6 +133,7 @@ fn may_come(bytes: &[u8], word: &[u8]) -> bool
 
 /// Whether this word comes next, and the bytes after it if it does.
 #[tactic(auto, unfolding(crate::specs::Reading::flag_at))]
+#[inline(always)]
 pub fn flag_at<'a>(bytes: &'a [u8], word: &[u8]) -> (bool, &'a [u8])
     ensures { (result.0, result.1.now) ≡ flag_at word.now bytes.now }
 {

@@ -145,6 +145,7 @@ impl Declarations {
     }
 
     /// The declaration under a key whose hash is at hand.
+    #[inline(always)]
     pub fn get_hashed(&self, key: &HashedKey) -> Option<&Declaration>
         ensures { option_copied result ≡ lookup (key_eq key.now) self.now.pairs }
     {

@@ -93,6 +93,7 @@ fn file_at(alloc: Global, bytes: &[u8], place: Place) -> Result<Part, Stop>
 }
 
 #[tactic(auto, using(crate::proofs::PlanLaws::call_row))]
+#[inline(always)]
 fn call_at(alloc: Global, bytes: &[u8], place: Place, call: CallWord) -> Result<Part, Stop>
     ensures { Gives (λ x. x) result (row_at place (called call) bytes.now) }
 {

@@ -55,6 +55,7 @@ impl Texts {
     }
 
     /// Puts a text last.
+    #[inline(always)]
     pub fn push(&mut self, text: Text) -> Result<(), OutOfMemory>
         ensures { self.new ≡ (if is_ok result then self.old ++ text ∷ [] else self.old) }
     {
@@ -95,6 +96,7 @@ impl Clone for Texts {
 
     ghost is_clone = { λ old copy. copy ≡ old };
 
+    #[inline(always)]
     fn clone(&self) -> Result<Texts, AllocError> {
         Ok(Texts {
             items: self.items.clone()?,
@@ -151,6 +153,7 @@ impl Types {
     }
 
     /// A list of these types.
+    #[inline(always)]
     pub fn from_slice(alloc: Global, tags: &[TypeTag]) -> Result<Types, OutOfMemory>
         ensures { IfOk result (λ types. types ≡ tags.now) }
     {
@@ -160,6 +163,7 @@ impl Types {
     }
 
     /// Puts a type last.
+    #[inline(always)]
     pub fn push(&mut self, tag: TypeTag) -> Result<(), OutOfMemory>
         ensures { self.new ≡ (if is_ok result then self.old ++ tag ∷ [] else self.old) }
     {

@@ -1,6 +1,6 @@
 //! A text of few bytes.
 
-ghost use Rattle.std.specs.Prelude.{◌≡◌, ◌++◌, [], if◌then◌else◌, IfSome, Some};
+ghost use Rattle.std.specs.Prelude.{◌≡◌, ◌↔◌, ◌++◌, ◌+◌, ◌<◌, ◌≤◌, [], length, if◌then◌else◌, IfSome, IsTrue, None, Some};
 
 use std::marker::Model;
 use std::str;
@@ -38,7 +38,8 @@ impl ShortText {
 
     /// A copy of a text, where that is short.
     pub fn from_str(text: &str) -> Option<ShortText>
-        ensures { IfSome result (λ short. short ≡ text.now) }
+        ensures copy { IfSome result (λ short. short ≡ text.now) }
+        ensures room { (result ≡ None) ↔ (11 < length text.now) }
     {
         let len = text.len();
         if len > SHORT {
@@ -68,9 +69,10 @@ impl ShortText {
         }
     }
 
-    /// Puts a text at the end, where there is room for it.
+    /// Puts a text at the end, exactly where there is room for it.
     pub fn push(&mut self, text: &str) -> bool
-        ensures { self.new ≡ (if result then self.old ++ text.now else self.old) }
+        ensures grown { self.new ≡ (if result then self.old ++ text.now else self.old) }
+        ensures room { IsTrue result ↔ (length self.old + length text.now ≤ 11) }
     {
         let start = self.len as usize;
         if text.len() > SHORT - start {

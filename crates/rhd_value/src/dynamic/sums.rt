@@ -10,6 +10,7 @@ impl Dynamic {
     /// How much the value holds in all, with all that is inside it. Names of pointers and keys of
     /// maps don't count.
     #[cycle(sizes)]
+    #[inline(always)]
     pub fn sizes(&self) -> Sizes
         ensures { result ≡ sizes_of self.now }
     {

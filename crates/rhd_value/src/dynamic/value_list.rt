@@ -35,6 +35,7 @@ impl Values {
     }
 
     /// Puts a value last.
+    #[inline(always)]
     pub fn push(&mut self, value: Dynamic) -> Result<(), OutOfMemory>
         ensures { self.new ≡ (if is_ok result then self.old ++ value ∷ [] else self.old) }
     {
@@ -43,6 +44,7 @@ impl Values {
     }
 
     /// Puts a value first.
+    #[inline(always)]
     pub fn push_first(&mut self, value: Dynamic) -> Result<(), OutOfMemory>
         ensures { self.new ≡ (if is_ok result then value ∷ self.old else self.old) }
     {
