@@ -30,7 +30,7 @@ seen node =
       pick = n.pick;
       carries = n.carries;
       children = nodes_in n.children;
-      end = record { answer = n.answer; whose = n.whose; first_after = n.first_after; printed = n.printed; refused = n.refused };
+      end = record { answer = n.answer; whose = n.whose; first_after = n.extras.first_after; printed = n.extras.printed; refused = n.extras.refused };
     }
 
 -- a node that was begun

@@ -30,7 +30,7 @@ pub data CutTree : CallNode → Type 0 where
 abbrev mutual
   -- how many calls of a tree were begun
   pub begun_in : CallNode → ℕ
-  begun_in (CallNode' call level begun whose pick carries children answer after printed refused) = (if begun then 1 else 0) + begun_in_nodes children
+  begun_in (CallNode' call level begun whose pick carries children answer extras) = (if begun then 1 else 0) + begun_in_nodes children
 
   pub begun_in_nodes : Nodes → ℕ
   begun_in_nodes (Nodes' shape row) = begun_in_row row

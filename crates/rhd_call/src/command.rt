@@ -334,6 +334,7 @@ impl Commands {
     }
 
     /// Puts a command last.
+    #[inline(always)]
     pub fn push(&mut self, command: Command) -> Result<(), OutOfMemory>
         ensures { self.new ≡ (if is_ok result then self.old ++ command ∷ [] else self.old) }
     {

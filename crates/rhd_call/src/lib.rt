@@ -7,7 +7,7 @@ mod pick;
 mod reply;
 
 pub use command::{Command, Commands, ModuleId};
-pub use node::{CallNode, Carries, Nodes, Rare, Whose};
+pub use node::{BoxedExtras, CallNode, Carries, Extras, Nodes, Whose};
 pub use pick::{Layer, Pick};
 pub use reply::{Replies, Reply, Stopped};
 pub use rhd_func::SharedText;

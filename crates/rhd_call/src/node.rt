@@ -1,7 +1,8 @@
 //! The tree of a call.
 
-ghost use Rattle.std.specs.Prelude.{◌≡◌, ◌++◌, ◌∷◌, [], None, if◌then◌else◌, is_ok, IfOk};
+ghost use Rattle.std.specs.Prelude.{◌≡◌, ◌++◌, ◌∷◌, [], None, Some, if◌then◌else◌, is_ok, IfOk, OnOk};
 ghost use Rattle.std.specs.Option.{option_copied};
+ghost use Rattle.rhd_call.specs.Extras.{no_extras};
 ghost use Rattle.rhd_call.specs.Nodes.{nodes_in};
 
 use crate::pick::Pick;
@@ -68,46 +69,139 @@ impl Carries {
     }
 }
 
-/// A part that few nodes have. It stands in a box of its own, so that nodes are small. Contracts see the part,
-/// if there is one.
+/// What few calls show of their end.
 #[derive(Drop)]
-pub struct Rare<T> {
-    boxed: Option<Box<T>>,
+pub struct Extras {
+    /// The first argument by reference, or the object, as it is after the call.
+    pub first_after: Option<Dynamic>,
+    /// The text that was printed, if one was.
+    pub printed: Option<Text>,
+    /// The value that the call refused, where it did.
+    pub refused: Option<Dynamic>,
 }
 
-impl<T> Model for Rare<T> {
-    ghost use Rattle.std.specs.Prelude.{Option};
+/// What few calls show of their end, in a box of its own where there is any, so that nodes are small.
+/// Contracts see all of it.
+#[derive(Drop)]
+pub struct BoxedExtras {
+    boxed: Option<Box<Extras>>,
+}
+
+impl Model for BoxedExtras {
+    ghost use Rattle.std.specs.Prelude.{unwrap_or};
     ghost use Rattle.std.specs.Option.{option_map};
+    ghost use Rattle.rhd_call.specs.declared.node.Extras.{Extras};
+    ghost use Rattle.rhd_call.specs.contracts.node.Extras as extras;
+    ghost use Rattle.rhd_call.specs.Extras.{no_extras};
 
-    ghost Value = { Option T };
+    ghost Value = { Extras };
 
-    ghost view = { λ a. option_map (λ b. b.value) a.boxed };
+    ghost coded = { extras.the_row.coded };
+
+    ghost view = { λ a. unwrap_or (option_map (λ b. b.value) a.boxed) no_extras };
 }
 
-impl<T: Drop> Rare<T> {
-    /// No part. It takes no memory.
-    pub fn none() -> Rare<T>
-        ensures { result ≡ None }
+impl BoxedExtras {
+    /// None of it. It takes no memory.
+    #[inline(always)]
+    pub fn none() -> BoxedExtras
+        ensures { result ≡ no_extras }
     {
-        Rare { boxed: None }
+        BoxedExtras { boxed: None }
     }
 
-    pub fn new(alloc: Global, part: Option<T>) -> Result<Rare<T>, OutOfMemory>
-        ensures { IfOk result (λ rare. rare ≡ part) }
+    fn new(alloc: Global, extras: Extras) -> Result<BoxedExtras, OutOfMemory>
+        ensures { IfOk result (λ boxed. boxed ≡ extras) }
     {
-        let boxed = match part {
-            Some(part) => Some(Box::new(alloc, part)?),
-            None => None,
-        };
-        Ok(Rare { boxed })
+        Ok(BoxedExtras {
+            boxed: Some(Box::new(alloc, extras)?),
+        })
     }
 
-    /// The part, if there is one.
-    pub fn as_ref(&self) -> Option<&T>
-        ensures { option_copied result ≡ self.now }
+    /// The first argument, if there is one, and nothing else.
+    #[inline(always)]
+    pub fn of_first(alloc: Global, first: Option<Dynamic>) -> Result<BoxedExtras, OutOfMemory>
+        ensures { IfOk result (λ boxed. boxed ≡ record no_extras { first_after = first }) }
+    {
+        if first.is_none() {
+            return Ok(BoxedExtras::none());
+        }
+        BoxedExtras::new(
+            alloc,
+            Extras {
+                first_after: first,
+                printed: None,
+                refused: None,
+            },
+        )
+    }
+
+    /// A value that is refused, and the first argument, if there is one.
+    pub fn refusing(
+        alloc: Global,
+        first: Option<Dynamic>,
+        value: Dynamic,
+    ) -> Result<BoxedExtras, OutOfMemory>
+        ensures { IfOk result (λ boxed. boxed ≡ record { first_after = first; printed = None; refused = Some value }) }
+    {
+        BoxedExtras::new(
+            alloc,
+            Extras {
+                first_after: first,
+                printed: None,
+                refused: Some(value),
+            },
+        )
+    }
+
+    /// Shows this text as printed, or none.
+    pub fn print(&mut self, alloc: Global, text: Option<Text>) -> Result<(), OutOfMemory>
+        ensures { OnOk result (self.new ≡ record self.old { printed = text }) }
+    {
+        if let Some(extras) = &mut self.boxed {
+            extras.printed = text;
+            return Ok(());
+        }
+        if text.is_none() {
+            return Ok(());
+        }
+        *self = BoxedExtras::new(
+            alloc,
+            Extras {
+                first_after: None,
+                printed: text,
+                refused: None,
+            },
+        )?;
+        Ok(())
+    }
+
+    /// The first argument by reference, or the object, as it is after the call.
+    pub fn first_after(&self) -> Option<&Dynamic>
+        ensures { option_copied result ≡ self.now.first_after }
     {
         match &self.boxed {
-            Some(part) => Some(part),
+            Some(extras) => extras.first_after.as_ref(),
+            None => None,
+        }
+    }
+
+    /// The text that was printed, if one was.
+    pub fn printed(&self) -> Option<&Text>
+        ensures { option_copied result ≡ self.now.printed }
+    {
+        match &self.boxed {
+            Some(extras) => extras.printed.as_ref(),
+            None => None,
+        }
+    }
+
+    /// The value that the call refused, where it did.
+    pub fn refused(&self) -> Option<&Dynamic>
+        ensures { option_copied result ≡ self.now.refused }
+    {
+        match &self.boxed {
+            Some(extras) => extras.refused.as_ref(),
             None => None,
         }
     }
@@ -129,12 +223,7 @@ pub struct CallNode {
     pub carries: Carries,
     pub children: Nodes,
     pub answer: Result<Dynamic, EvalAltResult>,
-    /// The first argument by reference, or the object, as it is after the call.
-    pub first_after: Rare<Dynamic>,
-    /// The text that was printed, if one was.
-    pub printed: Rare<Text>,
-    /// The value that the call refused, where it did.
-    pub refused: Rare<Dynamic>,
+    pub extras: BoxedExtras,
 }
 
 /// Nodes in the order in which they were asked for.

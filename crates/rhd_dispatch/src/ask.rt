@@ -31,6 +31,7 @@ pub struct Ask {
 
 /// A function of its own, so that what drops a question doesn't ask which one it is.
 impl Drop for Ask {
+    #[inline(always)]
     fn drop(self) {
         let Ask {
             key: _key,

@@ -53,6 +53,7 @@ pub(crate) fn pick_found(alloc: Global, found: Option<Found>) -> Result<Option<P
 
 /// What a module itself shows under a key.
 #[tactic(auto, using(crate::proofs::Looks::raised_once))]
+#[inline(always)]
 fn look_own<'a>(
     place: &'a Module,
     layer: Layer,

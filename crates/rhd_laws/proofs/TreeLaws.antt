@@ -39,11 +39,11 @@ nodes_count : (nodes : Nodes) → begun_in_nodes nodes ≡ sum_by begun_in (node
 nodes_count (Nodes' shape row) = row_count _ row ∙ ap (sum_by begun_in) (sym (nodes_in_row shape row))
 
 pub parts_count : (node : CallNode) → begun_in node ≡ (if (seen node).begun then 1 else 0) + sum_by begun_in (seen node).children
-parts_count (CallNode' call level begun whose pick carries children answer after printed refused) =
-    let b : (seen (CallNode' call level begun whose pick carries children answer after printed refused)).begun ≡ begun = search (rules, the_lemmas) in
-    let ns : (out-CallNode (CallNode' call level begun whose pick carries children answer after printed refused)).children ≡ children = search (rules, the_lemmas) in
+parts_count (CallNode' call level begun whose pick carries children answer extras) =
+    let b : (seen (CallNode' call level begun whose pick carries children answer extras)).begun ≡ begun = search (rules, the_lemmas) in
+    let ns : (out-CallNode (CallNode' call level begun whose pick carries children answer extras)).children ≡ children = search (rules, the_lemmas) in
     ap (λ k. (if begun then 1 else 0) + k) (nodes_count children) ∙ ap (λ (x : Bool). (if x then 1 else 0) + sum_by begun_in (nodes_in children)) (sym b)
-    ∙ ap (λ (x : Nodes). (if (seen (CallNode' call level begun whose pick carries children answer after printed refused)).begun then 1 else 0) + sum_by begun_in (nodes_in x)) (sym ns)
+    ∙ ap (λ (x : Nodes). (if (seen (CallNode' call level begun whose pick carries children answer extras)).begun then 1 else 0) + sum_by begun_in (nodes_in x)) (sym ns)
 
 begun_count : (node : CallNode) {call : CallRequest} {level : ℕ} {pick : Option Pick} {carries : List Carry} {children : List CallNode} {end : End}
     → seen node ≡ begun_node call level pick carries children end → begun_in node ≡ 1 + sum_by begun_in children

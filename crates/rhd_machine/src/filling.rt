@@ -9,7 +9,7 @@ ghost use Rattle.rhd_machine.specs.Filling.{begun_call, unbegun_as, with_end, pi
 
 use crate::plan::position_of;
 use crate::received::given;
-use rhd_call::{CallNode, Carries, Nodes, Pick, Rare, Whose};
+use rhd_call::{BoxedExtras, CallNode, Carries, Nodes, Pick, Whose};
 use rhd_func::{CallDone, CallRequest};
 use rhd_value::{Dynamic, EvalAltResult, OutOfMemory, Text};
 use std::alloc::Global;
@@ -29,9 +29,7 @@ pub fn begun(alloc: Global, call: CallRequest, level: u32) -> CallNode
         carries: Carries::new(alloc),
         children: Nodes::new(alloc),
         answer: Err(fault),
-        first_after: Rare::none(),
-        printed: Rare::none(),
-        refused: Rare::none(),
+        extras: BoxedExtras::none(),
     }
 }
 
@@ -49,16 +47,9 @@ pub fn spend(alloc: Global, node: &mut CallNode) -> Result<(), OutOfMemory>
     ensures { (call : CallRequest) (level : ℕ) → seen node.old ≡ begun_call call level → OnOk result (seen node.new ≡ unbegun_node call level) }
 {
     let first = given(alloc, &node.call)?;
-    unbegin(node, Rare::new(alloc, first)?);
-    Ok(())
-}
-
-/// The same call, not begun. It shows its first argument by reference, or its object.
-fn unbegin(node: &mut CallNode, first: Rare<Dynamic>)
-    ensures { seen node.new ≡ unbegun_as (seen node.old) first }
-{
+    node.extras = BoxedExtras::of_first(alloc, first)?;
     node.begun = false;
-    node.first_after = first;
+    Ok(())
 }
 
 /// Ends a call with an answer or a fault, where no value is refused.
@@ -72,12 +63,9 @@ pub fn answer_with(
 ) -> Result<(), OutOfMemory>
     ensures { OnOk result (seen node.new ≡ with_end (seen node.old) (answered whose first answer)) }
 {
-    let first = Rare::new(alloc, first)?;
+    node.extras = BoxedExtras::of_first(alloc, first)?;
     node.answer = answer;
     node.whose = whose;
-    node.first_after = first;
-    node.printed = Rare::none();
-    node.refused = Rare::none();
     Ok(())
 }
 
@@ -91,13 +79,9 @@ pub fn refuse(
 ) -> Result<(), OutOfMemory>
     ensures { OnOk result (seen node.new ≡ with_end (seen node.old) (refusing first value fault)) }
 {
-    let first = Rare::new(alloc, first)?;
-    let refused = Rare::new(alloc, Some(value))?;
+    node.extras = BoxedExtras::refusing(alloc, first, value)?;
     node.answer = Err(fault);
     node.whose = Whose::Call;
-    node.first_after = first;
-    node.printed = Rare::none();
-    node.refused = refused;
     Ok(())
 }
 
@@ -105,8 +89,7 @@ pub fn refuse(
 pub fn print(alloc: Global, node: &mut CallNode, printed: Option<Text>) -> Result<(), OutOfMemory>
     ensures { OnOk result (seen node.new ≡ with_end (seen node.old) (with_printed printed (seen node.old).end)) }
 {
-    node.printed = Rare::new(alloc, printed)?;
-    Ok(())
+    node.extras.print(alloc, printed)
 }
 
 /// Shows the function that was picked.
@@ -133,7 +116,7 @@ pub fn done(alloc: Global, node: &CallNode) -> Result<CallDone, OutOfMemory>
         Ok(value) => Ok(value.dup(alloc)?),
         Err(fault) => Err(fault.dup(alloc)?),
     };
-    let first = match node.first_after.as_ref() {
+    let first = match node.extras.first_after() {
         Some(value) => Some(value.dup(alloc)?),
         None => None,
     };

@@ -2,6 +2,7 @@
 
 ghost use Rattle.std.specs.Prelude.{◌≡◌, ◌+◌, ◌<◌, ◌^◌, length, IfOk, IfSome, Some};
 ghost use Rattle.rhd_func.specs.Infos.{infos_of};
+ghost use Rattle.rhd_call.specs.declared.command.Command.TheVariants.{Call};
 ghost use Rattle.rhd_plan.specs.Session.{empty_text, takes_headers, is_held, with_seeds, with_limits, with_printer, with_builtin, with_host, with_file, with_body, with_call, with_end, with_command, added, with_part};
 ghost use Rattle.rhd_plan.specs.Session.{latest_manifest, with_new_manifest, with_manifest_entry, with_manifest_sub, with_manifest_var, with_manifest_type};
 ghost use Rattle.rhd_syntax.specs.Answers.{StepGives};
@@ -11,7 +12,7 @@ use crate::part::Part;
 use rhd_call::{Command, Commands};
 use rhd_engine::{Builtins, Limits, Printers};
 use rhd_files::FileTable;
-use rhd_func::{FnNamespace, ManifestId, Natives};
+use rhd_func::{CallRequest, FnNamespace, ManifestId, Natives};
 use rhd_hash::Seeds;
 use rhd_manifest::Manifests;
 use rhd_names::OpToken;
@@ -270,6 +271,15 @@ impl SessionText {
         ensures { StepGives result self.old self.new (Some (with_command self.old command)) }
     {
         Ok(self.commands.push(command)?)
+    }
+
+    /// Adds the request of a call.
+    #[tactic(auto, unfolding(crate::specs::Session::with_command))]
+    #[inline(always)]
+    pub fn add_request(&mut self, request: CallRequest) -> Result<(), Stop>
+        ensures { StepGives result self.old self.new (Some (with_command self.old (Call request))) }
+    {
+        Ok(self.commands.push(Command::Call(request))?)
     }
 
     /// Adds a part wherever it stands, where it is allowed; else all stays as it was.

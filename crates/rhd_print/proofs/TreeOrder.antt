@@ -8,6 +8,7 @@ use Rattle.rhd_value.specs.Tree.{Bytes, Tree}
 use Rattle.rhd_value.specs.declared.fault.EvalAltResult.{EvalAltResult}
 use Rattle.rhd_func.specs.declared.request.CallRequest.{CallRequest}
 use Rattle.rhd_call.specs.declared.node.CallNode.{CallNode, CallNode', out-CallNode}
+use Rattle.rhd_call.specs.declared.node.Extras.{Extras}
 use Rattle.rhd_call.specs.declared.node.CallNode.TheViews.{the_lemmas}
 use Rattle.rhd_call.specs.declared.node.Nodes.{Nodes, Nodes', Row_of-CallNode, end_of-CallNode, more_of-CallNode, items-the_row-CallNode}
 use Rattle.rhd_call.specs.declared.node.Whose.{Whose}
@@ -30,9 +31,9 @@ nodes_parts : (nodes : Nodes) → calls_in nodes ≡ flat_map calls_of (nodes_in
 nodes_parts (Nodes' shape row) = row_parts _ row ∙ ap (flat_map calls_of) (sym (nodes_in_row shape row))
 
 pub parts_in_order : (node : CallNode) → calls_of node ≡ node ∷ flat_map calls_of (seen node).children
-parts_in_order (CallNode' call level begun whose pick carries children answer after shown refused) =
-    let ns : (out-CallNode (CallNode' call level begun whose pick carries children answer after shown refused)).children ≡ children = search (rules, the_lemmas) in
-    ap (λ cs. CallNode' call level begun whose pick carries children answer after shown refused ∷ cs) (nodes_parts children ∙ ap (λ (x : Nodes). flat_map calls_of (nodes_in x)) (sym ns))
+parts_in_order (CallNode' call level begun whose pick carries children answer extras) =
+    let ns : (out-CallNode (CallNode' call level begun whose pick carries children answer extras)).children ≡ children = search (rules, the_lemmas) in
+    ap (λ cs. CallNode' call level begun whose pick carries children answer extras ∷ cs) (nodes_parts children ∙ ap (λ (x : Nodes). flat_map calls_of (nodes_in x)) (sym ns))
 
 -- The lines.
 
@@ -43,17 +44,17 @@ same_line level own call call' pick pick' whose whose' answer answer' after afte
 
 mutual
   pub tree_lines : (node : CallNode) → tree_text node ≡ flat_map own_line (calls_of node)
-  tree_lines (CallNode' call level begun whose pick carries children answer after shown refused) =
-      let node : CallNode = CallNode' call level begun whose pick carries children answer after shown refused in
-      let a : level ≡ (out-CallNode (CallNode' call level begun whose pick carries children answer after shown refused)).level = search (rules, the_lemmas) in
-      let b : call ≡ (out-CallNode (CallNode' call level begun whose pick carries children answer after shown refused)).call = search (rules, the_lemmas) in
-      let c : pick ≡ (out-CallNode (CallNode' call level begun whose pick carries children answer after shown refused)).pick = search (rules, the_lemmas) in
-      let d : whose ≡ (out-CallNode (CallNode' call level begun whose pick carries children answer after shown refused)).whose = search (rules, the_lemmas) in
-      let e : answer ≡ (out-CallNode (CallNode' call level begun whose pick carries children answer after shown refused)).answer = search (rules, the_lemmas) in
-      let f : after ≡ (out-CallNode (CallNode' call level begun whose pick carries children answer after shown refused)).first_after = search (rules, the_lemmas) in
-      let g : shown ≡ (out-CallNode (CallNode' call level begun whose pick carries children answer after shown refused)).printed = search (rules, the_lemmas) in
-      ap (λ rest. indent level ++ call_line call pick whose answer after shown ++ 10 ∷ [] ++ rest) (nodes_lines_of children)
-      ∙ ap (λ line. line ++ flat_map own_line (calls_in children)) (same_line level (seen node).level call (seen node).call pick (seen node).pick whose (seen node).end.whose answer (seen node).end.answer after (seen node).end.first_after shown (seen node).end.printed a b c d e f g)
+  tree_lines (CallNode' call level begun whose pick carries children answer extras) =
+      let node : CallNode = CallNode' call level begun whose pick carries children answer extras in
+      let a : level ≡ (out-CallNode (CallNode' call level begun whose pick carries children answer extras)).level = search (rules, the_lemmas) in
+      let b : call ≡ (out-CallNode (CallNode' call level begun whose pick carries children answer extras)).call = search (rules, the_lemmas) in
+      let c : pick ≡ (out-CallNode (CallNode' call level begun whose pick carries children answer extras)).pick = search (rules, the_lemmas) in
+      let d : whose ≡ (out-CallNode (CallNode' call level begun whose pick carries children answer extras)).whose = search (rules, the_lemmas) in
+      let e : answer ≡ (out-CallNode (CallNode' call level begun whose pick carries children answer extras)).answer = search (rules, the_lemmas) in
+      let x : extras ≡ (out-CallNode (CallNode' call level begun whose pick carries children answer extras)).extras = search (rules, the_lemmas) in
+      ap (λ rest. indent level ++ call_line call pick whose answer extras.first_after extras.printed ++ 10 ∷ [] ++ rest) (nodes_lines_of children)
+      ∙ ap (λ line. line ++ flat_map own_line (calls_in children)) (same_line level (seen node).level call (seen node).call pick (seen node).pick whose (seen node).end.whose answer (seen node).end.answer extras.first_after (seen node).end.first_after extras.printed (seen node).end.printed a b c d e
+      (ap (λ (y : Extras). y.first_after) x) (ap (λ (y : Extras). y.printed) x))
 
   nodes_lines_of : (nodes : Nodes) → nodes_text nodes ≡ flat_map own_line (calls_in nodes)
   nodes_lines_of (Nodes' shape row) = row_lines_of row
@@ -103,9 +104,9 @@ is_in_tree node root (below_one child c inner) = is_below c inner
 
 mutual
   pub has_tree : (root node : CallNode) → Contains (calls_of root) node → InTree node root
-  has_tree (CallNode' call level begun whose pick carries children answer after shown refused) node c =
-      let root : CallNode = CallNode' call level begun whose pick carries children answer after shown refused in
-      let ns : children ≡ (out-CallNode (CallNode' call level begun whose pick carries children answer after shown refused)).children = search (rules, the_lemmas) in
+  has_tree (CallNode' call level begun whose pick carries children answer extras) node c =
+      let root : CallNode = CallNode' call level begun whose pick carries children answer extras in
+      let ns : children ≡ (out-CallNode (CallNode' call level begun whose pick carries children answer extras)).children = search (rules, the_lemmas) in
       let by : (root ≡ node) ⊎ Contains (calls_in children) node → InTree node root = elim [
         | inl e ↦ subst (λ r. InTree node r) (sym e) is_root
         | inr d ↦ is_in_tree node root (subst (λ (x : Nodes). Below node (nodes_in x)) ns (has_below children node d))

@@ -116,8 +116,8 @@ indent level = replicate (2 * (level - 1)) 32
 abbrev mutual
   -- a call on a line, and the calls that it led to on the lines after it
   pub tree_text : CallNode → List ℕ
-  tree_text (CallNode' call level begun whose pick carries children answer after shown refused) =
-      indent level ++ call_line call pick whose answer after shown ++ 10 ∷ [] ++ nodes_text children
+  tree_text (CallNode' call level begun whose pick carries children answer extras) =
+      indent level ++ call_line call pick whose answer extras.first_after extras.printed ++ 10 ∷ [] ++ nodes_text children
 
   pub nodes_text : Nodes → List ℕ
   nodes_text (Nodes' shape row) = row_text row

@@ -8,8 +8,8 @@ use Rattle.rhd_print.specs.PrintedReplies.{indent, call_line}
 abbrev mutual
   -- a call, and then those that it led to
   pub calls_of : CallNode → List CallNode
-  calls_of (CallNode' call level begun whose pick carries children answer after shown refused) =
-      CallNode' call level begun whose pick carries children answer after shown refused ∷ calls_in children
+  calls_of (CallNode' call level begun whose pick carries children answer extras) =
+      CallNode' call level begun whose pick carries children answer extras ∷ calls_in children
 
   pub calls_in : Nodes → List CallNode
   calls_in (Nodes' shape row) = calls_in_row row

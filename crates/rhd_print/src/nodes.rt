@@ -3,6 +3,7 @@
 ghost use Rattle.std.specs.Prelude.{◌≡◌, ◌++◌, ◌∷◌, [], OnOk, codes, if◌then◌else◌};
 ghost use Rattle.rhd_print.specs.PrintedTexts.{quoted};
 ghost use Rattle.std.specs.Fmt.{decimal};
+ghost use Rattle.std.specs.Option.{option_copied};
 ghost use Rattle.rhd_value.specs.Seen.{fault_seen};
 ghost use Rattle.rhd_print.specs.PrintedReplies.{spelled_error, spelled_fault, label, layer_text, func_text, pick_text, whose_text, result_text, after_text, shown_text, call_line, indent, tree_text, nodes_text};
 ghost use Rattle.rhd_call.specs.declared.node.CallNode.{out-CallNode};
@@ -10,7 +11,7 @@ ghost use Rattle.rhd_call.specs.declared.node.CallNode.{out-CallNode};
 use crate::keys::push_path_names;
 use crate::quotes::{push_number, push_quoted};
 use crate::values::push_value;
-use rhd_call::{CallNode, Layer, Nodes, Pick, Rare, Whose};
+use rhd_call::{CallNode, Layer, Nodes, Pick, Whose};
 use rhd_func::{CallRequest, RhaiFunc};
 use rhd_value::{Dynamic, EvalAltResult, OutOfMemory, ParseErrorType, Text};
 use std::alloc::Global;
@@ -208,10 +209,10 @@ fn push_result(
 }
 
 #[tactic(auto, unfolding(crate::specs::PrintedReplies::after_text))]
-fn push_after(alloc: Global, after: &Rare<Dynamic>, out: &mut Vec<u8>) -> Result<(), OutOfMemory>
-    ensures { OnOk result (out.new.items ≡ out.old.items ++ after_text after.now) }
+fn push_after(alloc: Global, after: Option<&Dynamic>, out: &mut Vec<u8>) -> Result<(), OutOfMemory>
+    ensures { OnOk result (out.new.items ≡ out.old.items ++ after_text (option_copied after.entry)) }
 {
-    match after.as_ref() {
+    match after {
         None => Ok(()),
         Some(value) => {
             out.extend_from_slice(b" & ")?;
@@ -221,10 +222,10 @@ fn push_after(alloc: Global, after: &Rare<Dynamic>, out: &mut Vec<u8>) -> Result
 }
 
 #[tactic(auto, unfolding(crate::specs::PrintedReplies::shown_text))]
-fn push_shown(shown: &Rare<Text>, out: &mut Vec<u8>) -> Result<(), OutOfMemory>
-    ensures { OnOk result (out.new.items ≡ out.old.items ++ shown_text shown.now) }
+fn push_shown(shown: Option<&Text>, out: &mut Vec<u8>) -> Result<(), OutOfMemory>
+    ensures { OnOk result (out.new.items ≡ out.old.items ++ shown_text (option_copied shown.entry)) }
 {
-    match shown.as_ref() {
+    match shown {
         None => Ok(()),
         Some(text) => {
             out.extend_from_slice(b" > ")?;
@@ -237,14 +238,14 @@ fn push_shown(shown: &Rare<Text>, out: &mut Vec<u8>) -> Result<(), OutOfMemory>
 #[tactic(auto, unfolding(crate::specs::PrintedReplies::call_line))]
 fn push_call_line(alloc: Global, node: &CallNode, out: &mut Vec<u8>) -> Result<(), OutOfMemory>
     ensures { OnOk result (out.new.items ≡ out.old.items ++ call_line (out-CallNode node.now).call (out-CallNode node.now).pick (out-CallNode node.now).whose (out-CallNode node.now).answer
-        (out-CallNode node.now).first_after (out-CallNode node.now).printed) }
+        (out-CallNode node.now).extras.first_after (out-CallNode node.now).extras.printed) }
 {
     push_label(&node.call, out)?;
     out.push(b' ')?;
     push_pick(&node.pick, out)?;
     push_result(alloc, node.whose, &node.answer, out)?;
-    push_after(alloc, &node.first_after, out)?;
-    push_shown(&node.printed, out)
+    push_after(alloc, node.extras.first_after(), out)?;
+    push_shown(node.extras.printed(), out)
 }
 
 /// Two spaces for each call above one of this level.

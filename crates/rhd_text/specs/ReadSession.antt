@@ -4,7 +4,8 @@ use Rattle.rhd_func.specs.Natives.{NativeInfo}
 use Rattle.rhd_plan.specs.declared.session.SessionText.{SessionText}
 use Rattle.rhd_syntax.specs.Reading.{◌>>=◌}
 use Rattle.rhd_text.specs.ReadRows.{line_of}
-use Rattle.rhd_plan.specs.Session.{empty_text}
+use Rattle.rhd_plan.specs.declared.part.Part.{Part}
+use Rattle.rhd_plan.specs.Session.{empty_text, with_part}
 use Rattle.rhd_text.specs.Session.{with_line}
 
 -- what is said after line n, where it is a line that may stand there
@@ -12,6 +13,12 @@ unfoldable pub after_line : List NativeInfo → ℕ → SessionText → List ℕ
 after_line natives n t line = do
   l ← line_of n line
   with_line natives t l
+
+-- what is said with a part more, where one was read that may stand there
+abbrev pub with_read : List NativeInfo → SessionText → Option Part → Option SessionText
+with_read natives t read = do
+  p ← read
+  with_part natives t p
 
 -- goes on with what is said, or stops at line n
 abbrev pub next : ℕ → Option SessionText → (SessionText → Result SessionText ℕ) → Result SessionText ℕ

@@ -1,10 +1,13 @@
 //! One function for each row of the table, and the rows by their keywords.
 
-ghost use Rattle.std.specs.Prelude.{◌≡◌};
+ghost use Rattle.std.specs.Prelude.{◌≡◌, ◌+◌, ◌<◌, ◌^◌, List, length};
+ghost use Rattle.rhd_func.specs.Infos.{infos_of};
+ghost use Rattle.rhd_func.specs.Natives.{NativeInfo};
 ghost use Rattle.rhd_text.specs.declared.keyword.Keyword.TheVariants as keywords;
 ghost use Rattle.rhd_text.specs.Rows.{answered, built_in, called, step, form, step_forms};
 ghost use Rattle.rhd_text.specs.ReadRows.{row_at, form_at, part_at};
-ghost use Rattle.rhd_syntax.specs.Answers.{Gives};
+ghost use Rattle.rhd_text.specs.ReadSession.{with_read};
+ghost use Rattle.rhd_syntax.specs.Answers.{Gives, StepGives};
 
 use crate::join_forms::join_at;
 use crate::keyword::{CallWord, Keyword, call_of, keyword_of};
@@ -18,8 +21,9 @@ use crate::place::Place;
 use crate::requests::plan_at;
 use rhd_call::{Command, ModuleId};
 use rhd_engine::Limits;
+use rhd_func::Natives;
 use rhd_hash::Seeds;
-use rhd_plan::{BodyEnd, Part};
+use rhd_plan::{BodyEnd, Part, SessionText};
 use rhd_syntax::{
     Argument, Stop, argument_at, is_end, long_at, num_at, operator_of, printer_at, value_at,
     value_kind_at, word_at, wording_at,
@@ -316,7 +320,7 @@ fn tag_at(alloc: Global, bytes: &[u8], place: Place) -> Result<Part, Stop>
 
 /// The part of a line form, by what stands after its keyword.
 #[inline(never)]
-fn form_row_at(alloc: Global, keyword: Keyword, bytes: &[u8], place: Place) -> Result<Part, Stop>
+fn row_at(alloc: Global, keyword: Keyword, bytes: &[u8], place: Place) -> Result<Part, Stop>
     ensures { Gives (λ x. x) result (row_at place (form keyword) bytes.now) }
 {
     match keyword {
@@ -364,16 +368,6 @@ fn form_row_at(alloc: Global, keyword: Keyword, bytes: &[u8], place: Place) -> R
     }
 }
 
-/// The same. Most lines are calls, whose part would be put together from pieces among all others.
-fn row_at(alloc: Global, keyword: Keyword, bytes: &[u8], place: Place) -> Result<Part, Stop>
-    ensures { Gives (λ x. x) result (row_at place (form keyword) bytes.now) }
-{
-    match keyword {
-        Keyword::Call(call) => call_at(alloc, bytes, place, call),
-        other => form_row_at(alloc, other, bytes, place),
-    }
-}
-
 /// What stands after `do`.
 #[tactic(auto, unfolding(crate::specs::ReadRows::form_at))]
 fn step_at(alloc: Global, bytes: &[u8], place: Place) -> Result<Part, Stop>
@@ -399,4 +393,64 @@ pub fn part_at(alloc: Global, line: &[u8], place: Place) -> Result<Part, Stop>
         return Err(Stop::Bad);
     };
     row_at(alloc, keyword, rest, place)
+}
+
+/// Adds the request of a call line, by what stands after its keyword.
+#[tactic(auto, unfolding(rhd_plan::specs::Session::with_part), using(crate::proofs::PlanLaws::call_row))]
+#[inline(always)]
+fn add_call(
+    alloc: Global,
+    said: &mut SessionText,
+    bytes: &[u8],
+    place: Place,
+    call: CallWord,
+) -> Result<(), Stop>
+    ensures { (natives : List NativeInfo) → StepGives result said.old said.new (with_read natives said.old (row_at place (called call) bytes.now)) }
+{
+    let plan = plan_at(alloc, bytes, false, call, place.position())?;
+    said.add_request(plan.request)
+}
+
+/// Adds what a line of a form says. Most lines are calls: their requests don't become parts before.
+fn add_row(
+    alloc: Global,
+    said: &mut SessionText,
+    keyword: Keyword,
+    bytes: &[u8],
+    place: Place,
+    natives: &Natives,
+) -> Result<(), Stop>
+    requires manifests { length said.old.manifests + 1 < 2 ^ 32 }
+    ensures { StepGives result said.old said.new (with_read (infos_of info natives.now) said.old (row_at place (form keyword) bytes.now)) }
+{
+    match keyword {
+        Keyword::Call(call) => add_call(alloc, said, bytes, place, call),
+        other => {
+            let part = row_at(alloc, other, bytes, place)?;
+            said.add_part(alloc, part, natives)
+        }
+    }
+}
+
+/// Adds what a line says, where it may stand there; else all stays as it was.
+#[tactic(auto, unfolding(crate::specs::ReadRows::part_at))]
+pub fn add_line(
+    alloc: Global,
+    said: &mut SessionText,
+    line: &[u8],
+    place: Place,
+    natives: &Natives,
+) -> Result<(), Stop>
+    requires manifests { length said.old.manifests + 1 < 2 ^ 32 }
+    ensures { StepGives result said.old said.new (with_read (infos_of info natives.now) said.old (part_at place line.now)) }
+{
+    let (word, rest) = word_at(line)?;
+    if word == b"do".as_slice() {
+        let part = step_at(alloc, rest, place)?;
+        return said.add_part(alloc, part, natives);
+    }
+    let Some(keyword) = keyword_of(word) else {
+        return Err(Stop::Bad);
+    };
+    add_row(alloc, said, keyword, rest, place, natives)
 }

@@ -13,7 +13,7 @@ ghost use Rattle.rhd_syntax.specs.Answers.{StepGives};
 ghost use Rattle.rhd_text.specs.Answers.{Reads};
 
 use crate::fault::TextFault;
-use crate::forms::part_at;
+use crate::forms::add_line;
 use crate::line::is_skipped;
 use crate::lines::first_line;
 use crate::place::Place;
@@ -42,10 +42,7 @@ fn read_line(
     if is_skipped(line) {
         return Ok(());
     }
-    match part_at(alloc, line, place) {
-        Ok(part) => said.add_part(alloc, part, natives),
-        Err(stop) => Err(stop),
-    }
+    add_line(alloc, said, line, place, natives)
 }
 
 fn read_lines(alloc: Global, bytes: &[u8], natives: &Natives) -> Result<SessionText, TextFault>
